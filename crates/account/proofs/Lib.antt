@@ -1,0 +1,4 @@
+pub mod Rest
+pub mod Passed
+pub mod Promises
+pub mod Pieces

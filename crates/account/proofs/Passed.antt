@@ -1,0 +1,76 @@
+-- Events that stand at their places are passed: each goes over to the tally as the laws of the rest say, and what is left keeps its answer.
+-- Assumes nothing.
+use Prim.Native.Nat.{ℕ, _+_, _*_, _-_, _≤_, _<_}
+use mathlib.Core.Bool.{Bool, true, false, cond}
+use mathlib.Core.List.{List}
+use mathlib.Core.Path.{_≡_, refl, _∙_}
+use native.Mathlib.Omega.{arith}
+use native.Mathlib.Nat.{add-zero, add-assoc}
+use lib.ListN.{length, drop}
+use Rattle.decide.specs.Test.{Holds}
+use Rattle.shaper.specs.declared.Limits.{Limits}
+use Rattle.shaper.specs.Limits.{limitsOk}
+use Rattle.wire.specs.Wire.{le, Bytes}
+use Rattle.tally.specs.declared.Tally.{Tally}
+use Rattle.tally.specs.Tally.{stepOf, Ready}
+use Rattle.record.specs.declared.Step.the-variants.{Stands}
+use Rattle.record.specs.Read.{good}
+use Rattle.record.specs.Step.{stepAt}
+use Rattle.record.proofs.Fields.{Good, good-facts}
+use Rattle.record.proofs.Steps.{GoodAt, Stood, step-stands}
+use Rattle.account.specs.Rest.{restOf, Passed}
+use Rattle.summary.specs.declared.Answer.the-variants.{Refused}
+use Rattle.account.proofs.Rest.{rest-good, rest-good-ready, rest-over}
+
+-- ---- sizes, whatever the bytes hold
+
+-- hiLimit less loLimit, which a step asks for, is small
+pub rise-max : (l : Limits) (n : ℕ) (t : Tally) → Ready l n t → l .hi - l .lo ≤ 1048576
+rise-max l n t p = by (p .sound .0)
+  where
+    by : Holds (limitsOk l) → l .hi - l .lo ≤ 1048576
+    by ok = omega arith
+
+-- and so is the depth that a tally ends with
+pub depth-max : (l : Limits) (n : ℕ) (t : Tally) → Ready l n t → t .peak - t .level ≤ 9223372036854775807
+depth-max l n t p = omega (arith, p .few, p .within .level-min, p .within .peak-max)
+
+-- ---- events passed
+
+module _ (l : Limits) (xs : List ℕ) (from n : ℕ) (t : Tally) where
+  -- none
+  pub passed-none : Ready l n t → Passed l xs from n t 0 t
+  passed-none p = record { ready = rw add-zero p; same = rw (add-zero n, add-zero from) }
+
+  -- one, whose fields are good
+  pub passed-one : Ready l n t → n < 1000000 → Bytes xs → from + 6 ≤ length xs → GoodAt (l .mtu) xs from →
+      Passed l xs from n t 1 (stepOf (l .hi - l .lo) (le 2 xs (from + 2)) (le 2 xs (from + 4)) t)
+  passed-one p few b h g = record { ready = rest-good-ready l n t p xs from few b g; same = rest-good l n t p xs from few b h g }
+
+  -- some, and then some more
+  pub passed-then : (m : ℕ) (u : Tally) (k : ℕ) (v : Tally) → Passed l xs from n t m u → Passed l xs (from + 6 * m) (n + m) u k v → Passed l xs from n t (m + k) v
+  passed-then m u k v p q =
+      let z : from + 6 * m + 6 * k ≡ from + 6 * (m + k) = omega arith in
+      record { ready = rw (add-assoc n m k) at (q .ready); same = p .same ∙ (rw (z, add-assoc n m k) at (q .same)) }
+
+  -- one that the decoder finds; what is left begins where the decoder says
+  pub passed-found : Ready l n t → n < 1000000 → Bytes xs → (k v c next : ℕ) → stepAt (l .mtu) xs from ≡ Stands k v c next →
+      (next ≡ from + 6) × Passed l xs from n t 1 (stepOf (l .hi - l .lo) k v t)
+  passed-found p few b k v c next e =
+      let s = step-stands (l .mtu) xs from k v c next e in
+      let g : GoodAt (l .mtu) xs from = rw (s .length-field, ← s .kind-field, ← s .number-field) (s .fields) in
+      (s .six, rw (s .kind-field, s .number-field) (passed-one p few b (s .fits) g))
+
+-- ---- what stops a walk, and what the test with no branch tells
+
+-- any byte after the millionth event gives 9
+pub rest-late : (l : Limits) (n : ℕ) (t : Tally) (xs : List ℕ) (at : ℕ) → n ≡ 1000000 → at < length xs → restOf l n t (drop at xs) ≡ Refused 9
+rest-late l n t xs at e h = rw e (rest-over l t xs at h)
+
+-- an event that adds no fault is good
+pub flaw-none : (mtu len kind num : ℕ) → _≡_ {A = ℕ} (cond (good mtu len kind num) 0 1) 0 → Good mtu len kind num
+flaw-none mtu len kind num e = by (good mtu len kind num) refl
+  where
+    by : (b : Bool) → good mtu len kind num ≡ b → Good mtu len kind num
+    by true t = good-facts mtu len kind num t
+    by false t = let z : _≡_ {A = ℕ} 1 0 = rw t at e in absurd (omega arith)

@@ -1,0 +1,112 @@
+-- What is left of a record has the answer of the whole: at the start, after each event, at a fault and at the end.
+-- Assumes nothing.
+use Prim.Native.Nat.{ℕ, zero, suc, _+_, _-_, _≤_, _<_}
+use mathlib.Core.List.{List, [], _∷_}
+use mathlib.Core.Path.{_≡_, refl, sym, ap, _∙_}
+use native.Mathlib.Omega.{arith}
+use lib.ListN.{length, drop}
+use Rattle.decide.specs.Test.{Holds}
+use Rattle.shaper.specs.declared.Limits.{Limits}
+use Rattle.shaper.specs.declared.Event.{Event}
+use Rattle.shaper.specs.Limits.{limitsOk}
+use Rattle.shaper.specs.Credit.{AllValid}
+use Rattle.shaper.specs.Kind.{eventOf}
+use Rattle.wire.specs.Wire.{le, Bytes}
+use Rattle.wire.proofs.Places.{bytes-drop}
+use Rattle.wire.proofs.Numbers.{le-bound}
+use Rattle.plain.specs.Plain.{plainJoined, plainOf}
+use Rattle.tally.specs.declared.Tally.{Tally}
+use Rattle.tally.specs.Tally.{AnEvent, startOf, stepOf, plainAt, Ready}
+use Rattle.tally.proofs.Laws.{step-rest, step-ready, start-rest, start-ready, end-rest}
+use Rattle.summary.specs.declared.Answer.{Answer}
+use Rattle.summary.specs.Summary.{summaryOf}
+use Rattle.summary.specs.Plain.{signedFrom}
+use Rattle.summary.proofs.Promises.{summary-signed}
+use Rattle.record.specs.declared.Header.{Header}
+use Rattle.record.specs.declared.Header.the-variants.{Settings, Unreadable}
+use Rattle.record.specs.declared.Step.{Step}
+use Rattle.record.specs.declared.Step.the-variants.{Stands, Faulty}
+use Rattle.record.specs.Read.{Events, faulty, events, onward, readFrom, under, readRecord}
+use Rattle.record.specs.Step.{headerOf, stepAt}
+use Rattle.record.proofs.Fields.{Good, valid-good}
+use Rattle.record.proofs.Steps.{Headed, header-stands, header-faulty, read-end, read-over, GoodAt, read-good, Stood, step-stands, Failed, step-faulty}
+use Rattle.record.proofs.Written.{Wrote, events-written}
+use Rattle.account.specs.Account.{summarized, summarizeOf}
+use Rattle.account.specs.Rest.{rested, restOf}
+
+-- what is read of some bytes is valid
+abbrev ValidEvents : Limits → Events → Type 0
+ValidEvents l (faulty n) = Unit {0}
+ValidEvents l (events es) = AllValid l es
+
+valid-by : (l : Limits) (left : ℕ) (ys : List ℕ) → Bytes ys → (r : Events) → readFrom (l .mtu) left ys ≡ r → ValidEvents l r
+valid-by l left ys b (faulty n) e = tt
+valid-by l left ys b (events es) e = events-written l left ys es b e .valid
+
+valid-read : (l : Limits) (left : ℕ) (ys : List ℕ) → Bytes ys → ValidEvents l (readFrom (l .mtu) left ys)
+valid-read l left ys b = valid-by l left ys b (readFrom (l .mtu) left ys) refl
+
+-- ---- the start
+
+start-by : (l : Limits) → Holds (limitsOk l) → (r : Events) → ValidEvents l r → summarized (under l r) ≡ rested l (plainAt l 0 (startOf (l .lo))) r
+start-by l ok (faulty n) v = refl
+start-by l ok (events es) v = ap Answer.Summed (summary-signed l ok es ∙ ap signedFrom (sym (start-rest l ok es v)))
+
+-- a header that stands: what is left is all behind it
+pub rest-start : (xs : List ℕ) (l : Limits) → Bytes xs → headerOf xs ≡ Settings l → summarizeOf xs ≡ restOf l 0 (startOf (l .lo)) (drop 14 xs)
+unfolding summarizeOf restOf
+rest-start xs l b e =
+    let h = header-stands xs l e in
+    ap summarized (h .goes-on)
+    ∙ start-by l (h .in-range) (readFrom (l .mtu) 1000000 (drop 14 xs)) (valid-read l 1000000 (drop 14 xs) (bytes-drop 14 xs b))
+
+-- one that does not
+pub rest-unreadable : (xs : List ℕ) (n : ℕ) → headerOf xs ≡ Unreadable n → summarizeOf xs ≡ Answer.Refused n
+unfolding summarizeOf
+rest-unreadable xs n e = ap summarized (header-faulty xs n e .1)
+
+-- ---- on the way
+
+-- good fields at a place of bytes are a valid event's
+good-event-at : (xs : List ℕ) (at : ℕ) (l : Limits) → Bytes xs → GoodAt (l .mtu) xs at → AnEvent l (le 2 xs (at + 2)) (le 2 xs (at + 4))
+good-event-at xs at l b g =
+    let bound = le-bound 2 xs (at + 4) b in
+    record {
+      kind-min = g .first;
+      kind-max = g .last;
+      valid = valid-good (l .mtu) (le 2 xs at) (le 2 xs (at + 2)) (le 2 xs (at + 4)) g l refl (omega arith);
+    }
+
+module _ (l : Limits) (n : ℕ) (t : Tally) (p : Ready l n t) where
+  -- at the end the tally is the summary
+  pub rest-end : (xs : List ℕ) (at : ℕ) → length xs ≤ at → restOf l n t (drop at xs) ≡ Answer.Summed (signedFrom (plainAt l n t))
+  unfolding restOf
+  rest-end xs at h = rw (read-end (l .mtu) (1000000 - n) xs at h) (ap (λ q. Answer.Summed (signedFrom q)) (end-rest l n t p))
+
+  step-by : (k v : ℕ) → AnEvent l k v → (r : Events) → ValidEvents l r → rested l (plainAt l n t) (onward 0 (eventOf k v) r) ≡ rested l (plainAt l (n + 1) (stepOf (l .hi - l .lo) k v t)) r
+  step-by k v e (faulty m) w = refl
+  step-by k v e (events es) w = ap (λ q. Answer.Summed (signedFrom q)) (step-rest l n t p k v e es w)
+
+  module _ (xs : List ℕ) (at : ℕ) (few : n < 1000000) where
+    left-is : 1000000 - n ≡ suc (1000000 - (n + 1))
+    left-is = omega arith
+
+    -- good fields at a place: the event is counted, and what stands behind it is left
+    pub rest-good : Bytes xs → at + 6 ≤ length xs → GoodAt (l .mtu) xs at → restOf l n t (drop at xs) ≡ restOf l (n + 1) (stepOf (l .hi - l .lo) (le 2 xs (at + 2)) (le 2 xs (at + 4)) t) (drop (at + 6) xs)
+    unfolding restOf
+    rest-good b h g =
+        rw (left-is, read-good (l .mtu) xs at (1000000 - (n + 1)) h g)
+        (step-by (le 2 xs (at + 2)) (le 2 xs (at + 4)) (good-event-at xs at l b g) (readFrom (l .mtu) (1000000 - (n + 1)) (drop (at + 6) xs)) (valid-read l (1000000 - (n + 1)) (drop (at + 6) xs) (bytes-drop (at + 6) xs b)))
+
+    pub rest-good-ready : Bytes xs → GoodAt (l .mtu) xs at → Ready l (n + 1) (stepOf (l .hi - l .lo) (le 2 xs (at + 2)) (le 2 xs (at + 4)) t)
+    rest-good-ready b g = step-ready l n t p (le 2 xs (at + 2)) (le 2 xs (at + 4)) (good-event-at xs at l b g) few
+
+    -- a fault at a place
+    pub rest-faulty : (f : ℕ) → stepAt (l .mtu) xs at ≡ Faulty f → restOf l n t (drop at xs) ≡ Answer.Refused f
+    unfolding restOf
+    rest-faulty f e = rw (left-is, step-faulty (l .mtu) xs at f e .stops (1000000 - (n + 1)))
+
+-- any byte after the millionth event gives 9
+pub rest-over : (l : Limits) (t : Tally) (xs : List ℕ) (at : ℕ) → at < length xs → restOf l 1000000 t (drop at xs) ≡ Answer.Refused 9
+unfolding restOf
+rest-over l t xs at h = rw (read-over (l .mtu) xs at h)

@@ -1,0 +1,91 @@
+-- Each block without a fault goes over to the tally; what is left keeps its answer, which a walk gives.
+-- Assumes nothing.
+use Prim.Native.Nat.{_-_, _+_, _*_, _≤_}
+use mathlib.Core.Path.{_≡_, sym, _∙_}
+use native.Mathlib.Omega.{arith}
+use borrow.Author.Needs.{needs}
+use lib.ListN.{length, drop}
+use Rattle.tally.specs.Tally.{startOf, Ready}
+use Rattle.tally.proofs.Laws.{start-ready}
+use Rattle.account.specs.Rest.{restOf, Passed}
+use Rattle.account.proofs.events.Statement.{statement}
+use Rattle.account.proofs.events.Tie as tie
+
+abbrev Inv-loop : tie.InvT-loop
+Inv-loop s limits count b₀ at₀ n₀ t₀ b at n t =
+    (b ≤ count) × (count ≤ 15625) × (14 + 384 * count ≤ length s) × (at ≡ 14 + 384 * b) × (n ≡ 64 * b) × Ready limits n t
+    × (restOf limits n t (drop at s) ≡ restOf limits 0 (startOf (limits .lo)) (drop 14 s))
+
+abbrev μ-loop : tie.MeasureT-loop
+μ-loop s limits count b₀ at₀ n₀ t₀ b at n t = count - b
+
+sub-lesser : tie.Need-sub-lesser Inv-loop μ-loop
+sub-lesser c = search needs
+
+lesser-requires : tie.Need-lesser-requires Inv-loop μ-loop
+lesser-requires c κs = search needs
+
+start-requires : tie.Need-start-requires Inv-loop μ-loop
+start-requires c κs = search needs
+
+loop-holds : tie.Need-loop-holds Inv-loop μ-loop
+loop-holds c =
+    let a = c .before .before .before .args in
+    let p = c .before .before .before .pre in
+    let e = c .start .ensures in
+    (omega arith, omega arith, omega arith, omega arith, omega arith, rw e (start-ready (a .limits) (p .1)), rw e)
+
+block-requires : tie.Need-block-requires Inv-loop μ-loop
+block-requires c κs = (omega arith, c .before .loop .inv .5, omega arith)
+
+walk-requires : tie.Need-walk-requires Inv-loop μ-loop
+walk-requires c κs = c .before .before .before .loop .inv .5
+
+returns : tie.Need-returns Inv-loop μ-loop
+returns c = c .walk .ensures ∙ c .before .before .before .before .loop .inv .6
+
+add-at : tie.Need-add-at Inv-loop μ-loop
+add-at c = search needs
+
+add-n : tie.Need-add-n Inv-loop μ-loop
+add-n c = search needs
+
+add-b : tie.Need-add-b Inv-loop μ-loop
+add-b c = search needs
+
+loop-less : tie.Need-loop-less Inv-loop μ-loop
+loop-less c = let L = c .before .before .before .before .loop in let h = c .before .before .before .loop-test .taken in omega arith
+
+loop-again : tie.Need-loop-again Inv-loop μ-loop
+loop-again c =
+    let L = c .before .before .before .before .loop in
+    let h = c .before .before .before .loop-test .taken in
+    let p = c .before .before .block .ensures (c .before .if1 .left) in
+    (omega arith, L .inv .1, L .inv .2, omega arith, omega arith, p .ready, sym (p .same) ∙ L .inv .6)
+
+walk-requires-2 : tie.Need-walk-requires-2 Inv-loop μ-loop
+walk-requires-2 c κs = c .before .loop .inv .5
+
+returns-2 : tie.Need-returns-2 Inv-loop μ-loop
+returns-2 c = c .walk2 .ensures ∙ c .before .before .loop .inv .6
+
+pub events-spec : {M : Type 1} → statement M
+events-spec =
+    tie.close
+    (tie.spec
+    Inv-loop
+    μ-loop
+    sub-lesser
+    lesser-requires
+    start-requires
+    loop-holds
+    block-requires
+    walk-requires
+    returns
+    add-at
+    add-n
+    add-b
+    loop-less
+    loop-again
+    walk-requires-2
+    returns-2)

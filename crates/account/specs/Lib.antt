@@ -1,0 +1,3 @@
+pub mod Account
+pub mod Rest
+pub mod Pieces

@@ -1,0 +1,4 @@
+pub mod Parsing
+pub mod ReadBack
+pub mod Bits
+pub mod Examples

@@ -1,0 +1,25 @@
+// Small choices between numbers. What else this crate holds are definitions and laws: tests that read two ways (specs/Test.antt) and which of
+// several refusals counts (specs/Refusal.antt).
+ghost use mathlib.Core.Path.{_≡_};
+ghost use Prim.Native.Nat.{_-_, min, max};
+
+// The smaller of two numbers.
+pub fn lesser(x: u64, y: u64) -> u64
+    ensures { λ r. ⌜ r ≡ min x y ⌝ }
+{
+    if x < y { x } else { y }
+}
+
+// The larger of two numbers.
+pub fn larger(x: u64, y: u64) -> u64
+    ensures { λ r. ⌜ r ≡ max x y ⌝ }
+{
+    if x < y { y } else { x }
+}
+
+// What is left of x when y is taken off, and 0 where y is larger.
+pub fn less(x: u64, y: u64) -> u64
+    ensures { λ r. ⌜ r ≡ x - y ⌝ }
+{
+    if x < y { 0 } else { x - y }
+}

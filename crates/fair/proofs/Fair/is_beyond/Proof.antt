@@ -1,0 +1,19 @@
+-- `fair::Fair::is_beyond` meets its contract: the comparisons are the definition's.
+-- Assumes nothing.
+use Rattle.decide.specs.Test.{test}
+use borrow.Author.Needs.{needs}
+use Rattle.fair.proofs.Fair.is_beyond.Statement.{statement}
+use Rattle.fair.proofs.Fair.is_beyond.Tie as tie
+
+cast-less : tie.Need-cast-less
+cast-less c = search needs
+
+less-requires : tie.Need-less-requires
+less-requires c κs = search needs
+
+returns : tie.Need-returns
+unfolding test
+returns c = rw (c .less .ensures)
+
+pub is-beyond-spec : {M : Type 1} → statement M
+is-beyond-spec = tie.close (tie.spec cast-less less-requires returns)

@@ -1,0 +1,17 @@
+-- `fair::Fair::start` meets its contract: own rate is its formula's, and each other field is the definition's.
+-- Assumes nothing.
+use borrow.Author.Needs.{needs}
+use Rattle.fair.proofs.Fair.start.Statement.{statement}
+use Rattle.fair.proofs.Fair.start.Tie as tie
+
+own-rate-requires : tie.Need-own-rate-requires
+own-rate-requires c κs = search needs
+
+cast-t7 : tie.Need-cast-t7
+cast-t7 c = search needs
+
+returns : tie.Need-returns
+returns c = rw (c .own-rate .ensures)
+
+pub start-spec : {M : Type 1} → statement M
+start-spec = tie.close (tie.spec own-rate-requires cast-t7 returns)

@@ -1,0 +1,7 @@
+pub mod Range
+pub mod Count
+pub mod Age
+pub mod Told
+pub mod Heard
+pub mod ReadBack
+pub mod Examples

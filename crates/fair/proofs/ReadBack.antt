@@ -1,0 +1,90 @@
+-- A frame that is told is read back: it fits a frame, and no other station on the ring finds a fault in it. Assumes nothing.
+use Prim.Native.Nat.{ℕ, _≤_, _<_}
+use mathlib.Core.Bool.{false}
+use mathlib.Core.List.{[], _∷_}
+use mathlib.Core.Path.{_≡_, refl, sym, _∙_}
+use native.Mathlib.Omega.{arith}
+use Rattle.decide.specs.Test.{test, passes, decided}
+use Rattle.decide.specs.Refusal.{firstOf}
+use Rattle.decide.proofs.Refusal.{in-order}
+use Rattle.advert.specs.declared.Advert.{Advert}
+use Rattle.advert.specs.declared.Parsed.the-variants.{Frame}
+use Rattle.advert.specs.Frame.{advertBytes, parsedOf, Fits}
+use Rattle.advert.proofs.ReadBack.{parse-written}
+use Rattle.settings.specs.declared.Settings.{Settings}
+use Rattle.settings.specs.Range.{SettingsOk}
+use Rattle.fair.specs.declared.Fair.{Fair}
+use Rattle.fair.specs.Range.{ttlOk, FairOk}
+use Rattle.fair.specs.Advertise.{otherRinglet, ownFrame, passedOn, lastHop, toldOf, ownRinglet, ownAddress, ringletFault, ttlFault, addressFault}
+use Rattle.fair.proofs.Told.{told-each}
+
+-- a frame that fits, has a ttl in range and bears the other ringlet's bit
+pub record Sound (s : Settings) (a : Advert) : Type 0 where
+  pub fits : Fits a
+  pub ttl-least : 193 ≤ a .ttl
+  pub ttl-most : a .ttl ≤ 255
+  pub bit : a .ringlet ≡ otherRinglet s
+
+-- Reading a written frame, with the same settings but an address it doesn't bear, gives back its ringlet bit, ttl, address and rate.
+pub record ReadBack (s : Settings) (f : Fair) : Type 0 where
+  pub parsed : parsedOf (advertBytes (toldOf f s)) ≡ Frame (toldOf f s)
+  pub ttl-in-range : (193 ≤ toldOf f s .ttl) × (toldOf f s .ttl ≤ 255)
+  pub ringlet-other : toldOf f s .ringlet ≡ s .ringlet → ⊥
+  pub not-refused : (t : Settings) → t .ringlet ≡ s .ringlet → test (ownAddress t (toldOf f s)) ≡ false →
+      firstOf (ringletFault t (toldOf f s) ∷ ttlFault (toldOf f s) ∷ addressFault t (toldOf f s) ∷ []) ≡ 0
+
+-- settings and state in range; the low 32 bits of an address are a 32-bit number
+module _ (s : Settings) (f : Fair) (settings : SettingsOk s) (ok : FairOk s f) (own-low : s .address .low < 4294967296) (low : f .low < 4294967296) where
+  own-sound : (rate : ℕ) → rate ≤ 65535 → Sound s (ownFrame s rate)
+  own-sound rate h =
+      record {
+        fits =
+            record {
+              ringlet-fits = omega arith;
+              ttl-fits = omega arith;
+              high-fits = omega (arith, settings .high-most);
+              low-fits = own-low;
+              rate-fits = omega arith;
+            };
+        ttl-least = omega arith;
+        ttl-most = omega arith;
+        bit = refl;
+      }
+
+  passed-sound : (f .ttl ≡ 193 → ⊥) → Sound s (passedOn f s)
+  passed-sound n =
+      let least : 194 ≤ f .ttl = omega (arith, ok .ttl-least, n) in
+      record {
+        fits =
+            record {
+              ringlet-fits = omega arith;
+              ttl-fits = omega (arith, ok .ttl-most);
+              high-fits = omega (arith, ok .high-most);
+              low-fits = low;
+              rate-fits = omega (arith, ok .rate-most);
+            };
+        ttl-least = omega arith;
+        ttl-most = omega (arith, ok .ttl-most);
+        bit = refl;
+      }
+
+  pub told-sound : Sound s (toldOf f s)
+  told-sound =
+      told-each f s (Sound s) (own-sound 65535 (omega arith)) (own-sound (f .own) (omega (arith, ok .own-most)))
+      (λ e. passed-sound (λ h. mathlib.Core.Bool.true≢false (sym (passes (lastHop (f .ttl)) h) ∙ e)))
+
+  other-bit : toldOf f s .ringlet ≡ s .ringlet → ⊥
+  other-bit e = let b = told-sound .bit in let m = settings .ringlet-most in omega arith
+
+  pub frame-read-back : ReadBack s f
+  frame-read-back =
+      record {
+        parsed = parse-written (toldOf f s) (told-sound .fits);
+        ttl-in-range = (told-sound .ttl-least, told-sound .ttl-most);
+        ringlet-other = other-bit;
+        not-refused = λ t same other.
+            let a = toldOf f s in
+            let ringlet = sym (decided (ownRinglet t a) false (λ h. other-bit (h ∙ same))) in
+            let ttl = passes (ttlOk (a .ttl)) (told-sound .ttl-least, told-sound .ttl-most) in
+            in-order (ringletFault t a ∷ ttlFault a ∷ addressFault t a ∷ []) refl ∙ rw (ringlet, ttl, other);
+      }

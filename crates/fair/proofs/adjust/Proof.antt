@@ -1,0 +1,27 @@
+-- `fair::adjust` meets its contract: the two returns are the two cases of the definition.
+-- Assumes nothing.
+use mathlib.Core.Path.{sym, _∙_}
+use Rattle.fair.proofs.Age.{adjust-congested, adjust-free}
+use borrow.Author.Needs.{needs}
+use Rattle.fair.proofs.adjust.Statement.{statement}
+use Rattle.fair.proofs.adjust.Tie as tie
+
+local-test-requires : tie.Need-local-test-requires
+local-test-requires c κs = search needs
+
+shown-requires : tie.Need-shown-requires
+shown-requires c κs = search needs
+
+returns : tie.Need-returns
+returns c = let asked = c .before .before in
+    let a = asked .before .args in
+    rw (c .shown .ensures)
+    (sym (adjust-congested (a .settings) (a .smoothed) (a .held) (sym (asked .local-test .ensures) ∙ c .before .if1 .taken)))
+
+returns-2 : tie.Need-returns-2
+returns-2 c = let asked = c .before in
+    let a = asked .before .args in
+    sym (adjust-free (a .settings) (a .smoothed) (a .held) (sym (asked .local-test .ensures) ∙ c .if1 .left))
+
+pub adjust-spec : {M : Type 1} → statement M
+adjust-spec = tie.close (tie.spec local-test-requires shown-requires returns returns-2)

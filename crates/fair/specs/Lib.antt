@@ -1,0 +1,5 @@
+pub mod Range
+pub mod Start
+pub mod Count
+pub mod Age
+pub mod Advertise

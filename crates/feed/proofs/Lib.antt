@@ -1,0 +1,5 @@
+pub mod Rows
+pub mod More
+pub mod Fronts
+pub mod Reached
+pub mod Promises

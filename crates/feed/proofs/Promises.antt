@@ -1,0 +1,30 @@
+-- What feeding promises: chunks of any sizes come to what the whole record comes to.
+-- Assumes nothing.
+use Prim.Native.Nat.{ℕ}
+use mathlib.Core.List.{List, [], _∷_, _++_, flatten}
+use mathlib.Core.Path.{_≡_, refl, ap, _∙_}
+use Rattle.wire.specs.Wire.{Bytes}
+use Rattle.account.specs.Account.{summarizeOf}
+use Rattle.feed.specs.declared.Feed.{Feed}
+use Rattle.feed.specs.Feed.{fedByte, startOf, fedOf, fedChunks, finishOf}
+use Rattle.feed.proofs.Reached.{reach-start, reach-bytes, finish-told}
+
+-- two chunks one after the other are their bytes one after the other
+pub fed-chunks : (f : Feed) (xs ys : List ℕ) → fedOf f (xs ++ ys) ≡ fedOf (fedOf f xs) ys
+unfolding fedOf
+fed-chunks f [] ys = refl
+fed-chunks f (x ∷ xs) ys = fed-chunks (fedByte f x) xs ys
+
+-- so are any number of them
+pub fed-chunks-all : (f : Feed) (chunks : List (List ℕ)) → fedChunks f chunks ≡ fedOf f (flatten chunks)
+unfolding fedChunks fedOf flatten
+fed-chunks-all f [] = refl
+fed-chunks-all f (xs ∷ chunks) = fed-chunks-all (fedOf f xs) chunks ∙ rw (fed-chunks f xs (flatten chunks))
+
+-- Fed byte by byte from none, a record comes to what the whole comes to: its summary, or its earliest fault.
+pub fed-once : (xs : List ℕ) → Bytes xs → finishOf (fedOf startOf xs) ≡ summarizeOf xs
+fed-once xs b = finish-told (fedOf startOf xs) xs (reach-bytes xs startOf [] reach-start b)
+
+-- A record fed in chunks of any sizes gives what the whole gives.
+pub fed-whole : (chunks : List (List ℕ)) → Bytes (flatten chunks) → finishOf (fedChunks startOf chunks) ≡ summarizeOf (flatten chunks)
+fed-whole chunks b = ap finishOf (fed-chunks-all startOf chunks) ∙ fed-once (flatten chunks) b

@@ -1,0 +1,16 @@
+-- The comparison is the test.
+-- Assumes nothing.
+use Rattle.decide.specs.Test.{test}
+use borrow.Author.Needs.{needs}
+use Rattle.flow.proofs.Flow.needy.Statement.{statement}
+use Rattle.flow.proofs.Flow.needy.Tie as tie
+
+space-requires : tie.Need-space-requires
+space-requires c κs = search needs
+
+returns : tie.Need-returns
+unfolding test
+returns c = rw (c .before .space .ensures)
+
+pub needy-spec : {M : Type 1} → statement M
+needy-spec = tie.close (tie.spec space-requires returns)

@@ -1,0 +1,27 @@
+-- Each arm sets its queue.
+-- Assumes nothing.
+use borrow.Author.Needs.{needs}
+use Rattle.flow.proofs.Flow.with_queue.Statement.{statement}
+use Rattle.flow.proofs.Flow.with_queue.Tie as tie
+
+enum-told : tie.Need-enum-told
+enum-told c = search needs
+
+enum-told-2 : tie.Need-enum-told-2
+enum-told-2 c = search needs
+
+enum-told-3 : tie.Need-enum-told-3
+enum-told-3 c = search needs
+
+returns : tie.Need-returns
+returns c = cc
+
+returns-2 : tie.Need-returns-2
+returns-2 c = cc
+
+returns-3 : tie.Need-returns-3
+returns-3 c = cc
+
+pub with-queue-spec : {M : Type 1} → statement M
+with-queue-spec =
+    tie.close (tie.spec enum-told enum-told-2 enum-told-3 returns returns-2 returns-3)

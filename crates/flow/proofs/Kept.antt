@@ -1,0 +1,129 @@
+-- Every call keeps the range: a queue by the laws of pushing and taking, credits by those of events, the stage by its frame's range.
+-- Assumes nothing.
+use Prim.Native.Nat.{ℕ, zero, suc}
+use mathlib.Core.Bool.{Bool, true}
+use mathlib.Core.List.{List, [], _∷_}
+use mathlib.Core.Logic.{_⊎_, inl, inr}
+use mathlib.Core.Path.{_≡_, refl}
+use native.Mathlib.Omega.{arith}
+use borrow.Author.Tests.{lt-ltb}
+use Rattle.decide.specs.Refusal.{firstOf}
+use Rattle.decide.specs.Test.{Holds, facts}
+use Rattle.decide.proofs.Cases.{by-cases, le-or}
+use Rattle.shaper.specs.declared.Event.{Event}
+use Rattle.queue.specs.declared.Frame.{Frame}
+use Rattle.queue.specs.declared.Queue.{Queue}
+use Rattle.queue.specs.Frame.{FrameOk, frameOf, wordOf}
+use Rattle.queue.specs.Queue.{pushed, taken, holdsFrame, spaceOf}
+use Rattle.queue.specs.Queue as queue
+use Rattle.queue.specs.Range.{QueueOk}
+use Rattle.queue.proofs.Laws.{push-ok, take-ok, tight-holds}
+use Rattle.queue.proofs.Word.{frame-fits, word-frame}
+use Rattle.settings.specs.declared.Settings.{Settings}
+use Rattle.settings.specs.Range.{SettingsOk}
+use Rattle.flow.specs.declared.Flow.{Flow}
+use Rattle.flow.specs.declared.Line.{Line}
+use Rattle.flow.specs.declared.Line.the-variants.{Control, Primary, Secondary}
+use Rattle.flow.specs.declared.Selected.{Selected}
+use Rattle.flow.specs.declared.Way.{Way}
+use Rattle.flow.specs.declared.Which.{Which}
+use Rattle.flow.specs.declared.Which.the-variants.{M, D}
+use Rattle.flow.specs.Which.{sends, fed}
+use Rattle.flow.specs.Parts.{queueOf, capacityOf, withCredits, withStage, withQueue}
+use Rattle.flow.specs.Range.{FlowOk}
+use Rattle.flow.specs.Tick.{tickEvents, tickOf}
+use Rattle.flow.specs.Offer.{enterOf, queueFor, transitOf, controlFrame, controlOf, needsOf, wayOf, clientFaults, clientFrame, clientBy, clientOf}
+use Rattle.flow.specs.Select.{controlReady, primaryReady, needy, leaves, secondaryReady, selectOf}
+use Rattle.flow.proofs.Offer.{enter-refused, enter-taken, mark-most, way-mark}
+use Rattle.flow.proofs.Range.{fed-ok, by-line}
+use Rattle.flow.proofs.Select.{Goes, control, primary, pressed, staged, secondary, nothing, goes}
+
+module _ {s : Settings} {f : Flow} (ok : FlowOk s f) where
+  -- ---- one part anew
+
+  credits-kept : SettingsOk s → (events : Which → List Event) → FlowOk s (withCredits f (fed s (f .credits) events))
+  credits-kept good events =
+      record {
+        credits = fed-ok s (f .credits) events good (ok .credits);
+        queues = by-line s (withCredits f (fed s (f .credits) events)) (ok .queues Control) (ok .queues Primary) (ok .queues Secondary);
+        stage = ok .stage;
+      }
+
+  stage-kept : (w : ℕ) → (w ≡ 0) ⊎ FrameOk (s .mtu) (frameOf w) → FlowOk s (withStage f w)
+  stage-kept w h =
+      record {
+        credits = ok .credits;
+        queues = by-line s (withStage f w) (ok .queues Control) (ok .queues Primary) (ok .queues Secondary);
+        stage = h;
+      }
+
+  queue-kept : (l : Line) (q : Queue) → QueueOk (s .mtu) (capacityOf s l) q → FlowOk s (withQueue f l q)
+  queue-kept Control q h =
+      record { credits = ok .credits; queues = by-line s (withQueue f Control q) h (ok .queues Primary) (ok .queues Secondary); stage = ok .stage }
+  queue-kept Primary q h =
+      record { credits = ok .credits; queues = by-line s (withQueue f Primary q) (ok .queues Control) h (ok .queues Secondary); stage = ok .stage }
+  queue-kept Secondary q h =
+      record { credits = ok .credits; queues = by-line s (withQueue f Secondary q) (ok .queues Control) (ok .queues Primary) h; stage = ok .stage }
+
+  -- a frame that leaves
+  leave-kept : (l : Line) → holdsFrame (queueOf f l) ≡ true → FlowOk s (leaves f l .flow)
+  leave-kept l h = queue-kept l (taken (queueOf f l)) (take-ok (ok .queues l) h)
+
+  -- needy implies a frame: the capacity is at least twice the mtu
+  pub needy-holds : SettingsOk s → Holds (needy s f) → holdsFrame (f .secondary) ≡ true
+  needy-holds good h = tight-holds (ok .queues Secondary) (omega (arith, good .of-queues .secondary-least)) h
+
+-- ---- the calls
+
+module _ {s : Settings} (good : SettingsOk s) where
+  pub tick-kept : {f : Flow} → FlowOk s f → (share : ℕ) (a b c : Bool) → FlowOk s (tickOf s f share a b c)
+  unfolding tickOf
+  tick-kept {f} ok share a b c = credits-kept ok good (tickEvents s f share a b c)
+
+  enter-kept : {f : Flow} (l : Line) (x : Frame) → FlowOk s f → FrameOk (s .mtu) x → FlowOk s (enterOf s f l x .flow)
+  enter-kept {f} l x ok h =
+      by-cases (le-or (x .size) (spaceOf (queueOf f l) (capacityOf s l)))
+      (λ fits. rw (enter-taken s f l x fits) (queue-kept ok l (pushed (queueOf f l) x) (push-ok (ok .queues l) x (good .mtu-most) h fits)))
+      (λ over. rw (enter-refused s f l x over) ok)
+
+  pub transit-kept : {f : Flow} (x : Frame) → FlowOk s f → FrameOk (s .mtu) x → FlowOk s (transitOf s f x .flow)
+  transit-kept x ok h = enter-kept (queueFor (x .class)) x ok h
+
+  pub control-kept : {f : Flow} (size : ℕ) → FlowOk s f → FrameOk (s .mtu) (controlFrame size) → FlowOk s (controlOf s f size .flow)
+  control-kept size ok h = enter-kept Control (controlFrame size) ok h
+
+  by-number : {f : Flow} (n : ℕ) (w : Way) (x : Frame) → FlowOk s f → FrameOk (s .mtu) x → FlowOk s (clientBy n s f w x .flow)
+  unfolding clientBy
+  by-number {f} zero w x ok h = stage-kept (credits-kept ok good (sends (needsOf w) (x .size))) (wordOf x) (inr (rw (word-frame x (frame-fits (good .mtu-most) h)) h))
+  by-number (suc n) w x ok h = ok
+
+  -- a frame that is given without a mark is in range as it lies in the stage
+  pub client-frame-ok : (f : Flow) (class size hops : ℕ) → FrameOk (s .mtu) (record { size = size; hops = hops; class = class; mark = 0 })
+      → FrameOk (s .mtu) (clientFrame (wayOf s (f .credits) class) class size hops)
+  client-frame-ok f class size hops h =
+      record {
+        least = h .least;
+        most = h .most;
+        hops = h .hops;
+        class = h .class;
+        mark = mark-most (wayOf s (f .credits) class);
+        marked = way-mark s (f .credits) class;
+      }
+
+  pub client-kept : {f : Flow} (class size hops : ℕ) (over : Bool) → FlowOk s f → FrameOk (s .mtu) (record { size = size; hops = hops; class = class; mark = 0 })
+      → FlowOk s (clientOf s f class size hops over .flow)
+  client-kept {f} class size hops over ok h =
+      let w = wayOf s (f .credits) class in
+      by-number (firstOf (clientFaults s f w over)) w (clientFrame w class size hops) ok (client-frame-ok f class size hops h)
+
+  row-kept : {f : Flow} {r : Selected} → FlowOk s f → Goes s f r → FlowOk s (r .flow)
+  row-kept {f} ok (control a) = leave-kept (credits-kept ok good (sends (M ∷ []) (queue.firstOf (f .control) .size))) Control (lt-ltb 0 (f .control .count) (facts (controlReady s f) a .0))
+  row-kept {f} ok (primary a b) = leave-kept ok Primary (lt-ltb 0 (f .primary .count) (facts (primaryReady f) b))
+  row-kept {f} ok (pressed a b c) = leave-kept ok Secondary (needy-holds ok good (facts (needy s f) c))
+  row-kept {f} ok (staged a b c d) = stage-kept ok 0 (inl refl)
+  row-kept {f} ok (secondary a b c d e) =
+      leave-kept (credits-kept ok good (sends (D ∷ []) (queue.firstOf (f .secondary) .size))) Secondary (lt-ltb 0 (f .secondary .count) (facts (secondaryReady s f) e .0))
+  row-kept {f} ok (nothing a b c d e) = ok
+
+  pub select-kept : {f : Flow} → FlowOk s f → FlowOk s (selectOf s f .flow)
+  select-kept {f} ok = row-kept ok (goes s f)

@@ -1,0 +1,7 @@
+pub mod Which
+pub mod Parts
+pub mod Range
+pub mod Tick
+pub mod Offer
+pub mod Select
+pub mod Events

@@ -1,0 +1,111 @@
+-- Frames in: transit and control frames into the queues, client frames into the stage.
+-- Assumes nothing.
+use Prim.Native.Nat.{ℕ, zero, suc}
+use mathlib.Core.Bool.{Bool, cond, not, _&&_}
+use mathlib.Core.List.{List, [], _∷_}
+use lib.Dec.{ltb, eqb}
+use Rattle.decide.specs.Refusal.{Fault, fault, firstOf}
+use Rattle.queue.specs.declared.Frame.{Frame}
+use Rattle.queue.specs.Frame.{FrameOk, wordOf}
+use Rattle.queue.specs.Queue.{pushed, spaceOf}
+use Rattle.settings.specs.declared.Settings.{Settings}
+use Rattle.settings.specs.Range.{SettingsOk}
+use Rattle.flow.specs.declared.Client.{Client}
+use Rattle.flow.specs.declared.Credits.{Credits}
+use Rattle.flow.specs.declared.Entered.{Entered}
+use Rattle.flow.specs.declared.Flow.{Flow}
+use Rattle.flow.specs.declared.Line.{Line}
+use Rattle.flow.specs.declared.Line.the-variants.{Control, Primary, Secondary}
+use Rattle.flow.specs.declared.Way.{Way}
+use Rattle.flow.specs.declared.Way.the-variants.{ClassA, ClassB, Excess}
+use Rattle.flow.specs.declared.Which.{Which}
+use Rattle.flow.specs.declared.Which.the-variants.{A, B, C, D}
+use Rattle.flow.specs.Which.{permitsAll, sends, fed}
+use Rattle.flow.specs.Parts.{queueOf, capacityOf, stageHolds, withCredits, withStage, withQueue}
+use Rattle.flow.specs.Range.{FlowOk}
+
+-- ---- into the queues
+
+-- what an offer to a queue may take for granted: settings, flow and frame are in range
+pub record Offered (s : Settings) (f : Flow) (x : Frame) : Type 0 where
+  pub settings : SettingsOk s
+  pub flow : FlowOk s f
+  pub frame : FrameOk (s .mtu) x
+
+-- 4: a frame's size exceeds the queue's space
+abbrev pub enterFaults : Settings → Flow → Line → Frame → List Fault
+enterFaults s f l x = fault 4 (ltb (spaceOf (queueOf f l) (capacityOf s l)) (x .size)) ∷ []
+
+-- the frame stands last in its queue; a refusal changes nothing
+unfoldable pub enteredOf : ℕ → Flow → Line → Frame → Entered
+enteredOf zero f l x = record { number = 0; detail = 0; flow = withQueue f l (pushed (queueOf f l) x) }
+enteredOf (suc n) f l x = record { number = suc n; detail = 0; flow = f }
+
+abbrev pub enterOf : Settings → Flow → Line → Frame → Entered
+enterOf s f l x = enteredOf (firstOf (enterFaults s f l x)) f l x
+
+-- Transit A goes to the primary queue, B and C to the secondary.
+unfoldable pub queueFor : ℕ → Line
+queueFor class = cond (eqb class 0) Primary Secondary
+
+abbrev pub transitOf : Settings → Flow → Frame → Entered
+transitOf s f x = enterOf s f (queueFor (x .class)) x
+
+-- Control frames, given by size alone (class A, 1 hop), go to the control queue.
+abbrev pub controlFrame : ℕ → Frame
+controlFrame size = record { size = size; hops = 1; class = 0; mark = 0 }
+
+abbrev pub controlOf : Settings → Flow → ℕ → Entered
+controlOf s f size = enterOf s f Control (controlFrame size)
+
+-- ---- into the stage
+
+-- Client A needs and charges A. Client B needs and charges B and D. Excess B and C need C and D, charge both,
+abbrev pub needsOf : Way → List Which
+needsOf ClassA = A ∷ []
+needsOf ClassB = B ∷ D ∷ []
+needsOf Excess = C ∷ D ∷ []
+
+-- and are marked eligible.
+abbrev pub markOf : Way → ℕ
+markOf ClassA = 0
+markOf ClassB = 0
+markOf Excess = 1
+
+-- Client B .. failing that it is tried as excess.
+unfoldable pub wayOf : Settings → Credits → ℕ → Way
+wayOf s c class = cond (eqb class 0) ClassA (cond (eqb class 1 && permitsAll s c (needsOf ClassB)) ClassB Excess)
+
+-- 5: the stage already holds a frame; 6: a needed shaper doesn't permit; 7: the congested fair rate would be passed, by a frame that is eligible
+abbrev pub clientFaults : Settings → Flow → Way → Bool → List Fault
+clientFaults s f w over =
+    fault 5 (stageHolds f)
+    ∷ fault 6 (not (permitsAll s (f .credits) (needsOf w)))
+    ∷ fault 7 (eqb (markOf w) 1 && over)
+    ∷ []
+
+-- the frame as it lies in the stage
+abbrev pub clientFrame : Way → ℕ → ℕ → ℕ → Frame
+clientFrame w class size hops = record { size = size; hops = hops; class = class; mark = markOf w }
+
+-- a refusal changes nothing
+abbrev pub refusedOf : Flow → ℕ → Client
+refusedOf f n = record { number = n; detail = 0; mark = 0; flow = f }
+
+-- the frame lies in the stage, and the shapers that it needs are charged
+unfoldable pub clientBy : ℕ → Settings → Flow → Way → Frame → Client
+clientBy zero s f w x =
+    record {
+      number = 0;
+      detail = 0;
+      mark = x .mark;
+      flow = withStage (withCredits f (fed s (f .credits) (sends (needsOf w) (x .size)))) (wordOf x);
+    }
+clientBy (suc n) s f w x = refusedOf f (suc n)
+
+-- a client frame that goes this way
+abbrev pub clientAs : Way → Settings → Flow → ℕ → ℕ → ℕ → Bool → Client
+clientAs w s f class size hops over = clientBy (firstOf (clientFaults s f w over)) s f w (clientFrame w class size hops)
+
+abbrev pub clientOf : Settings → Flow → ℕ → ℕ → ℕ → Bool → Client
+clientOf s f class size hops over = clientAs (wayOf s (f .credits) class) s f class size hops over

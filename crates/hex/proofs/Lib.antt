@@ -1,0 +1,5 @@
+pub mod Rows
+pub mod Digits
+pub mod Rest
+pub mod Text
+pub mod Promises

@@ -1,0 +1,2 @@
+pub mod Hex
+pub mod Fed

@@ -1,0 +1,5 @@
+pub mod Word
+pub mod Ring
+pub mod Range
+pub mod Laws
+pub mod Examples

@@ -1,0 +1,91 @@
+-- The frames of slots round the ring: taken apart at either end, and their bytes, which are the same from every slot on.
+-- Assumes nothing.
+use Prim.Native.Nat.{ℕ, zero, suc, _+_, _-_, _%_, _<_, _≤_}
+use mathlib.Core.Path.{_≡_, refl, ap, sym, _∙_}
+use mathlib.Core.List.{List, [], _∷_, _++_}
+use native.Mathlib.Nat.{add-zero}
+use native.Mathlib.Omega.{arith}
+use lib.ListN.{length, getD, set}
+use lib.Seq.{getD-set-other}
+use Rattle.queue.specs.declared.Frame.{Frame}
+use Rattle.queue.specs.Frame.{frameOf, FrameOk}
+use Rattle.queue.specs.Queue.{framesFrom, sizes}
+use Rattle.queue.specs.Range.{AllOk, bytesIn}
+
+-- the head counts by its remainder alone
+pub from-mod : (s : List ℕ) (h k n : ℕ) → h % 128 ≡ k % 128 → framesFrom s h n ≡ framesFrom s k n
+unfolding framesFrom
+from-mod s h k zero e = refl
+from-mod s h k (suc n) e = rw (e, from-mod s (suc h) (suc k) n (omega arith))
+
+-- a store outside the frames held changes none of them
+pub from-set : (s : List ℕ) (i w h n : ℕ) → ((j : ℕ) → j < n → (h + j) % 128 ≡ i → ⊥) → framesFrom (set s i w) h n ≡ framesFrom s h n
+unfolding framesFrom
+from-set s i w h zero out = refl
+from-set s i w h (suc n) out =
+    rw (getD-set-other s i (h % 128) w 0 (λ e. out 0 (omega arith) (omega arith)), from-set s i w (suc h) n (λ j l e. out (suc j) (omega arith) (omega arith)))
+
+pub from-append : (s : List ℕ) (h n k : ℕ) → framesFrom s h (n + k) ≡ framesFrom s h n ++ framesFrom s (h + n) k
+unfolding framesFrom
+from-append s h zero k = let e : 0 + k ≡ k = omega arith in rw (e, add-zero)
+from-append s h (suc n) k =
+    let e : suc n + k ≡ suc (n + k) = omega arith in
+    rw (e, from-append s (suc h) n k, from-mod s (suc h + n) (h + suc n) k (omega arith))
+
+pub from-snoc : (s : List ℕ) (h n : ℕ) → framesFrom s h (suc n) ≡ framesFrom s h n ++ (frameOf (getD s ((h + n) % 128) 0) ∷ [])
+unfolding framesFrom
+from-snoc s h n = let e : suc n ≡ n + 1 = omega arith in ap (framesFrom s h) e ∙ from-append s h n 1
+
+pub from-length : (s : List ℕ) (h n : ℕ) → length (framesFrom s h n) ≡ n
+unfolding framesFrom
+from-length s h zero = refl
+from-length s h (suc n) = ap suc (from-length s (suc h) n)
+
+pub sizes-append : (fs gs : List Frame) → sizes (fs ++ gs) ≡ sizes fs + sizes gs
+unfolding sizes
+sizes-append [] gs = omega arith
+sizes-append (f ∷ fs) gs = omega (arith, sizes-append fs gs)
+
+-- the sum over the whole ring is the same from every slot
+rotate : (s : List ℕ) (h n : ℕ) → n % 128 ≡ 0 → sizes (framesFrom s (suc h) n) ≡ sizes (framesFrom s h n)
+unfolding framesFrom sizes
+rotate s h n e =
+    let k : (h + n) % 128 ≡ h % 128 = omega arith in
+    let a : getD s (h % 128) 0 % 16384 + sizes (framesFrom s (suc h) n) ≡ sizes (framesFrom s h n ++ (frameOf (getD s ((h + n) % 128) 0) ∷ [])) = ap sizes (from-snoc s h n) in
+    omega (arith, a, sizes-append (framesFrom s h n) (frameOf (getD s ((h + n) % 128) 0) ∷ []), ap (λ (i : ℕ). getD s i 0 % 16384) k)
+
+ring-sum : (s : List ℕ) (h : ℕ) → sizes (framesFrom s h 128) ≡ sizes (framesFrom s 0 128)
+ring-sum s zero = refl
+ring-sum s (suc h) = rotate s h 128 (omega arith) ∙ ring-sum s h
+
+pub zero-sizes : (s : List ℕ) (h n : ℕ) → ((j : ℕ) → j < n → getD s ((h + j) % 128) 0 ≡ 0) → sizes (framesFrom s h n) ≡ 0
+unfolding framesFrom sizes
+zero-sizes s h zero z = refl
+zero-sizes s h (suc n) z =
+    let e : h % 128 ≡ (h + 0) % 128 = omega arith in
+    let a : getD s (h % 128) 0 ≡ 0 = ap (λ (i : ℕ). getD s i 0) e ∙ z 0 (omega arith) in
+    let step : (j : ℕ) → j < n → getD s ((suc h + j) % 128) 0 ≡ 0 = λ j l. let k : (suc h + j) % 128 ≡ (h + suc j) % 128 = omega arith in ap (λ (i : ℕ). getD s i 0) k ∙ z (suc j) (omega arith) in
+    omega (arith, ap (λ (w : ℕ). w % 16384) a, zero-sizes s (suc h) n step)
+
+-- where every other slot is 0, the sum over the ring is the sum over the frames held
+pub held-sum : (s : List ℕ) (h n : ℕ) → n ≤ 128 → ((j : ℕ) → n ≤ j → j < 128 → getD s ((h + j) % 128) 0 ≡ 0) → sizes (framesFrom s 0 128) ≡ sizes (framesFrom s h n)
+held-sum s h n p z =
+    let e : 128 ≡ n + (128 - n) = omega arith in
+    let step : (j : ℕ) → j < 128 - n → getD s ((h + n + j) % 128) 0 ≡ 0 = λ j l. let k : (h + n + j) % 128 ≡ (h + (n + j)) % 128 = omega arith in ap (λ (i : ℕ). getD s i 0) k ∙ z (n + j) (omega arith) (omega arith) in
+    let a : sizes (framesFrom s 0 128) ≡ sizes (framesFrom s h n ++ framesFrom s (h + n) (128 - n)) =
+    sym (ring-sum s h) ∙ ap (λ (m : ℕ). sizes (framesFrom s h m)) e ∙ ap sizes (from-append s h n (128 - n)) in
+    omega (arith, a, sizes-append (framesFrom s h n) (framesFrom s (h + n) (128 - n)), zero-sizes s (h + n) (128 - n) step)
+
+-- the frames one by one, and all
+pub all-in : (mtu : ℕ) (s : List ℕ) (h n : ℕ) → ((j : ℕ) → j < n → FrameOk mtu (frameOf (getD s ((h + j) % 128) 0))) → AllOk mtu (framesFrom s h n)
+unfolding framesFrom
+all-in mtu s h zero f = tt
+all-in mtu s h (suc n) f =
+    let e : h % 128 ≡ (h + 0) % 128 = omega arith in
+    (rw e (f 0 (omega arith)), all-in mtu s (suc h) n (λ j l. let k : (suc h + j) % 128 ≡ (h + suc j) % 128 = omega arith in rw k (f (suc j) (omega arith))))
+
+pub in-all : (mtu : ℕ) (s : List ℕ) (h n : ℕ) → AllOk mtu (framesFrom s h n) → (j : ℕ) → j < n → FrameOk mtu (frameOf (getD s ((h + j) % 128) 0))
+unfolding framesFrom
+in-all mtu s h zero a j l = absurd (omega arith)
+in-all mtu s h (suc n) a zero l = let e : (h + 0) % 128 ≡ h % 128 = omega arith in rw e (a .0)
+in-all mtu s h (suc n) a (suc j) l = let k : (h + suc j) % 128 ≡ (suc h + j) % 128 = omega arith in rw k (in-all mtu s (suc h) n (a .1) j (omega arith))

@@ -1,0 +1,41 @@
+-- A frame, its range, and the word that holds it.
+-- Assumes nothing.
+use Prim.Native.Nat.{ℕ, _+_, _*_, _/_, _%_, _≤_, _<_}
+use Rattle.decide.specs.Test.{Test, Holds, _≤?_, _∧?_}
+use Rattle.queue.specs.declared.Frame.{Frame}
+
+-- Hops 1 to 63.
+abbrev pub hopsOk : ℕ → Test
+hopsOk hops = 1 ≤? hops ∧? hops ≤? 63
+
+-- Frame size 16 to mtu; hops 1 to 63; class A, B or C, which are 0, 1 and 2; only B and C may be marked fairness eligible: A, being 0, has mark 0.
+abbrev pub frameOk : ℕ → Frame → Test
+frameOk mtu f =
+    16 ≤? f .size ∧? f .size ≤? mtu
+    ∧? hopsOk (f .hops)
+    ∧? f .class ≤? 2
+    ∧? f .mark ≤? 1 ∧? f .mark ≤? f .class
+
+-- the same as facts with names
+pub record FrameOk (mtu : ℕ) (f : Frame) : Type 0 where
+  pub least : 16 ≤ f .size
+  pub most : f .size ≤ mtu
+  pub hops : Holds (hopsOk (f .hops))
+  pub class : f .class ≤ 2
+  pub mark : f .mark ≤ 1
+  pub marked : f .mark ≤ f .class
+
+-- The word of a frame: size in bits 0 to 13, hops in 14 to 19, class in 20 and 21, the mark in 22.
+abbrev pub wordOf : Frame → ℕ
+wordOf f = f .size % 16384 + f .hops % 64 * 16384 + f .class % 4 * 1048576 + f .mark % 2 * 4194304
+
+-- The frame of a word. Of a word with bits above the mark's the mark is 2 or more, which is in no range.
+abbrev pub frameOf : ℕ → Frame
+frameOf w = record { size = w % 16384; hops = w / 16384 % 64; class = w / 1048576 % 4; mark = w / 4194304 }
+
+-- each number of the frame fits its bits
+pub record Fits (f : Frame) : Type 0 where
+  pub size : f .size < 16384
+  pub hops : f .hops < 64
+  pub class : f .class < 4
+  pub mark : f .mark < 2

@@ -1,0 +1,215 @@
+// Frames, and the queues that hold them: at most 128 frames, first in, first out, in a ring of slots. A slot is one word.
+ghost use mathlib.Core.Path.{_≡_};
+ghost use Prim.Native.Nat.{_+_, _<_, _^_};
+ghost use Rattle.decide.specs.Test.{test};
+ghost use Rattle.queue.specs.Frame.{hopsOk, frameOk, wordOf, frameOf};
+ghost use Rattle.queue.specs.Queue.{emptyQueue, pushed, firstOf, takeOf, spaceOf, holdsFrame};
+ghost use Rattle.queue.specs.Range.{slotOk, slotsOk, queueOk};
+
+// A frame. Its class is A 0, B 1 or C 2; its mark is 1 where it is fairness eligible, else 0.
+pub struct Frame {
+    pub size: u32,
+    pub hops: u32,
+    pub class: u32,
+    pub mark: u32,
+}
+
+// A queue: its slots, the slot of its first frame, how many frames it holds, and their bytes. Slots from head to head + count, round the ring,
+// hold frames; the others are empty.
+pub struct Queue {
+    pub slots: [u32; 128],
+    pub head: u8,
+    pub count: u8,
+    pub held: u32,
+}
+
+// What taking gives: the first frame, and the queue of those behind it.
+pub struct Taken {
+    pub frame: Frame,
+    pub queue: Queue,
+}
+
+// The word of an empty slot.
+pub const EMPTY: u32 = 0;
+
+// Whether a frame may have so many hops to go. Every test of hops is made here.
+pub fn hops_ok(hops: u32) -> bool
+    ensures { λ r. ⌜ r ≡ test (hopsOk hops) ⌝ }
+{
+    (1 <= hops) & (hops <= 63)
+}
+
+impl Frame {
+    // Whether the frame is in its range where frames are at most mtu bytes.
+    pub fn in_range(self, mtu: u32) -> bool
+        ensures { λ r. ⌜ r ≡ test (frameOk mtu self) ⌝ }
+    {
+        let hops = hops_ok(self.hops);
+        (16 <= self.size)
+            & (self.size <= mtu)
+            & hops
+            & (self.class <= 2)
+            & (self.mark <= 1)
+            & (self.mark <= self.class)
+    }
+
+    // The word that holds the frame.
+    pub fn word(self) -> u32
+        ensures { λ r. ⌜ r ≡ wordOf self ⌝ }
+    {
+        self.size % 16384
+            + self.hops % 64 * 16384
+            + self.class % 4 * 1048576
+            + self.mark % 2 * 4194304
+    }
+
+    // The frame that a word holds.
+    pub fn of(w: u32) -> Self
+        ensures { λ r. ⌜ r ≡ frameOf w ⌝ }
+    {
+        Self {
+            size: w % 16384,
+            hops: w / 16384 % 64,
+            class: w / 1048576 % 4,
+            mark: w / 4194304,
+        }
+    }
+}
+
+impl Queue {
+    // A queue at its start: 128 empty slots.
+    pub fn empty() -> Self
+        ensures { λ r. ⌜ r ≡ emptyQueue ⌝ }
+    {
+        let slots = [EMPTY; 128];
+        Self {
+            slots: slots,
+            head: 0,
+            count: 0,
+            held: 0,
+        }
+    }
+
+    // The queue with a frame behind its last. It must have a free slot, and its bytes with the frame's must be a 32-bit number.
+    pub fn push(self, f: Frame) -> Self
+        requires { ⌜ (self .count < 128) × (self .held + f .size < 2 ^ 32) ⌝ }
+        ensures { λ r. ⌜ r ≡ pushed self f ⌝ }
+    {
+        let at = (self.head as usize + self.count as usize) % 128;
+        let word = f.word();
+        let size = f.size;
+        let mut next = self;
+        next.slots[at] = word;
+        next.count = self.count + 1;
+        next.held = self.held + size;
+        next
+    }
+
+    // The frame that is taken next.
+    pub fn first(self) -> Frame
+        ensures { λ r. ⌜ r ≡ firstOf self ⌝ }
+    {
+        let at = self.head as usize % 128;
+        Frame::of(self.slots[at])
+    }
+
+    // The first frame, and the queue of those behind it. The slot that it stood in is empty again, for a later frame.
+    pub fn take(self) -> Taken
+        ensures { λ r. ⌜ r ≡ takeOf self ⌝ }
+    {
+        let at = self.head as usize % 128;
+        let word = self.slots[at];
+        let f = Frame::of(word);
+        let mut next = self;
+        next.slots[at] = EMPTY;
+        next.head = ((self.head as u32 + 1) % 128) as u8;
+        next.count = decide::less(self.count as u64, 1) as u8;
+        next.held = decide::less(self.held as u64, f.size as u64) as u32;
+        Taken {
+            frame: f,
+            queue: next,
+        }
+    }
+
+    // How large a frame may be that the queue still has room for.
+    pub fn space(self, capacity: u32) -> u32
+        ensures { λ r. ⌜ r ≡ spaceOf self capacity ⌝ }
+    {
+        if 128 <= self.count {
+            return 0;
+        }
+        decide::less(capacity as u64, self.held as u64) as u32
+    }
+
+    // Whether the queue holds a frame.
+    pub fn holds_frame(self) -> bool
+        ensures { λ r. ⌜ r ≡ holdsFrame self ⌝ }
+    {
+        0 < self.count
+    }
+
+    // Whether the queue is in its range: its slots, its frames, and its bytes, which are at most the capacity.
+    pub fn in_range(self, mtu: u32, capacity: u32) -> bool
+        ensures { λ r. ⌜ r ≡ test (queueOk mtu capacity self) ⌝ }
+    {
+        if self.count == 0 {
+            return (self.head < 128) & self.all_empty() & (self.held == 0);
+        }
+        self.scan(mtu, capacity)
+    }
+
+    // Whether the slots are those of a queue that holds no frame.
+    fn all_empty(self) -> bool
+        ensures { λ r. ⌜ r ≡ test (slotsOk 0 0 0 (self .slots) 0 128) ⌝ }
+    {
+        let mut good = true;
+        let mut i: usize = 0;
+        while i < 128 {
+            good = good & (self.slots[i] == EMPTY);
+            i += 1;
+        }
+        good
+    }
+
+    // Whether the queue is in range, by one loop without a branch.
+    fn scan(self, mtu: u32, capacity: u32) -> bool
+        ensures { λ r. ⌜ r ≡ test (queueOk mtu capacity self) ⌝ }
+    {
+        let head = self.head;
+        let count = self.count;
+        let held = self.held;
+        if 128 <= head {
+            return false;
+        }
+        let mut good = true;
+        let mut sum: u32 = 0;
+        let mut turn: u8 = (128 - head) % 128;
+        let mut i: usize = 0;
+        while i < 128 {
+            let w = self.slots[i];
+            good = good & slot_ok(mtu, turn % 128 < count, w);
+            sum += w % 16384;
+            turn += 1;
+            i += 1;
+        }
+        (count <= 128) & good & (held == sum) & (held <= capacity)
+    }
+}
+
+// Whether a slot is in range: an occupied one holds a frame in range, another nothing.
+fn slot_ok(mtu: u32, occupied: bool, w: u32) -> bool
+    ensures { λ r. ⌜ r ≡ test (slotOk mtu occupied w) ⌝ }
+{
+    (occupied & word_ok(mtu, w)) | (!occupied & (w == EMPTY))
+}
+
+// Whether the frame of a word is in range. Its class and mark are tested as one number, which is quicker than two: 0, 1 or 2 without the mark, 5 or 6
+// with it.
+fn word_ok(mtu: u32, w: u32) -> bool
+    ensures { λ r. ⌜ r ≡ test (frameOk mtu (frameOf w)) ⌝ }
+{
+    let size = w % 16384;
+    let hops = hops_ok(w / 16384 % 64);
+    let kind = w / 1048576;
+    (16 <= size) & (size <= mtu) & hops & ((kind <= 2) | ((5 <= kind) & (kind <= 6)))
+}

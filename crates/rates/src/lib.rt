@@ -1,0 +1,89 @@
+// The arithmetic of the fairness rates. Every function takes any numbers: products are of 64 bits, and what is divided by 0 gives 0.
+ghost use mathlib.Core.Path.{_≡_};
+ghost use Prim.Native.Nat.{_/_};
+ghost use Rattle.rates.specs.Rates.{partOf, smoothedOf, shownOf, agedOf, rampedOf, allowanceOf, ownRateOf, countedOf, shareOf};
+
+// The largest number that a counter holds.
+const MOST_COUNTED: u64 = 2147483647;
+
+// The largest own rate: 65,535 is FULL_RATE.
+const MOST_OWN: u64 = 65534;
+
+// The largest number of 32 bits.
+const MOST_WORD: u64 = 4294967295;
+
+// x divided by a coefficient (ageCoef, lpCoef or rampUp) and rounded down.
+pub fn part(x: u64, coef: u32) -> u64
+    ensures { λ r. ⌜ r ≡ partOf x coef ⌝ }
+{
+    quotient(x, coef as u64)
+}
+
+// What is stored for a smoothed rate after an interval, from what was stored, the rate's counter and lpCoef.
+pub fn smoothed(coef: u32, stored: u32, rate: u32) -> u32
+    ensures { λ r. ⌜ r ≡ smoothedOf coef stored rate ⌝ }
+{
+    let kept = decide::less(coef as u64, 1) * stored as u64;
+    part(kept + rate as u64, coef) as u32
+}
+
+// The smoothed rate that a stored number stands for.
+pub fn shown(stored: u32) -> u32
+    ensures { λ r. ⌜ r ≡ shownOf stored ⌝ }
+{
+    stored
+}
+
+// A counter after an interval, by ageCoef.
+pub fn aged(counter: u32, coef: u32) -> u32
+    ensures { λ r. ⌜ r ≡ agedOf counter coef ⌝ }
+{
+    let kept = counter as u64 * decide::less(coef as u64, 1);
+    part(kept, coef) as u32
+}
+
+// An allowed rate after an interval without congestion: one step nearer to unreservedRate, by rampUp.
+pub fn ramped(value: u32, unreserved: u32, coef: u32) -> u32
+    ensures { λ r. ⌜ r ≡ rampedOf value unreserved coef ⌝ }
+{
+    let distance = decide::less(unreserved as u64, value as u64);
+    (value as u64 + part(distance, coef)) as u32
+}
+
+// The rate that a received one allows to frames which pass the congested station, for a station of this weight and rate unit.
+pub fn allowance(received: u32, weight: u32, unit: u32, unreserved: u32) -> u32
+    ensures { λ r. ⌜ r ≡ allowanceOf received weight unit unreserved ⌝ }
+{
+    // More than 32 bits of a factor make no difference: no rate is above 32 bits.
+    let factor = decide::lesser(weight as u64 * unit as u64, MOST_WORD);
+    decide::lesser(unreserved as u64, received as u64 * factor) as u32
+}
+
+// The rate that a station advertises for itself, from localFairRate, its weight and its rate unit.
+pub fn own_rate(local: u32, weight: u32, unit: u32) -> u16
+    ensures { λ r. ⌜ r ≡ ownRateOf local weight unit ⌝ }
+{
+    let rate = quotient(local as u64, weight as u64 * unit as u64);
+    decide::lesser(rate, MOST_OWN) as u16
+}
+
+// A counter after a frame of this size.
+pub fn counted(counter: u32, size: u32) -> u32
+    ensures { λ r. ⌜ r ≡ countedOf counter size ⌝ }
+{
+    decide::lesser(counter as u64 + size as u64, MOST_COUNTED) as u32
+}
+
+// What a tick may give to shaper C of allowedRate, by ageCoef and the ticks of an interval.
+pub fn share(allowed: u32, coef: u32, ticks: u32) -> u32
+    ensures { λ r. ⌜ r ≡ shareOf allowed coef ticks ⌝ }
+{
+    quotient(allowed as u64, coef as u64 * ticks as u64) as u32
+}
+
+// x divided by y and rounded down, and 0 where y is 0.
+fn quotient(x: u64, y: u64) -> u64
+    ensures { λ r. ⌜ r ≡ x / y ⌝ }
+{
+    if y == 0 { 0 } else { x / y }
+}

@@ -1,0 +1,97 @@
+-- What stands at the front of a record and at each place, row by row: faults are tried in the order in which they are written.
+-- Assumes nothing.
+use Prim.Native.Nat.{ℕ, zero, suc, _+_, _≤_, _<_}
+use mathlib.Core.Bool.{true, false}
+use mathlib.Core.List.{List}
+use mathlib.Core.Path.{_≡_, refl, sym, _∙_}
+use native.Mathlib.Omega.{arith}
+use native.Mathlib.Nat.{add-zero}
+use borrow.Author.Tests.{le-leb, lt-leb, eq-eqb, ne-eqb, le-ltb, lt-ltb}
+use lib.ListN.{length, drop, length-drop}
+use Rattle.decide.specs.Refusal.{firstOf}
+use Rattle.decide.specs.Test.{test}
+use Rattle.decide.proofs.Refusal.{in-order}
+use Rattle.shaper.specs.Limits.{limitsOk}
+use Rattle.wire.specs.Wire.{le}
+use Rattle.wire.proofs.Numbers.{le-drop}
+use Rattle.record.specs.declared.Header.the-variants.{Settings, Unreadable}
+use Rattle.record.specs.declared.Step.the-variants.{Stands, End, Faulty}
+use Rattle.record.specs.Read.{limitsAt, headerFaults, lengthAt, kindAt, numberAt, fieldFaults, fieldFault, eventFaults, good}
+use Rattle.record.specs.Step.{headerOf, stepAt}
+use Rattle.record.proofs.Fields.{good-exactly}
+
+-- ---- the header
+
+module _ (xs : List ℕ) where
+  -- Fewer than 14 bytes are no header.
+  pub header-short : length xs < 14 → headerOf xs ≡ Unreadable 2
+  unfolding headerOf
+  header-short h = rw (in-order (headerFaults xs) refl, lt-ltb (length xs) 14 h)
+
+  -- Length 14.
+  pub header-length : 14 ≤ length xs → (le 2 xs 0 ≡ 14 → ⊥) → headerOf xs ≡ Unreadable 2
+  unfolding headerOf
+  header-length h e = rw (in-order (headerFaults xs) refl, le-ltb (length xs) 14 h, ne-eqb (le 2 xs 0) 14 e)
+
+  -- Kind 16.
+  pub header-kind : 14 ≤ length xs → le 2 xs 0 ≡ 14 → (le 2 xs 2 ≡ 16 → ⊥) → headerOf xs ≡ Unreadable 2
+  unfolding headerOf
+  header-kind h e k = rw (in-order (headerFaults xs) refl, le-ltb (length xs) 14 h, eq-eqb (le 2 xs 0) 14 e, ne-eqb (le 2 xs 2) 16 k)
+
+  -- A setting is outside its range.
+  pub header-outside : 14 ≤ length xs → le 2 xs 0 ≡ 14 → le 2 xs 2 ≡ 16 → test (limitsOk (limitsAt xs)) ≡ false → headerOf xs ≡ Unreadable 1
+  unfolding headerOf
+  header-outside h e k o =
+      rw (in-order (headerFaults xs) refl, le-ltb (length xs) 14 h, eq-eqb (le 2 xs 0) 14 e, eq-eqb (le 2 xs 2) 16 k, o)
+
+  -- Mtu 2, loLimit 4, hiLimit 4.
+  pub header-settings : 14 ≤ length xs → le 2 xs 0 ≡ 14 → le 2 xs 2 ≡ 16 → test (limitsOk (limitsAt xs)) ≡ true → headerOf xs ≡ Settings (limitsAt xs)
+  unfolding headerOf
+  header-settings h e k o =
+      rw (in-order (headerFaults xs) refl, le-ltb (length xs) 14 h, eq-eqb (le 2 xs 0) 14 e, eq-eqb (le 2 xs 2) 16 k, o)
+
+-- ---- an event
+
+-- the fault of an event that is not cut short is that of its fields
+pub event-fields : (mtu : ℕ) (xs : List ℕ) → 6 ≤ length xs → firstOf (eventFaults mtu xs) ≡ fieldFault mtu (lengthAt xs) (kindAt xs) (numberAt xs)
+unfolding fieldFault
+event-fields mtu xs h =
+    in-order (eventFaults mtu xs) refl ∙ rw (le-ltb (length xs) 6 h) (sym (in-order (fieldFaults mtu (lengthAt xs) (kindAt xs) (numberAt xs)) refl))
+
+-- the number of the fault of the fields at a place, or 0
+abbrev pub faultAt : ℕ → List ℕ → ℕ → ℕ
+faultAt mtu xs at = fieldFault mtu (le 2 xs at) (le 2 xs (at + 2)) (le 2 xs (at + 4))
+
+module _ (mtu : ℕ) (xs : List ℕ) (at : ℕ) where
+  pub event-fields-at : at + 6 ≤ length xs → firstOf (eventFaults mtu (drop at xs)) ≡ faultAt mtu xs at
+  event-fields-at h =
+      event-fields mtu (drop at xs) (simp length-drop (omega arith)) ∙ simp (le-drop, add-zero)
+
+  -- for six bytes or more, `good` says exactly that no fault applies
+  pub good-at : at + 6 ≤ length xs →
+      (good mtu (le 2 xs at) (le 2 xs (at + 2)) (le 2 xs (at + 4)) ≡ true → firstOf (eventFaults mtu (drop at xs)) ≡ 0)
+      × (firstOf (eventFaults mtu (drop at xs)) ≡ 0 → good mtu (le 2 xs at) (le 2 xs (at + 2)) (le 2 xs (at + 4)) ≡ true)
+  good-at h =
+      let x = good-exactly mtu (le 2 xs at) (le 2 xs (at + 2)) (le 2 xs (at + 4)) in
+      (λ e. event-fields-at h ∙ x .0 e, λ e. x .1 (sym (event-fields-at h) ∙ e))
+
+  pub event-end : length xs ≤ at → stepAt mtu xs at ≡ End
+  unfolding stepAt
+  event-end h = rw (le-leb (length xs) at h)
+
+  -- Fewer than 6 bytes are no event.
+  pub event-short : at < length xs → length xs < at + 6 → stepAt mtu xs at ≡ Faulty 2
+  unfolding stepAt
+  event-short h k =
+      rw (lt-leb (length xs) at h, in-order (eventFaults mtu (drop at xs)) refl, lt-ltb (length (drop at xs)) 6 (simp length-drop (omega arith)))
+
+  -- A fault of its fields counts,
+  pub event-faulty : (n : ℕ) → at + 6 ≤ length xs → faultAt mtu xs at ≡ n → (n ≡ 0 → ⊥) → stepAt mtu xs at ≡ Faulty n
+  unfolding stepAt
+  event-faulty zero h e k = absurd (k refl)
+  event-faulty (suc n) h e k = rw (lt-leb (length xs) at (omega arith), event-fields-at h, e)
+
+  -- and without one its kind and number stand there, for one event; the next begins behind its length.
+  pub event-stands : at + 6 ≤ length xs → faultAt mtu xs at ≡ 0 → stepAt mtu xs at ≡ Stands (le 2 xs (at + 2)) (le 2 xs (at + 4)) 1 (at + le 2 xs at)
+  unfolding stepAt
+  event-stands h e = rw (lt-leb (length xs) at (omega arith), event-fields-at h, e) (simp (le-drop, add-zero))

@@ -1,0 +1,101 @@
+-- What any bytes say as a record: its settings and events, or the number of the earliest fault.
+-- Assumes nothing.
+use Prim.Native.Nat.{ℕ, zero, suc}
+use mathlib.Core.Bool.{Bool, not, _&&_, _||_}
+use mathlib.Core.List.{List, [], _∷_}
+use lib.Dec.{leb, ltb, eqb}
+use lib.ListN.{length, drop}
+use Rattle.decide.specs.Test.{test}
+use Rattle.decide.specs.Refusal.{Fault, fault, firstOf}
+use Rattle.wire.specs.Wire.{le}
+use Rattle.shaper.specs.declared.Limits.{Limits}
+use Rattle.shaper.specs.declared.Event.{Event}
+use Rattle.shaper.specs.Limits.{limitsOk}
+use Rattle.shaper.specs.Kind.{eventOf}
+
+-- ---- the header
+
+-- Kind 16, length 14, first and once: mtu 2, loLimit 4, hiLimit 4.
+abbrev pub limitsAt : List ℕ → Limits
+limitsAt xs = record { mtu = le 2 xs 4; lo = le 4 xs 6; hi = le 4 xs 10 }
+
+-- 2: fewer bytes than the header, or another length or kind. 1: a setting is outside its range.
+abbrev pub headerFaults : List ℕ → List Fault
+headerFaults xs =
+    fault 2 (ltb (length xs) 14)
+    ∷ fault 2 (not (eqb (le 2 xs 0) 14))
+    ∷ fault 2 (not (eqb (le 2 xs 2) 16))
+    ∷ fault 1 (not (test (limitsOk (limitsAt xs))))
+    ∷ []
+
+-- ---- an event
+
+-- Events, length 6: length, kind and number, 2 bytes each.
+abbrev pub lengthAt : List ℕ → ℕ
+lengthAt xs = le 2 xs 0
+
+abbrev pub kindAt : List ℕ → ℕ
+kindAt xs = le 2 xs 2
+
+abbrev pub numberAt : List ℕ → ℕ
+numberAt xs = le 2 xs 4
+
+-- 2: another length, or no event's kind (a second header's too). 3: a send's size is not 16 to mtu.
+abbrev pub fieldFaults : ℕ → ℕ → ℕ → ℕ → List Fault
+fieldFaults mtu len kind num =
+    fault 2 (not (eqb len 6))
+    ∷ fault 2 (not (leb 1 kind && leb kind 3))
+    ∷ fault 3 (eqb kind 3 && not (leb 16 num && leb num mtu))
+    ∷ []
+
+-- the number of their fault, or 0
+unfoldable pub fieldFault : ℕ → ℕ → ℕ → ℕ → ℕ
+fieldFault mtu len kind num = firstOf (fieldFaults mtu len kind num)
+
+-- 2: cut short; then those of its fields.
+abbrev pub eventFaults : ℕ → List ℕ → List Fault
+eventFaults mtu xs = fault 2 (ltb (length xs) 6) ∷ fieldFaults mtu (lengthAt xs) (kindAt xs) (numberAt xs)
+
+-- whether an event's fields have no fault, in one test: length 6, kind 1 to 3, and a send's size 16 to mtu
+abbrev pub good : ℕ → ℕ → ℕ → ℕ → Bool
+good mtu len kind num = eqb len 6 && ((leb 1 kind && leb kind 3) && (ltb kind 3 || (leb 16 num && leb num mtu)))
+
+-- ---- all events
+
+pub data Events : Type 0 where
+  faulty : ℕ → Events
+  events : List Event → Events
+
+-- an event before the others, where neither it nor they have a fault; its own fault is the earlier
+abbrev pub onward : ℕ → Event → Events → Events
+onward zero e (events es) = events (e ∷ es)
+onward zero e (faulty n) = faulty n
+onward (suc n) e r = faulty (suc n)
+
+-- Within a record the earliest fault counts, and any byte after the millionth event gives 9: `left` is how many more may come.
+-- Each event is followed by what stands behind its stated length.
+unfoldable pub readFrom : ℕ → ℕ → List ℕ → Events
+readFrom mtu zero [] = events []
+readFrom mtu zero (x ∷ xs) = faulty 9
+readFrom mtu (suc left) [] = events []
+readFrom mtu (suc left) (x ∷ xs) =
+    onward (firstOf (eventFaults mtu (x ∷ xs))) (eventOf (kindAt (x ∷ xs)) (numberAt (x ∷ xs)))
+    (readFrom mtu left (drop (lengthAt (x ∷ xs)) (x ∷ xs)))
+
+-- ---- the whole
+
+pub data Read : Type 0 where
+  unreadable : ℕ → Read
+  whole : Limits → List Event → Read
+
+abbrev pub under : Limits → Events → Read
+under l (faulty n) = unreadable n
+under l (events es) = whole l es
+
+-- header first
+abbrev pub opened : ℕ → List ℕ → Read
+opened zero xs = under (limitsAt xs) (readFrom (le 2 xs 4) 1000000 (drop 14 xs))
+opened (suc n) xs = unreadable (suc n)
+
+unfoldable pub readRecord : List ℕ → Read
+readRecord xs = opened (firstOf (headerFaults xs)) xs

@@ -1,0 +1,8 @@
+mod Digits
+pub mod Around
+pub mod Faults
+pub mod Distances
+pub mod Hops
+pub mod Rows
+pub mod Bounds
+pub mod Examples

@@ -1,0 +1,135 @@
+-- The laws of every call, whatever its rows: a slice of another length is 2 before all else; a refusal is its number alone, and leaves the lent bytes.
+-- Assumes nothing.
+use Prim.Native.Nat.{ℕ, zero, suc, _+_, _*_, _/_, _%_, _≤_, _<_}
+use mathlib.Core.Bool.{Bool, true, false, cond, not, _&&_}
+use mathlib.Core.List.{List, [], _∷_, _++_}
+use mathlib.Core.Logic.{⊎-elim}
+use mathlib.Core.Path.{_≡_, refl, ap, _∙_}
+use native.Mathlib.Nat.{zero-add, suc-add}
+use native.Mathlib.Omega.{arith}
+use borrow.Author.Tests.{eq-eqb, ne-eqb, le-leb, leb-true}
+use lib.Dec.{leb}
+use lib.ListN.{length}
+use Rattle.decide.specs.Test.{both}
+use Rattle.decide.specs.Refusal.{Fault, First, nothing, row, earlier, first, numberOf, firstOf, Among}
+use Rattle.decide.proofs.Cases.{true-or-false, of-each}
+use Rattle.decide.proofs.Refusal.{carried-out}
+use Rattle.wire.specs.Wire.{digits}
+use Rattle.rpr.specs.Shape.{numberOr, answerOf, oldOr, afterOf, otherLength}
+
+-- ---- lengths
+
+module _ (n : ℕ) (xs : List ℕ) (fs : List Fault) where
+  -- no row stands before one of a length
+  before-all : (x : First) → earlier (otherLength n xs) x ≡ row (otherLength n xs)
+  before-all nothing = refl
+  before-all (row g) = rw (le-leb 0 (g .rank) (omega arith))
+
+  -- a slice of another length is 2, whatever else applies
+  pub wrong-length : (length xs ≡ n → ⊥) → firstOf (otherLength n xs ∷ fs) ≡ 2
+  unfolding firstOf first
+  wrong-length h =
+      ap (λ (b : Bool). numberOf (cond (not b) (earlier (otherLength n xs) (first fs)) (first fs))) (ne-eqb (length xs) n h)
+      ∙ ap numberOf (before-all (first fs))
+
+  -- and one of the right length is passed over
+  pub right-length : length xs ≡ n → firstOf (otherLength n xs ∷ fs) ≡ firstOf fs
+  unfolding firstOf first
+  right-length e = rw (eq-eqb (length xs) n e)
+
+-- ---- numbers
+
+-- each row bears a number of the table, 1 to 11
+abbrev pub numbered : List Fault → Bool
+numbered [] = true
+numbered (f ∷ fs) = (leb 1 (f .number) && leb (f .number) 11) && numbered fs
+
+earlier-most : (f : Fault) (x : First) → f .number ≤ 11 → numberOf x ≤ 11 → numberOf (earlier f x) ≤ 11
+earlier-most f nothing h k = h
+earlier-most f (row g) h k = of-each (λ (x : First). numberOf x ≤ 11) (leb (f .rank) (g .rank)) (row f) (row g) (λ e. h) (λ e. k)
+
+-- so the number that is given is at most 11
+pub first-most : (fs : List Fault) → numbered fs ≡ true → firstOf fs ≤ 11
+unfolding firstOf first
+first-most [] e = omega arith
+first-most (f ∷ fs) e =
+    let p = both (leb 1 (f .number) && leb (f .number) 11) (numbered fs) e in
+    let h = leb-true (f .number) 11 (both (leb 1 (f .number)) (leb (f .number) 11) (p .0) .1) in
+    let k = first-most fs (p .1) in
+    of-each (λ (x : First). numberOf x ≤ 11) (f .applies) (earlier f (first fs)) (first fs) (λ a. earlier-most f (first fs) h k) (λ a. k)
+
+among-numbered : (f : Fault) (fs : List Fault) → numbered fs ≡ true → Among f fs → 0 < f .number
+among-numbered f [] e m = absurd m
+among-numbered f (g ∷ gs) e m =
+    let p = both (leb 1 (g .number) && leb (g .number) 11) (numbered gs) e in
+    ⊎-elim
+    (λ q. let h = leb-true 1 (g .number) (both (leb 1 (g .number)) (leb (g .number) 11) (p .0) .0) in
+    let s : f .number ≡ g .number = ap (λ (x : Fault). x .number) q in
+    omega arith)
+    (λ k. among-numbered f gs (p .1) k)
+    m
+
+pub number-alone : (n : ℕ) → n ≡ numberOr n 0
+number-alone zero = refl
+number-alone (suc n) = refl
+
+-- no row applies where 0 is answered
+pub carried : (rows : List Fault) → numbered rows ≡ true → answerOf rows 0 ≡ 0 → (f : Fault) → Among f rows → f .applies ≡ false
+unfolding answerOf
+carried rows h e f m =
+    ⊎-elim (λ a. absurd (carried-out rows (λ g k b. among-numbered g rows h k) (number-alone (firstOf rows) ∙ e) f m a)) (λ a. a) (true-or-false (f .applies))
+
+-- ---- bytes
+
+-- the number whose lowest bytes are these, with more above them
+abbrev pub laid : List ℕ → ℕ → ℕ
+laid [] more = more
+laid (b ∷ bs) more = b + 256 * laid bs more
+
+abbrev pub EachByte : List ℕ → Type 0
+EachByte [] = Unit {0}
+EachByte (b ∷ bs) = (b < 256) × EachByte bs
+
+-- its bytes are these, and then those of what stands above
+pub digits-laid : (bs : List ℕ) (n more : ℕ) → EachByte bs → digits (length bs + n) (laid bs more) ≡ bs ++ digits n more
+unfolding digits
+digits-laid [] n more h = rw zero-add
+digits-laid (b ∷ bs) n more h =
+    let m : (b + 256 * laid bs more) % 256 ≡ b = omega arith in
+    let d : (b + 256 * laid bs more) / 256 ≡ laid bs more = omega arith in
+    rw (suc-add, m, d) (ap (λ (l : List ℕ). b ∷ l) (digits-laid bs n more (h .1)))
+
+-- a number alone in the eight bytes of an answer
+abbrev pub alone : ℕ → List ℕ
+alone n = n ∷ 0 ∷ 0 ∷ 0 ∷ 0 ∷ 0 ∷ 0 ∷ 0 ∷ []
+
+pub digits-alone : (n : ℕ) → n ≤ 11 → digits 8 n ≡ alone n
+unfolding digits
+digits-alone n h = ap (λ (v : ℕ). digits 8 v) (omega arith) ∙ digits-laid (n ∷ []) 7 0 (omega arith)
+
+-- ---- refusals
+
+module _ (rows : List Fault) (said : ℕ) (old new : List ℕ) where
+  -- the number of the row that counts, and the bytes as they were
+  pub refused : (n : ℕ) → firstOf rows ≡ suc n → (suc n ≡ answerOf rows said) × (old ≡ afterOf rows old new)
+  unfolding answerOf afterOf
+  refused n e = (rw e, rw e)
+
+-- Byte 0 of the answer is the number, and where that is not 0 every other byte is 0.
+pub record Bears (number answer : ℕ) : Type 0 where
+  pub byte-0 : answer % 256 ≡ number
+  pub others : 0 < number → digits 8 answer ≡ alone number
+
+bears : (n said : ℕ) → n ≤ 11 → said % 256 ≡ 0 → Bears n (numberOr n said)
+bears zero said h b = record { byte-0 = b; others = λ p. absurd (omega arith) }
+bears (suc n) said h b = record { byte-0 = omega arith; others = λ p. digits-alone (suc n) h }
+
+kept : (n : ℕ) (old new : List ℕ) → 0 < n → oldOr n old new ≡ old
+kept zero old new h = absurd (omega arith)
+kept (suc n) old new h = refl
+
+-- Each refusal returns its number alone and leaves all lent bytes untouched.
+pub refused-leaves : (rows : List Fault) (said : ℕ) (old new : List ℕ) → firstOf rows ≤ 11 → said % 256 ≡ 0 →
+    Bears (firstOf rows) (answerOf rows said) × (0 < firstOf rows → afterOf rows old new ≡ old)
+unfolding answerOf afterOf
+refused-leaves rows said old new h b = (bears (firstOf rows) said h b, kept (firstOf rows) old new)

@@ -1,0 +1,68 @@
+-- What each call answers, and what it leaves in the slice that is lent for writing.
+-- Assumes nothing.
+use Prim.Native.Nat.{ℕ, _+_}
+use mathlib.Core.Bool.{not}
+use mathlib.Core.List.{List, [], _∷_}
+use lib.Dec.{eqb}
+use Rattle.decide.specs.Refusal.{Fault, rankOf}
+use Rattle.summary.specs.declared.Answer.{Answer}
+use Rattle.summary.specs.declared.Outcome.{Outcome}
+use Rattle.summary.specs.Summary.{joined}
+use Rattle.summary.specs.Answer.{joinFaults, settleFaults, settled, answerNumber}
+use Rattle.account.specs.Account.{summarizeOf}
+use Rattle.sheet.specs.Sheet.{sheetLength, sheetOf, summaryAt}
+use Rattle.rpr.specs.Shape.{fromByte, answerOf, afterOf, otherLength}
+
+-- ---- rpr_summarize
+
+-- within a record the earliest fault counts: one row, whose number is the one that the record comes to
+abbrev pub recordFault : ℕ → Fault
+recordFault n = record { rank = rankOf 2 + 1; number = n; applies = not (eqb n 0) }
+
+-- A wrong room is 2 first, then the record's earliest fault.
+abbrev pub summarizeRows : List ℕ → List ℕ → List Fault
+summarizeRows xs room = otherLength sheetLength room ∷ recordFault (answerNumber (summarizeOf xs)) ∷ []
+
+unfoldable pub summarizeAnswer : List ℕ → List ℕ → ℕ
+summarizeAnswer xs room = answerOf (summarizeRows xs room) 0
+
+-- a summary in the room, or the room as it was
+abbrev pub handed : List ℕ → Answer → List ℕ
+handed room (Answer.Summed s) = sheetOf s
+handed room (Answer.Refused n) = room
+
+-- The room holds the record's summary.
+unfoldable pub summarizeAfter : List ℕ → List ℕ → List ℕ
+summarizeAfter xs room = afterOf (summarizeRows xs room) room (handed room (summarizeOf xs))
+
+-- ---- rpr_join
+
+-- 2 for any slice that is no summary's; then 3, 10 and 9 of the two summaries.
+abbrev pub joinRows : List ℕ → List ℕ → List ℕ → List Fault
+joinRows first second room =
+    otherLength sheetLength first
+    ∷ otherLength sheetLength second
+    ∷ otherLength sheetLength room
+    ∷ joinFaults (summaryAt first) (summaryAt second)
+
+unfoldable pub joinAnswer : List ℕ → List ℕ → List ℕ → ℕ
+joinAnswer first second room = answerOf (joinRows first second room) 0
+
+-- The room holds the joined summary.
+unfoldable pub joinAfter : List ℕ → List ℕ → List ℕ → List ℕ
+joinAfter first second room = afterOf (joinRows first second room) room (sheetOf (joined (summaryAt first) (summaryAt second)))
+
+-- ---- rpr_settle
+
+-- 2 for a slice that is no summary's; then 3 of the summary and the starting credit.
+abbrev pub settleRows : List ℕ → ℕ → List Fault
+settleRows xs start = otherLength sheetLength xs ∷ settleFaults (summaryAt xs) start
+
+-- Byte 1: permitted throughout. Bytes 4 to 7: the credit at the end, 0 where not permitted.
+abbrev pub outcomeAnswer : Outcome → ℕ
+outcomeAnswer (Outcome.Permitted credit) = fromByte 1 1 + fromByte 4 credit
+outcomeAnswer Outcome.NotPermitted = 0
+outcomeAnswer (Outcome.Refused n) = n
+
+unfoldable pub settleAnswer : List ℕ → ℕ → ℕ
+settleAnswer xs start = answerOf (settleRows xs start) (outcomeAnswer (settled 0 (summaryAt xs) start))

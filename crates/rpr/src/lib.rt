@@ -1,0 +1,133 @@
+// The functions that a host written in C calls.
+ghost use mathlib.Core.Path.{_≡_};
+ghost use Prim.Native.Nat.{_≤_};
+ghost use lib.ListN.{length};
+ghost use Rattle.summary.specs.Answer.{answerNumber};
+ghost use Rattle.sheet.specs.Sheet.{sheetLength};
+ghost use Rattle.rpr.specs.Ways.{bitOf, chooseAnswer, pathAnswer};
+ghost use Rattle.rpr.specs.Calls.{handed, summarizeAnswer, summarizeAfter, joinAnswer, joinAfter, settleAnswer};
+use ring::Choice;
+use summary::Answer;
+use summary::Outcome;
+
+// The refusal of bytes that are not of the length named.
+const NOT_WHOLE: u64 = 2;
+
+// A one at byte 1 of an answer.
+const BYTE_1: u64 = 256;
+
+// A one at byte 2 of an answer.
+const BYTE_2: u64 = 65536;
+
+// A one at byte 3 of an answer.
+const BYTE_3: u64 = 16777216;
+
+// A one at byte 4 of an answer.
+const BYTE_4: u64 = 4294967296;
+
+// Leaves in the room the summary of a shaper record. 2 where the room is not 48 bytes, then the number of the record's earliest fault.
+#[no_mangle]
+pub extern "C" fn rpr_summarize(record: &[u8], room: &mut [u8]) -> u64
+    ensures { λ r. ⌜ r ≡ summarizeAnswer (now («record» .entry)) (now (room .entry)) ⌝ }
+    ensures { λ _. ⌜ now (room .exit) ≡ summarizeAfter (now («record» .entry)) (now (room .entry)) ⌝ }
+{
+    if room.len() != sheet::LENGTH {
+        return NOT_WHOLE;
+    }
+    let whole = account::summarize(record);
+    hand_over(whole, room)
+}
+
+// Leaves in the room the summary of the first's events and then the second's. 2 where a slice is not 48 bytes, then 3, 10 and 9.
+#[no_mangle]
+pub extern "C" fn rpr_join(first: &[u8], second: &[u8], room: &mut [u8]) -> u64
+    ensures { λ r. ⌜ r ≡ joinAnswer (now (first .entry)) (now (second .entry)) (now (room .entry)) ⌝ }
+    ensures { λ _. ⌜ now (room .exit) ≡ joinAfter (now (first .entry)) (now (second .entry)) (now (room .entry)) ⌝ }
+{
+    if first.len() != sheet::LENGTH {
+        return NOT_WHOLE;
+    }
+    if second.len() != sheet::LENGTH {
+        return NOT_WHOLE;
+    }
+    if room.len() != sheet::LENGTH {
+        return NOT_WHOLE;
+    }
+    let joined = sheet::read(first).join(sheet::read(second));
+    hand_over(joined, room)
+}
+
+// Whether every send of a summary's events is permitted from a starting credit, and the credit at the end. 2 where the slice is not 48 bytes, then 3.
+#[no_mangle]
+pub extern "C" fn rpr_settle(summary: &[u8], start: u64) -> u64
+    ensures { λ r. ⌜ r ≡ settleAnswer (now (summary .entry)) start ⌝ }
+{
+    if summary.len() != sheet::LENGTH {
+        return NOT_WHOLE;
+    }
+    let outcome = sheet::read(summary).settle(start);
+    match outcome {
+        Outcome::Permitted(credit) => BYTE_1 + BYTE_4 * credit,
+        Outcome::NotPermitted => 0,
+        Outcome::Refused(number) => number,
+    }
+}
+
+// Which side a frame takes round the ring: the side, its distance, the ttl and the wrap mark.
+#[no_mangle]
+pub extern "C" fn rpr_choose(
+    stations: u64,
+    own: u64,
+    target: u64,
+    links: u64,
+    side: u64,
+    protection: u64,
+    ring: u64,
+) -> u64
+    ensures { λ r. ⌜ r ≡ chooseAnswer stations own target links side protection ring ⌝ }
+{
+    let choice = ring::choose(stations, own, target, links, side, protection, ring);
+    match choice {
+        Choice::Chosen {
+            side: way,
+            distance,
+            ttl,
+            mark,
+        } => BYTE_1 * way + BYTE_2 * distance + BYTE_3 * ttl + BYTE_4 * bit(mark),
+        Choice::Refused(number) => number,
+    }
+}
+
+// Whether a wrap-marked frame is delivered, and the hops that it moves.
+#[no_mangle]
+pub extern "C" fn rpr_path(stations: u64, own: u64, target: u64, links: u64, home: u64) -> u64
+    ensures { λ r. ⌜ r ≡ pathAnswer stations own target links home ⌝ }
+{
+    let outcome = wrap::path(stations, own, target, links, home);
+    match outcome {
+        wrap::Outcome::Moved { delivered, hops } => BYTE_1 * bit(delivered) + BYTE_2 * hops,
+        wrap::Outcome::Refused(number) => number,
+    }
+}
+
+// 1 for yes, 0 for no.
+fn bit(yes: bool) -> u64
+    ensures { λ r. ⌜ (r ≡ bitOf yes) × (r ≤ 1) ⌝ }
+{
+    if yes { 1 } else { 0 }
+}
+
+// Writes a summary to the room and answers 0, or answers the number of a refusal and writes nothing.
+fn hand_over(answer: Answer, room: &mut [u8]) -> u64
+    requires { ⌜ length (now room) ≡ sheetLength ⌝ }
+    ensures { λ r. ⌜ r ≡ answerNumber answer ⌝ }
+    ensures { λ _. ⌜ now (room .exit) ≡ handed (now (room .entry)) answer ⌝ }
+{
+    match answer {
+        Answer::Summed(whole) => {
+            sheet::write(whole, room);
+            0
+        }
+        Answer::Refused(number) => number,
+    }
+}

@@ -1,0 +1,5 @@
+pub mod Chain
+pub mod Placed
+pub mod Range
+pub mod Words
+pub mod Examples

@@ -1,0 +1,280 @@
+-- Settings and their 120 bytes say the same. Each group of words is read back where it stands, and stands where it was read; the settings
+-- follow from their groups.
+-- Assumes nothing.
+use Prim.Native.Nat.{ℕ, _+_, _*_, _≤_, _<_}
+use mathlib.Core.List.{List}
+use mathlib.Core.Path.{_≡_, refl, sym, _∙_}
+use native.Mathlib.Nat.{add-zero}
+use native.Mathlib.Omega.{arith}
+use lib.ListN.{length}
+use Rattle.wire.specs.Wire.{le, digits, put, Bytes}
+use Rattle.wire.specs.Parts.{Part, laidOut, nth, offset}
+use Rattle.wire.proofs.Puts.{put-whole}
+use Rattle.wire.proofs.Places.{Same, Stands, stands-put, stands-whole, put-stands}
+use Rattle.wire.proofs.Numbers.{digits-stand, digits-bytes, le-bound}
+use Rattle.wire.proofs.Laid.{le-part, part-stands}
+use Rattle.settings.proofs.Placed.{placed-stand, laidOut-bytes}
+use Rattle.settings.proofs.Range.{age-bounds, coef-bounds}
+use Rattle.settings.specs.declared.Address.{Address}
+use Rattle.settings.specs.declared.Bucket.{Bucket}
+use Rattle.settings.specs.declared.Shapers.{Shapers}
+use Rattle.settings.specs.declared.Queues.{Queues}
+use Rattle.settings.specs.declared.Fairness.{Fairness}
+use Rattle.settings.specs.declared.Settings.{Settings}
+use Rattle.settings.specs.Range.{BucketOk, QueuesOk, FairnessOk, SettingsOk}
+use Rattle.settings.specs.Words.{addressParts, bucketParts, shapersParts, queuesParts, fairnessParts, settingsParts}
+use Rattle.settings.specs.Words.{addressBytes, bucketBytes, shapersBytes, queuesBytes, fairnessBytes, settingsBytes, settings-length}
+use Rattle.settings.specs.Words.{addressAt, bucketAt, shapersAt, queuesAt, fairnessAt, settingsAt}
+use Rattle.settings.specs.Words.{AddressFits, BucketFits, ShapersFit, QueuesFit, FairnessFits, SettingsFit}
+
+-- ---- read where they stand
+
+-- the k-th word behind the first, and the first
+module _ (ps : List Part) (xs : List ℕ) (at : ℕ) (s : Stands xs at (laidOut ps)) where
+  word-back : (k v : ℕ) → nth ps k .bytes ≡ digits 4 v → v < 4294967296 → le 4 xs (at + offset ps k) ≡ v
+  word-back k v e h = le-part ps k 4 v xs at e h s
+
+  first-back : (v : ℕ) → offset ps 0 ≡ 0 → nth ps 0 .bytes ≡ digits 4 v → v < 4294967296 → le 4 xs at ≡ v
+  first-back v z e h = rw (z, add-zero) at (word-back 0 v e h)
+
+  first-stands : offset ps 0 ≡ 0 → Stands xs at (nth ps 0 .bytes)
+  first-stands z = rw (z, add-zero) at (part-stands ps 0 xs at s)
+
+module _ (xs : List ℕ) (at : ℕ) where
+  address-back : (v : Address) → AddressFits v → Stands xs at (addressBytes v) → addressAt xs at ≡ v
+  address-back v f s =
+      let ps : List Part = addressParts v in
+      rw (first-back ps xs at s (v .high) refl refl (f .0), word-back ps xs at s 1 (v .low) refl (f .1))
+
+  bucket-back : (v : Bucket) → BucketFits v → Stands xs at (bucketBytes v) → bucketAt xs at ≡ v
+  bucket-back v f s =
+      let ps : List Part = bucketParts v in
+      rw (first-back ps xs at s (v .lo) refl refl (f .0), word-back ps xs at s 1 (v .hi) refl (f .1), word-back ps xs at s 2 (v .amount) refl (f .2))
+
+  queues-back : (v : Queues) → QueuesFit v → Stands xs at (queuesBytes v) → queuesAt xs at ≡ v
+  queues-back v f s =
+      let ps : List Part = queuesParts v in
+      let w : (k v : ℕ) → nth ps k .bytes ≡ digits 4 v → v < 4294967296 → le 4 xs (at + offset ps k) ≡ v = word-back ps xs at s in
+      rw (first-back ps xs at s (v .control) refl refl (f .0), w 1 (v .primary) refl (f .1), w 2 (v .secondary) refl (f .2), w 3 (v .threshold) refl (f .3))
+
+  fairness-back : (v : Fairness) → FairnessFits v → Stands xs at (fairnessBytes v) → fairnessAt xs at ≡ v
+  fairness-back v f s =
+      let ps : List Part = fairnessParts v in
+      let w : (k v : ℕ) → nth ps k .bytes ≡ digits 4 v → v < 4294967296 → le 4 xs (at + offset ps k) ≡ v = word-back ps xs at s in
+      rw (
+        first-back ps xs at s (v .weight) refl refl (f .0),
+        w 1 (v .unit) refl (f .1),
+        w 2 (v .ticks) refl (f .2),
+        w 3 (v .unreserved) refl (f .3),
+        w 4 (v .age) refl (f .4),
+        w 5 (v .lp) refl (f .5),
+        w 6 (v .ramp) refl (f .6),
+      )
+
+shapers-back : (xs : List ℕ) (at : ℕ) (v : Shapers) → ShapersFit v → Stands xs at (shapersBytes v) → shapersAt xs at ≡ v
+shapers-back xs at v f s =
+    let ps : List Part = shapersParts v in
+    let p : (k : ℕ) → Stands xs (at + offset ps k) (nth ps k .bytes) = λ k. part-stands ps k xs at s in
+    rw (
+      bucket-back xs at (v .m) (f .0) (first-stands ps xs at s refl),
+      bucket-back xs (at + 12) (v .a) (f .1) (p 1),
+      bucket-back xs (at + 24) (v .b) (f .2) (p 2),
+      bucket-back xs (at + 36) (v .c) (f .3) (p 3),
+      bucket-back xs (at + 48) (v .d) (f .4) (p 4),
+    )
+
+-- settings are read where their bytes stand
+pub settings-back : (xs : List ℕ) (at : ℕ) (v : Settings) → SettingsFit v → Stands xs at (settingsBytes v) → settingsAt xs at ≡ v
+unfolding settingsBytes settingsAt
+settings-back xs at v f s =
+    let ps : List Part = settingsParts v in
+    let p : (k : ℕ) → Stands xs (at + offset ps k) (nth ps k .bytes) = λ k. part-stands ps k xs at s in
+    rw (
+      address-back xs at (v .address) (f .of-address) (first-stands ps xs at s refl),
+      word-back ps xs at s 1 (v .ringlet) refl (f .of-ringlet),
+      word-back ps xs at s 2 (v .mtu) refl (f .of-mtu),
+      shapers-back xs (at + 16) (v .shapers) (f .of-shapers) (p 3),
+      queues-back xs (at + 76) (v .queues) (f .of-queues) (p 4),
+      fairness-back xs (at + 92) (v .fairness) (f .of-fairness) (p 5),
+    )
+
+-- ---- standing where they are read
+
+module _ (xs : List ℕ) (b : Bytes xs) where
+  -- the word at a place stands there
+  w : (at : ℕ) → Stands xs at (digits 4 (le 4 xs at))
+  w at = digits-stand 4 xs at b
+
+  address-stands : (at : ℕ) → at + 8 ≤ length xs → Stands xs at (addressBytes (addressAt xs at))
+  address-stands at h = placed-stand (addressParts (addressAt xs at)) xs at h (w at, (w (at + 4), tt))
+
+  bucket-stands : (at : ℕ) → at + 12 ≤ length xs → Stands xs at (bucketBytes (bucketAt xs at))
+  bucket-stands at h = placed-stand (bucketParts (bucketAt xs at)) xs at h (w at, (w (at + 4), (w (at + 8), tt)))
+
+  shapers-stand : (at : ℕ) → at + 60 ≤ length xs → Stands xs at (shapersBytes (shapersAt xs at))
+  shapers-stand at h =
+      placed-stand (shapersParts (shapersAt xs at)) xs at h (
+        bucket-stands at (omega arith),
+        (
+          bucket-stands (at + 12) (omega arith),
+          (
+            bucket-stands (at + 24) (omega arith),
+            (bucket-stands (at + 36) (omega arith), (bucket-stands (at + 48) (omega arith), tt)),
+          ),
+        ),
+      )
+
+  queues-stand : (at : ℕ) → at + 16 ≤ length xs → Stands xs at (queuesBytes (queuesAt xs at))
+  queues-stand at h = placed-stand (queuesParts (queuesAt xs at)) xs at h (w at, (w (at + 4), (w (at + 8), (w (at + 12), tt))))
+
+  fairness-stands : (at : ℕ) → at + 28 ≤ length xs → Stands xs at (fairnessBytes (fairnessAt xs at))
+  fairness-stands at h =
+      placed-stand (fairnessParts (fairnessAt xs at)) xs at h
+      (w at, (w (at + 4), (w (at + 8), (w (at + 12), (w (at + 16), (w (at + 20), (w (at + 24), tt)))))))
+
+  -- the bytes of the settings that are read at a place stand there
+  pub settings-stand : (at : ℕ) → at + 120 ≤ length xs → Stands xs at (settingsBytes (settingsAt xs at))
+  unfolding settingsBytes settingsAt
+  settings-stand at h =
+      placed-stand (settingsParts (settingsAt xs at)) xs at h (
+        address-stands at (omega arith),
+        (
+          w (at + 8),
+          (
+            w (at + 12),
+            (
+              shapers-stand (at + 16) (omega arith),
+              (queues-stand (at + 76) (omega arith), (fairness-stands (at + 92) (omega arith), tt)),
+            ),
+          ),
+        ),
+      )
+
+-- ---- what is written are bytes
+
+bucket-bytes : (v : Bucket) → Bytes (bucketBytes v)
+bucket-bytes v = laidOut-bytes (bucketParts v) (digits-bytes 4 (v .lo), (digits-bytes 4 (v .hi), (digits-bytes 4 (v .amount), tt)))
+
+pub settings-bytes : (v : Settings) → Bytes (settingsBytes v)
+unfolding settingsBytes
+settings-bytes v =
+    let d : (n : ℕ) → Bytes (digits 4 n) = digits-bytes 4 in
+    let s : Shapers = v .shapers in
+    let q : Queues = v .queues in
+    let f : Fairness = v .fairness in
+    laidOut-bytes (settingsParts v) (
+      laidOut-bytes (addressParts (v .address)) (d (v .address .high), (d (v .address .low), tt)),
+      (
+        d (v .ringlet),
+        (
+          d (v .mtu),
+          (
+            laidOut-bytes (shapersParts s) (bucket-bytes (s .m), (bucket-bytes (s .a), (bucket-bytes (s .b), (bucket-bytes (s .c), (bucket-bytes (s .d), tt))))),
+            (
+              laidOut-bytes (queuesParts q) (d (q .control), (d (q .primary), (d (q .secondary), (d (q .threshold), tt)))),
+              (
+                laidOut-bytes (fairnessParts f)
+                    (d (f .weight), (d (f .unit), (d (f .ticks), (d (f .unreserved), (d (f .age), (d (f .lp), (d (f .ramp), tt))))))),
+                tt,
+              ),
+            ),
+          ),
+        ),
+      ),
+    )
+
+-- what is read from bytes are numbers of 32 bits
+pub settings-fit : (xs : List ℕ) (at : ℕ) → Bytes xs → SettingsFit (settingsAt xs at)
+unfolding settingsAt
+settings-fit xs at b =
+    let l : (k : ℕ) → le 4 xs k < 4294967296 = λ k. le-bound 4 xs k b in
+    let t : (k : ℕ) → BucketFits (bucketAt xs k) = λ k. (l k, l (k + 4), l (k + 8)) in
+    record {
+      of-address = (l at, l (at + 4));
+      of-ringlet = l (at + 8);
+      of-mtu = l (at + 12);
+      of-shapers = (t (at + 16), t (at + 16 + 12), t (at + 16 + 24), t (at + 16 + 36), t (at + 16 + 48));
+      of-queues = (l (at + 76), l (at + 76 + 4), l (at + 76 + 8), l (at + 76 + 12));
+      of-fairness =
+          (l (at + 92), l (at + 92 + 4), l (at + 92 + 8), l (at + 92 + 12), l (at + 92 + 16), l (at + 92 + 20), l (at + 92 + 24));
+    }
+
+-- and so are settings in range, with an address of 48 bits
+pub in-range-fit : (v : Settings) → SettingsOk v → v .address .low < 4294967296 → SettingsFit v
+in-range-fit v ok l =
+    let q : QueuesOk (v .mtu) (v .queues) = ok .of-queues in
+    let f : FairnessOk (v .fairness) = ok .of-fairness in
+    record {
+      of-address = omega (arith, ok .high-most);
+      of-ringlet = omega (arith, ok .ringlet-most);
+      of-mtu = omega (arith, ok .mtu-most);
+      of-shapers =
+          (bucket-fits (ok .of-m), bucket-fits (ok .of-a), bucket-fits (ok .of-b), bucket-fits (ok .of-c), bucket-fits (ok .of-d));
+      of-queues = omega arith;
+      of-fairness =
+          omega (arith, age-bounds (v .fairness .age) (f .age-one-of), coef-bounds (v .fairness .lp) (f .lp-one-of), coef-bounds (v .fairness .ramp) (f .ramp-one-of));
+    }
+  where
+    bucket-fits : {mtu : ℕ} {b : Bucket} → BucketOk mtu b → BucketFits b
+    bucket-fits ok = omega arith
+
+-- ---- both round trips
+
+-- settings, written and read, are the settings
+pub settings-of-bytes : (v : Settings) → SettingsFit v → settingsAt (settingsBytes v) 0 ≡ v
+settings-of-bytes v f = settings-back (settingsBytes v) 0 v f (stands-whole (settingsBytes v))
+
+-- 120 bytes, read and written, are the bytes
+pub bytes-of-settings : (xs : List ℕ) → Bytes xs → length xs ≡ 120 → settingsBytes (settingsAt xs 0) ≡ xs
+bytes-of-settings xs b e =
+    let n : length (settingsBytes (settingsAt xs 0)) ≡ 120 = settings-length (settingsAt xs 0) in
+    sym (put-whole xs (settingsBytes (settingsAt xs 0)) (omega arith))
+    ∙ put-stands xs (settingsBytes (settingsAt xs 0)) 0 (omega arith) (settings-stand xs b 0 (omega arith))
+
+-- the same at a place: what was written there is read,
+pub settings-put : (xs : List ℕ) (at : ℕ) (v : Settings) → SettingsFit v → at + 120 ≤ length xs → settingsAt (put xs at (settingsBytes v)) at ≡ v
+settings-put xs at v f h =
+    settings-back (put xs at (settingsBytes v)) at v f (stands-put xs (settingsBytes v) at (omega (arith, settings-length v)))
+
+-- and writing what was read changes nothing
+pub put-settings : (xs : List ℕ) (at : ℕ) → Bytes xs → at + 120 ≤ length xs → put xs at (settingsBytes (settingsAt xs at)) ≡ xs
+put-settings xs at b h =
+    put-stands xs (settingsBytes (settingsAt xs at)) at (omega (arith, settings-length (settingsAt xs at))) (settings-stand xs b at h)
+
+-- settings are read from their own 120 bytes alone
+pub settings-same : (xs ys : List ℕ) (at k : ℕ) → Bytes xs → at + 120 ≤ length xs → Same 120 xs at ys k → settingsAt ys k ≡ settingsAt xs at
+settings-same xs ys at k b h e =
+    let n : length (settingsBytes (settingsAt xs at)) ≡ 120 = settings-length (settingsAt xs at) in
+    settings-back ys k (settingsAt xs at) (settings-fit xs at b)
+    (λ i l. sym (e i (omega arith)) ∙ settings-stand xs b at h i l)
+
+-- ---- the table of words
+
+-- word k of a list of bytes
+abbrev pub wordAt : List ℕ → ℕ → ℕ
+wordAt xs k = le 4 xs (4 * k)
+
+abbrev shaperAt : List ℕ → ℕ → Bucket
+shaperAt xs k = record { lo = wordAt xs k; hi = wordAt xs (k + 1); amount = wordAt xs (k + 2) }
+
+-- Words 0 and 1 are own address (high 16 bits, low 32 bits), 2 own ringlet, 3 mtu; 4, 7, 10, 13 and 16 begin shaper M, A, B, C and D
+-- (loLimit, hiLimit, amount); 19 control queue, 20 primary, 21 secondary, 22 low threshold; 23 weight, 24 rate unit, 25 ticks per interval,
+-- 26 unreservedRate; 27, 28, 29 ageCoef, lpCoef, rampUp.
+pub by-words : (xs : List ℕ) → settingsAt xs 0 ≡ record {
+  address = record { high = wordAt xs 0; low = wordAt xs 1 };
+  ringlet = wordAt xs 2;
+  mtu = wordAt xs 3;
+  shapers = record { m = shaperAt xs 4; a = shaperAt xs 7; b = shaperAt xs 10; c = shaperAt xs 13; d = shaperAt xs 16 };
+  queues = record { control = wordAt xs 19; primary = wordAt xs 20; secondary = wordAt xs 21; threshold = wordAt xs 22 };
+  fairness = record {
+    weight = wordAt xs 23;
+    unit = wordAt xs 24;
+    ticks = wordAt xs 25;
+    unreserved = wordAt xs 26;
+    age = wordAt xs 27;
+    lp = wordAt xs 28;
+    ramp = wordAt xs 29;
+  };
+}
+unfolding settingsAt
+by-words xs = refl

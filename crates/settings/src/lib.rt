@@ -1,0 +1,372 @@
+// The settings of a station: their ranges, their defaults, and their 30 words of 4 bytes. Each is a number, so that settings and words are
+// the same thing twice, and whether they are in range is asked of the numbers.
+ghost use mathlib.Core.Path.{_≡_};
+ghost use Prim.Native.Nat.{_+_, _*_, _≤_};
+ghost use lib.ListN.{length};
+ghost use Rattle.decide.specs.Test.{test};
+ghost use Rattle.wire.specs.Wire.{put};
+ghost use Rattle.settings.specs.Range.{limitsOf, bucketOk, shapersOk, capacityOk, queuesOk, ageOk, coefOk, fairnessOk, settingsOk};
+ghost use Rattle.settings.specs.Range.{usualOf, addressOf};
+ghost use Rattle.settings.specs.Words.{addressAt, addressBytes, bucketAt, bucketBytes, shapersAt, shapersBytes, queuesAt, queuesBytes};
+ghost use Rattle.settings.specs.Words.{fairnessAt, fairnessBytes, settingsAt, settingsBytes};
+use shaper::Limits;
+
+// The settings of one shaper: loLimit, hiLimit, and the amount per tick.
+pub struct Bucket {
+    pub lo: u32,
+    pub hi: u32,
+    pub amount: u32,
+}
+
+// The settings of the five shapers: M (control), A, B, C, D (downstream).
+pub struct Shapers {
+    pub m: Bucket,
+    pub a: Bucket,
+    pub b: Bucket,
+    pub c: Bucket,
+    pub d: Bucket,
+}
+
+// The capacities of the three queues in bytes, and the secondary's low threshold.
+pub struct Queues {
+    pub control: u32,
+    pub primary: u32,
+    pub secondary: u32,
+    pub threshold: u32,
+}
+
+// The settings of the fairness rules: weight, rate unit, ticks per interval, unreservedRate, ageCoef, lpCoef, rampUp.
+pub struct Fairness {
+    pub weight: u32,
+    pub unit: u32,
+    pub ticks: u32,
+    pub unreserved: u32,
+    pub age: u32,
+    pub lp: u32,
+    pub ramp: u32,
+}
+
+// An address of 48 bits: its high 16 and its low 32.
+pub struct Address {
+    pub high: u32,
+    pub low: u32,
+}
+
+// All settings of a station: own address, own ringlet, mtu, and the settings of its parts.
+pub struct Settings {
+    pub address: Address,
+    pub ringlet: u32,
+    pub mtu: u32,
+    pub shapers: Shapers,
+    pub queues: Queues,
+    pub fairness: Fairness,
+}
+
+impl Settings {
+    pub const WORDS: usize = 30;
+
+    pub const LENGTH: usize = 120;
+
+    pub const MAX_RINGLET: u32 = 1;
+
+    // Whether each setting is in its range.
+    pub fn in_range(self) -> bool
+        ensures { λ r. ⌜ r ≡ test (settingsOk self) ⌝ }
+    {
+        let mtu = self.mtu;
+        (self.address.high <= Address::MAX_HIGH)
+            & (self.ringlet <= Settings::MAX_RINGLET)
+            & (Limits::MIN_MTU <= mtu)
+            & (mtu <= Limits::MAX_MTU)
+            & self.shapers.in_range(mtu)
+            & self.queues.in_range(mtu)
+            & self.fairness.in_range()
+    }
+
+    // The settings whose words stand in `s` from `at` on.
+    pub fn read(s: &[u8], at: usize) -> Settings
+        requires { ⌜ at + 120 ≤ length (now s) ⌝ }
+        ensures { λ r. ⌜ r ≡ settingsAt (now (s .entry)) at ⌝ }
+    {
+        Settings {
+            address: Address::read(s, at),
+            ringlet: wire::get32(s, at + 8),
+            mtu: wire::get32(s, at + 12),
+            shapers: Shapers::read(s, at + 16),
+            queues: Queues::read(s, at + 76),
+            fairness: Fairness::read(s, at + 92),
+        }
+    }
+
+    // Writes the words of the settings to `s` from `at` on.
+    pub fn write(self, s: &mut [u8], at: usize)
+        requires { ⌜ at + 120 ≤ length (now s) ⌝ }
+        ensures { λ _. ⌜ now (s .exit) ≡ put (now (s .entry)) at (settingsBytes self) ⌝ }
+    {
+        self.address.write(s, at);
+        wire::put32(s, at + 8, self.ringlet);
+        wire::put32(s, at + 12, self.mtu);
+        self.shapers.write(s, at + 16);
+        self.queues.write(s, at + 76);
+        self.fairness.write(s, at + 92);
+    }
+}
+
+impl Address {
+    pub const MAX_HIGH: u32 = 65535;
+
+    // The address as one number.
+    pub fn number(self) -> u64
+        ensures { λ r. ⌜ r ≡ addressOf self ⌝ }
+    {
+        wide(self.high) * 4294967296 + wide(self.low)
+    }
+
+    // The address whose words stand in `s` from `at` on.
+    fn read(s: &[u8], at: usize) -> Address
+        requires { ⌜ at + 8 ≤ length (now s) ⌝ }
+        ensures { λ r. ⌜ r ≡ addressAt (now (s .entry)) at ⌝ }
+    {
+        Address {
+            high: wire::get32(s, at),
+            low: wire::get32(s, at + 4),
+        }
+    }
+
+    // Writes the words of an address to `s` from `at` on.
+    fn write(self, s: &mut [u8], at: usize)
+        requires { ⌜ at + 8 ≤ length (now s) ⌝ }
+        ensures { λ _. ⌜ now (s .exit) ≡ put (now (s .entry)) at (addressBytes self) ⌝ }
+    {
+        wire::put32(s, at, self.high);
+        wire::put32(s, at + 4, self.low);
+    }
+}
+
+impl Bucket {
+    pub const MAX_AMOUNT: u32 = 65535;
+
+    // Whether a shaper's limits, at this mtu, and its amount per tick are in range.
+    pub fn in_range(self, mtu: u32) -> bool
+        ensures { λ r. ⌜ r ≡ test (bucketOk mtu self) ⌝ }
+    {
+        self.limits(mtu).in_range() & (self.amount <= Bucket::MAX_AMOUNT)
+    }
+
+    // What bounds the shaper's credit.
+    pub fn limits(self, mtu: u32) -> Limits
+        ensures { λ r. ⌜ r ≡ limitsOf mtu self ⌝ }
+    {
+        Limits {
+            mtu: mtu,
+            lo: self.lo,
+            hi: self.hi,
+        }
+    }
+
+    // The shaper's settings whose words stand in `s` from `at` on.
+    fn read(s: &[u8], at: usize) -> Bucket
+        requires { ⌜ at + 12 ≤ length (now s) ⌝ }
+        ensures { λ r. ⌜ r ≡ bucketAt (now (s .entry)) at ⌝ }
+    {
+        Bucket {
+            lo: wire::get32(s, at),
+            hi: wire::get32(s, at + 4),
+            amount: wire::get32(s, at + 8),
+        }
+    }
+
+    // Writes the words of a shaper's settings to `s` from `at` on.
+    fn write(self, s: &mut [u8], at: usize)
+        requires { ⌜ at + 12 ≤ length (now s) ⌝ }
+        ensures { λ _. ⌜ now (s .exit) ≡ put (now (s .entry)) at (bucketBytes self) ⌝ }
+    {
+        wire::put32(s, at, self.lo);
+        wire::put32(s, at + 4, self.hi);
+        wire::put32(s, at + 8, self.amount);
+    }
+}
+
+impl Shapers {
+    // Whether the settings of each shaper are in range at this mtu.
+    pub fn in_range(self, mtu: u32) -> bool
+        ensures { λ r. ⌜ r ≡ test (shapersOk mtu self) ⌝ }
+    {
+        self.m.in_range(mtu)
+            & self.a.in_range(mtu)
+            & self.b.in_range(mtu)
+            & self.c.in_range(mtu)
+            & self.d.in_range(mtu)
+    }
+
+    // The shapers' settings whose words stand in `s` from `at` on.
+    fn read(s: &[u8], at: usize) -> Shapers
+        requires { ⌜ at + 60 ≤ length (now s) ⌝ }
+        ensures { λ r. ⌜ r ≡ shapersAt (now (s .entry)) at ⌝ }
+    {
+        Shapers {
+            m: Bucket::read(s, at),
+            a: Bucket::read(s, at + 12),
+            b: Bucket::read(s, at + 24),
+            c: Bucket::read(s, at + 36),
+            d: Bucket::read(s, at + 48),
+        }
+    }
+
+    // Writes the words of the shapers' settings to `s` from `at` on.
+    fn write(self, s: &mut [u8], at: usize)
+        requires { ⌜ at + 60 ≤ length (now s) ⌝ }
+        ensures { λ _. ⌜ now (s .exit) ≡ put (now (s .entry)) at (shapersBytes self) ⌝ }
+    {
+        self.m.write(s, at);
+        self.a.write(s, at + 12);
+        self.b.write(s, at + 24);
+        self.c.write(s, at + 36);
+        self.d.write(s, at + 48);
+    }
+}
+
+impl Queues {
+    pub const MAX_CAPACITY: u32 = 1048576;
+
+    // Whether each capacity is in range at this mtu, and the low threshold at most the secondary's capacity.
+    pub fn in_range(self, mtu: u32) -> bool
+        ensures { λ r. ⌜ r ≡ test (queuesOk mtu self) ⌝ }
+    {
+        let least = wide(mtu);
+        capacity_ok(least, self.primary)
+            & capacity_ok(least, self.control)
+            & capacity_ok(2 * least, self.secondary)
+            & (self.threshold <= self.secondary)
+    }
+
+    // The queues' settings whose words stand in `s` from `at` on.
+    fn read(s: &[u8], at: usize) -> Queues
+        requires { ⌜ at + 16 ≤ length (now s) ⌝ }
+        ensures { λ r. ⌜ r ≡ queuesAt (now (s .entry)) at ⌝ }
+    {
+        Queues {
+            control: wire::get32(s, at),
+            primary: wire::get32(s, at + 4),
+            secondary: wire::get32(s, at + 8),
+            threshold: wire::get32(s, at + 12),
+        }
+    }
+
+    // Writes the words of the queues' settings to `s` from `at` on.
+    fn write(self, s: &mut [u8], at: usize)
+        requires { ⌜ at + 16 ≤ length (now s) ⌝ }
+        ensures { λ _. ⌜ now (s .exit) ≡ put (now (s .entry)) at (queuesBytes self) ⌝ }
+    {
+        wire::put32(s, at, self.control);
+        wire::put32(s, at + 4, self.primary);
+        wire::put32(s, at + 8, self.secondary);
+        wire::put32(s, at + 12, self.threshold);
+    }
+}
+
+impl Fairness {
+    pub const MAX_WEIGHT: u32 = 255;
+
+    pub const MAX_UNIT: u32 = 1024;
+
+    pub const MAX_TICKS: u32 = 10000;
+
+    pub const MAX_UNRESERVED: u32 = 2147483647;
+
+    pub const DEFAULT_AGE: u32 = 4;
+
+    pub const DEFAULT_LP: u32 = 64;
+
+    pub const DEFAULT_RAMP: u32 = 64;
+
+    // The fairness settings with the default coefficients.
+    pub fn usual(weight: u32, unit: u32, ticks: u32, unreserved: u32) -> Fairness
+        ensures { λ r. ⌜ r ≡ usualOf weight unit ticks unreserved ⌝ }
+    {
+        Fairness {
+            weight: weight,
+            unit: unit,
+            ticks: ticks,
+            unreserved: unreserved,
+            age: Fairness::DEFAULT_AGE,
+            lp: Fairness::DEFAULT_LP,
+            ramp: Fairness::DEFAULT_RAMP,
+        }
+    }
+
+    // Whether each fairness setting is in its range.
+    pub fn in_range(self) -> bool
+        ensures { λ r. ⌜ r ≡ test (fairnessOk self) ⌝ }
+    {
+        (1 <= self.weight)
+            & (self.weight <= Fairness::MAX_WEIGHT)
+            & (1 <= self.unit)
+            & (self.unit <= Fairness::MAX_UNIT)
+            & (1 <= self.ticks)
+            & (self.ticks <= Fairness::MAX_TICKS)
+            & (1 <= self.unreserved)
+            & (self.unreserved <= Fairness::MAX_UNRESERVED)
+            & age_ok(self.age)
+            & coef_ok(self.lp)
+            & coef_ok(self.ramp)
+    }
+
+    // The fairness settings whose words stand in `s` from `at` on.
+    fn read(s: &[u8], at: usize) -> Fairness
+        requires { ⌜ at + 28 ≤ length (now s) ⌝ }
+        ensures { λ r. ⌜ r ≡ fairnessAt (now (s .entry)) at ⌝ }
+    {
+        Fairness {
+            weight: wire::get32(s, at),
+            unit: wire::get32(s, at + 4),
+            ticks: wire::get32(s, at + 8),
+            unreserved: wire::get32(s, at + 12),
+            age: wire::get32(s, at + 16),
+            lp: wire::get32(s, at + 20),
+            ramp: wire::get32(s, at + 24),
+        }
+    }
+
+    // Writes the words of the fairness settings to `s` from `at` on.
+    fn write(self, s: &mut [u8], at: usize)
+        requires { ⌜ at + 28 ≤ length (now s) ⌝ }
+        ensures { λ _. ⌜ now (s .exit) ≡ put (now (s .entry)) at (fairnessBytes self) ⌝ }
+    {
+        wire::put32(s, at, self.weight);
+        wire::put32(s, at + 4, self.unit);
+        wire::put32(s, at + 8, self.ticks);
+        wire::put32(s, at + 12, self.unreserved);
+        wire::put32(s, at + 16, self.age);
+        wire::put32(s, at + 20, self.lp);
+        wire::put32(s, at + 24, self.ramp);
+    }
+}
+
+// Whether a queue's capacity lies from `least` to the largest.
+fn capacity_ok(least: u64, capacity: u32) -> bool
+    ensures { λ r. ⌜ r ≡ test (capacityOk least capacity) ⌝ }
+{
+    (least <= wide(capacity)) & (capacity <= Queues::MAX_CAPACITY)
+}
+
+// Whether an ageCoef is one of its five values.
+fn age_ok(x: u32) -> bool
+    ensures { λ r. ⌜ r ≡ test (ageOk x) ⌝ }
+{
+    (x == 1) | (x == 2) | (x == 4) | (x == 8) | (x == 16)
+}
+
+// Whether an lpCoef or a rampUp is one of its six values.
+fn coef_ok(x: u32) -> bool
+    ensures { λ r. ⌜ r ≡ test (coefOk x) ⌝ }
+{
+    (x == 16) | (x == 32) | (x == 64) | (x == 128) | (x == 256) | (x == 512)
+}
+
+// A 32-bit number as a 64-bit one.
+fn wide(x: u32) -> u64
+    ensures { λ r. ⌜ (r ≡ x) × (r ≤ 4294967295) ⌝ }
+{
+    x as u64
+}

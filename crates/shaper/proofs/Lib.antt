@@ -1,0 +1,4 @@
+pub mod Credit
+pub mod Charge
+pub mod Examples
+pub mod Kind

@@ -1,0 +1,4 @@
+pub mod Limits
+pub mod Credit
+pub mod Shaper
+pub mod Kind

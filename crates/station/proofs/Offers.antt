@@ -1,0 +1,161 @@
+-- The offers, row by row: rows stand in the order of their ranks, so 1 and 3 may be tried first, and the queue or the stage says the rest.
+-- Assumes nothing.
+use Prim.Native.Nat.{ℕ, zero, suc, _≤_, _<_}
+use mathlib.Core.Bool.{Bool, true, false, _&&_}
+use mathlib.Core.List.{List}
+use mathlib.Core.Path.{_≡_, refl, sym, ap, _∙_}
+use native.Mathlib.Omega.{arith}
+use lib.Dec.{eqb}
+use Rattle.decide.specs.Test.{test, facts}
+use Rattle.decide.specs.Refusal.{Fault, firstOf}
+use Rattle.decide.proofs.Refusal.{in-order}
+use Rattle.queue.specs.declared.Frame.{Frame}
+use Rattle.queue.specs.Frame.{frameOk, FrameOk, wordOf}
+use Rattle.queue.specs.Queue.{pushed, spaceOf}
+use Rattle.queue.proofs.Word.{same-test, frame-facts}
+use Rattle.flow.specs.declared.Line.{Line}
+use Rattle.flow.specs.declared.Way.{Way}
+use Rattle.flow.specs.Which.{permitsAll, sends, fed}
+use Rattle.flow.specs.Parts.{queueOf, capacityOf, stageHolds, withCredits, withStage, withQueue}
+use Rattle.flow.specs.Offer.{Offered, enterFaults, enteredOf, enterOf, needsOf, markOf, clientFaults, clientFrame, clientBy}
+use Rattle.flow.proofs.Offer.{enter-refused, enter-taken, client-full, client-barred, client-over, client-taken}
+use Rattle.station.specs.declared.Station.{Station}
+use Rattle.station.specs.Range.{stationOk, StationOk}
+use Rattle.station.specs.Answers.{withFlow, refusedOf, doneOf, doneBy}
+use Rattle.station.specs.Offers.{givenFrame, cutOf, cutFrame, offerFaults, broughtOf, offerOf, overFor, wayFor, offerClientFaults, stagedOf, staging, turnedOf, takenBy, offerClientOf}
+use Rattle.station.proofs.Range.{in-range-facts}
+
+-- ---- numbers that are cut
+
+-- what fits is not cut
+cut-small : (x : ℕ) → x ≤ 9216 → cutOf x ≡ x
+cut-small x h = omega arith
+
+module _ (mtu : ℕ) (small : mtu ≤ 9216) (class size hops mark : ℕ) where
+  -- a frame with a number that is cut is out of range before and after
+  cut-test : test (frameOk mtu (cutFrame class size hops mark)) ≡ test (frameOk mtu (givenFrame class size hops mark))
+  cut-test =
+      same-test (frameOk mtu (cutFrame class size hops mark)) (frameOk mtu (givenFrame class size hops mark))
+      (λ h. (omega arith, (omega arith, ((omega arith, omega arith), (omega arith, (omega arith, omega arith))))))
+      (λ h. (omega arith, (omega arith, ((omega arith, omega arith), (omega arith, (omega arith, omega arith))))))
+
+  cut-is : FrameOk mtu (givenFrame class size hops mark) → cutFrame class size hops mark ≡ givenFrame class size hops mark
+  cut-is ok =
+      rw
+      (cut-small size (omega (arith, ok .most)), cut-small hops (omega (arith, ok .hops)), cut-small class (omega (arith, ok .class)), cut-small mark (omega (arith, ok .mark)))
+
+-- the frame of the numbers, each cut, in a station in range
+module _ (st : Station) (e : test (stationOk st) ≡ true) (class size hops mark : ℕ) (x : Frame) (q : x ≡ cutFrame class size hops mark) where
+  ok : StationOk st
+  ok = in-range-facts st e
+
+  -- its test is that of the given frame,
+  pub cut-tested : (b : Bool) → test (frameOk (st .settings .mtu) x) ≡ b → test (frameOk (st .settings .mtu) (givenFrame class size hops mark)) ≡ b
+  cut-tested b t =
+      sym (cut-test (st .settings .mtu) (ok .settings .mtu-most) class size hops mark) ∙ sym (ap (λ (f : Frame). test (frameOk (st .settings .mtu) f)) q) ∙ t
+
+  module _ (t : test (frameOk (st .settings .mtu) x) ≡ true) where
+    given-ok : FrameOk (st .settings .mtu) (givenFrame class size hops mark)
+    given-ok = let f = givenFrame class size hops mark in frame-facts (st .settings .mtu) f (facts (frameOk (st .settings .mtu) f) (cut-tested true t))
+
+    -- which it is where it passes,
+    pub cut-given : x ≡ givenFrame class size hops mark
+    cut-given = q ∙ cut-is (st .settings .mtu) (ok .settings .mtu-most) class size hops mark given-ok
+
+    -- and which may be offered then
+    pub cut-offered : Offered (st .settings) (st .flow) (givenFrame class size hops mark)
+    cut-offered = record { settings = ok .settings; flow = ok .flow; frame = given-ok }
+
+-- ---- into a queue
+
+-- an answer by the queue's number is the queue's answer
+brought : (n : ℕ) (st : Station) (l : Line) (x : Frame) → doneBy n st (withFlow st (enteredOf n (st .flow) l x .flow)) ≡ broughtOf st (enteredOf n (st .flow) l x)
+unfolding doneBy enteredOf
+brought zero st l x = refl
+brought (suc n) st l x = refl
+
+module _ (st : Station) (l : Line) (x : Frame) where
+  -- 1 where the station is out of range
+  pub offer-lost : test (stationOk st) ≡ false → offerOf st l x ≡ refusedOf st 1
+  unfolding doneBy
+  offer-lost e = rw (in-order (offerFaults st l x) refl, e)
+
+  -- else 3 where the frame is
+  pub offer-coded : test (stationOk st) ≡ true → test (frameOk (st .settings .mtu) x) ≡ false → offerOf st l x ≡ refusedOf st 3
+  unfolding doneBy
+  offer-coded e f = rw (in-order (offerFaults st l x) refl, e, f)
+
+  module _ (e : test (stationOk st) ≡ true) (f : test (frameOk (st .settings .mtu) x) ≡ true) where
+    -- else what the queue says:
+    pub offer-brought : offerOf st l x ≡ broughtOf st (enterOf (st .settings) (st .flow) l x)
+    offer-brought =
+        ap (λ (n : ℕ). doneBy n st (withFlow st (enterOf (st .settings) (st .flow) l x .flow))) number
+        ∙ brought (firstOf (enterFaults (st .settings) (st .flow) l x)) st l x
+      where
+        number : firstOf (offerFaults st l x) ≡ firstOf (enterFaults (st .settings) (st .flow) l x)
+        number = rw (in-order (offerFaults st l x) refl, in-order (enterFaults (st .settings) (st .flow) l x) refl, e, f)
+
+    -- 4 where the size exceeds its space,
+    pub offer-full : spaceOf (queueOf (st .flow) l) (capacityOf (st .settings) l) < x .size → offerOf st l x ≡ refusedOf st 4
+    offer-full h = offer-brought ∙ ap (broughtOf st) (enter-refused (st .settings) (st .flow) l x h)
+
+    -- and elsewhere the frame stands last in it
+    pub offer-taken : x .size ≤ spaceOf (queueOf (st .flow) l) (capacityOf (st .settings) l)
+        → offerOf st l x ≡ doneOf (withFlow st (withQueue (st .flow) l (pushed (queueOf (st .flow) l) x)))
+    offer-taken h = offer-brought ∙ ap (broughtOf st) (enter-taken (st .settings) (st .flow) l x h)
+
+-- ---- into the stage
+
+-- an answer by the stage's number is the stage's answer
+staged : (n : ℕ) (st : Station) (w : Way) (x : Frame) → takenBy n st (clientBy n (st .settings) (st .flow) w x) ≡ stagedOf st (clientBy n (st .settings) (st .flow) w x)
+unfolding takenBy clientBy
+staged zero st w x = refl
+staged (suc n) st w x = refl
+
+module _ (st : Station) (class size hops : ℕ) where
+  -- 1 where the station is out of range
+  pub client-lost : test (stationOk st) ≡ false → offerClientOf st class size hops ≡ turnedOf st 1
+  unfolding takenBy
+  client-lost e = rw (in-order (offerClientFaults st class size hops) refl, e)
+
+  -- else 3 where the frame is
+  pub client-coded : test (stationOk st) ≡ true → test (frameOk (st .settings .mtu) (givenFrame class size hops 0)) ≡ false → offerClientOf st class size hops ≡ turnedOf st 3
+  unfolding takenBy
+  client-coded e f = rw (in-order (offerClientFaults st class size hops) refl, e, f)
+
+  module _ (e : test (stationOk st) ≡ true) (f : test (frameOk (st .settings .mtu) (givenFrame class size hops 0)) ≡ true) where
+    -- else what the stage says:
+    pub client-staged : offerClientOf st class size hops ≡ stagedOf st (staging st class size hops)
+    client-staged =
+        ap (λ (n : ℕ). takenBy n st (staging st class size hops)) number
+        ∙ staged (firstOf rows) st (wayFor st class) (clientFrame (wayFor st class) class size hops)
+      where
+        rows : List Fault
+        rows = clientFaults (st .settings) (st .flow) (wayFor st class) (overFor st size hops)
+
+        number : firstOf (offerClientFaults st class size hops) ≡ firstOf rows
+        number = rw (in-order (offerClientFaults st class size hops) refl, in-order rows refl, e, f)
+
+    -- 5 where it holds a frame;
+    pub client-occupied : stageHolds (st .flow) ≡ true → offerClientOf st class size hops ≡ turnedOf st 5
+    client-occupied h = client-staged ∙ ap (stagedOf st) (client-full (wayFor st class) (st .settings) (st .flow) class size hops (overFor st size hops) h)
+
+    module _ (h : stageHolds (st .flow) ≡ false) where
+      -- else 6 where a needed shaper does not permit;
+      pub client-denied : permitsAll (st .settings) (st .flow .credits) (needsOf (wayFor st class)) ≡ false → offerClientOf st class size hops ≡ turnedOf st 6
+      client-denied p = client-staged ∙ ap (stagedOf st) (client-barred (wayFor st class) (st .settings) (st .flow) class size hops (overFor st size hops) h p)
+
+      module _ (p : permitsAll (st .settings) (st .flow .credits) (needsOf (wayFor st class)) ≡ true) where
+        -- else 7 where an eligible frame would pass the congested fair rate;
+        pub client-passing : (eqb (markOf (wayFor st class)) 1 && overFor st size hops) ≡ true → offerClientOf st class size hops ≡ turnedOf st 7
+        client-passing o = client-staged ∙ ap (stagedOf st) (client-over (wayFor st class) (st .settings) (st .flow) class size hops (overFor st size hops) h p o)
+
+        -- and elsewhere the frame lies in the stage, with its mark, and the needed shapers are charged
+        pub client-entered : (eqb (markOf (wayFor st class)) 1 && overFor st size hops) ≡ false
+            → offerClientOf st class size hops ≡ record {
+              number = 0;
+              detail = 0;
+              mark = markOf (wayFor st class);
+              station = withFlow st (withStage (withCredits (st .flow) (fed (st .settings) (st .flow .credits) (sends (needsOf (wayFor st class)) size))) (wordOf (clientFrame (wayFor st class) class size hops)));
+            }
+        client-entered o = client-staged ∙ ap (stagedOf st) (client-taken (wayFor st class) (st .settings) (st .flow) class size hops (overFor st size hops) h p o)

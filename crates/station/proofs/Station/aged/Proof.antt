@@ -1,0 +1,14 @@
+-- The fairness state is that after the interval.
+-- Assumes nothing.
+use borrow.Author.Needs.{needs}
+use Rattle.station.proofs.Station.aged.Statement.{statement}
+use Rattle.station.proofs.Station.aged.Tie as tie
+
+age-requires : tie.Need-age-requires
+age-requires c κs = search needs
+
+returns : tie.Need-returns
+returns c = rw (c .age .ensures)
+
+pub aged-spec : {M : Type 1} → statement M
+aged-spec = tie.close (tie.spec age-requires returns)

@@ -1,0 +1,90 @@
+-- The rows are tried in their order: each return is one of them.
+-- Assumes nothing.
+use mathlib.Core.Path.{sym, _∙_}
+use Rattle.decide.specs.Test.{left, taken}
+use Rattle.fair.specs.Range.{ttlOk}
+use Rattle.station.specs.Range.{stationOk}
+use Rattle.station.proofs.Hear.{listen-own, listen-lost, listen-far, listen-self, listen-done}
+use borrow.Author.Needs.{needs}
+use Rattle.station.proofs.Station.listen.Statement.{statement}
+use Rattle.station.proofs.Station.listen.Tie as tie
+
+is-own-ringlet-requires : tie.Need-is-own-ringlet-requires
+is-own-ringlet-requires c κs = search needs
+
+refused-requires : tie.Need-refused-requires
+refused-requires c κs = search needs
+
+returns : tie.Need-returns
+returns c = let x = c .before .before .before .args in
+    let st = x .self in
+    c .refused .ensures ∙ sym (listen-own st (x .said) (sym (c .before .before .is-own-ringlet .ensures) ∙ c .before .if1 .taken))
+
+in-range-requires : tie.Need-in-range-requires
+in-range-requires c κs = search needs
+
+refused-requires-2 : tie.Need-refused-requires-2
+refused-requires-2 c κs = search needs
+
+returns-2 : tie.Need-returns-2
+returns-2 c = let x = c .before .before .before .before .before .args in
+    let st = x .self in
+    c .refused2 .ensures ∙ sym (listen-lost st (x .said) (sym (c .before .before .before .before .is-own-ringlet .ensures) ∙ c .before .before .before .if1 .left) (taken (stationOk st) (c .before .before .in-range .ensures) (c .before .if2 .taken)))
+
+cast-ttl-ok : tie.Need-cast-ttl-ok
+cast-ttl-ok c = search needs
+
+ttl-ok-requires : tie.Need-ttl-ok-requires
+ttl-ok-requires c κs = search needs
+
+refused-requires-3 : tie.Need-refused-requires-3
+refused-requires-3 c κs = search needs
+
+returns-3 : tie.Need-returns-3
+returns-3 c = let x = c .before .before .before .before .before .before .before .before .args in
+    let st = x .self in
+    c .refused3 .ensures ∙ sym (listen-far st (x .said) (sym (c .before .before .before .before .before .before .before .is-own-ringlet .ensures) ∙ c .before .before .before .before .before .before .if1 .left) (left (stationOk st) (c .before .before .before .before .before .in-range .ensures) (c .before .before .before .before .if2 .left)) (taken (ttlOk (x .said .ttl)) (c .before .before .ttl-ok .ensures) (c .before .if3 .taken)))
+
+is-own-address-requires : tie.Need-is-own-address-requires
+is-own-address-requires c κs = search needs
+
+refused-requires-4 : tie.Need-refused-requires-4
+refused-requires-4 c κs = search needs
+
+returns-4 : tie.Need-returns-4
+returns-4 c = let x = c .before .before .before .before .before .before .before .before .before .before .args in
+    let st = x .self in
+    c .refused4 .ensures ∙ sym (listen-self st (x .said) (sym (c .before .before .before .before .before .before .before .before .before .is-own-ringlet .ensures) ∙ c .before .before .before .before .before .before .before .before .if1 .left) (left (stationOk st) (c .before .before .before .before .before .before .before .in-range .ensures) (c .before .before .before .before .before .before .if2 .left)) (left (ttlOk (x .said .ttl)) (c .before .before .before .before .ttl-ok .ensures) (c .before .before .before .if3 .left)) (sym (c .before .before .is-own-address .ensures) ∙ c .before .if4 .taken))
+
+changed-requires : tie.Need-changed-requires
+changed-requires c κs = search needs
+
+done-requires : tie.Need-done-requires
+done-requires c κs = search needs
+
+returns-5 : tie.Need-returns-5
+returns-5 c = let x = c .before .before .before .before .before .before .before .before .before .before .before .args in
+    let st = x .self in
+    c .done .ensures
+    ∙ rw (c .before .changed .ensures) (sym (listen-done st (x .said) (sym (c .before .before .before .before .before .before .before .before .before .before .is-own-ringlet .ensures) ∙ c .before .before .before .before .before .before .before .before .before .if1 .left) (left (stationOk st) (c .before .before .before .before .before .before .before .before .in-range .ensures) (c .before .before .before .before .before .before .before .if2 .left)) (left (ttlOk (x .said .ttl)) (c .before .before .before .before .before .ttl-ok .ensures) (c .before .before .before .before .if3 .left)) (sym (c .before .before .before .is-own-address .ensures) ∙ c .before .before .if4 .left)))
+
+pub listen-spec : {M : Type 1} → statement M
+listen-spec =
+    tie.close
+    (tie.spec
+    is-own-ringlet-requires
+    refused-requires
+    returns
+    in-range-requires
+    refused-requires-2
+    returns-2
+    cast-ttl-ok
+    ttl-ok-requires
+    refused-requires-3
+    returns-3
+    is-own-address-requires
+    refused-requires-4
+    returns-4
+    changed-requires
+    done-requires
+    returns-5)

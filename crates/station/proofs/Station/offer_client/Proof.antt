@@ -1,0 +1,71 @@
+-- The rows are tried in their order: each return is one of them. A number that is cut is out of range as it was.
+-- Assumes nothing.
+use mathlib.Core.Bool.{true, false}
+use mathlib.Core.Path.{_≡_, sym, ap, _∙_}
+use Rattle.decide.specs.Test.{test, left, taken}
+use Rattle.queue.specs.Frame.{frameOk}
+use Rattle.station.specs.Range.{stationOk}
+use Rattle.station.specs.Offers.{clientFor}
+use Rattle.station.proofs.Offers.{cut-tested, cut-given, client-lost, client-coded, client-staged}
+use borrow.Author.Needs.{needs}
+use Rattle.station.proofs.Station.offer_client.Statement.{statement}
+use Rattle.station.proofs.Station.offer_client.Tie as tie
+
+-- the station is in range,
+in-range : (c : tie.After-frame-of) → test (stationOk (c .before .before .before .args .self)) ≡ true
+in-range c = left (stationOk (c .before .before .before .args .self)) (c .before .before .in-range .ensures) (c .before .if1 .left)
+
+-- and so is the frame
+frame-in-range : (c : tie.Else2) → test (frameOk (c .before .before .before .before .before .args .self .settings .mtu) (c .before .before .frame-of .result)) ≡ true
+frame-in-range c = left (frameOk (c .before .before .before .before .before .args .self .settings .mtu) (c .before .before .frame-of .result)) (c .before .in-range2 .ensures) (c .if2 .left)
+
+in-range-requires : tie.Need-in-range-requires
+in-range-requires c κs = search needs
+
+turned-down-requires : tie.Need-turned-down-requires
+turned-down-requires c κs = search needs
+
+returns : tie.Need-returns
+returns c = let x = c .before .before .before .args in
+    let st = x .self in
+    c .turned-down .ensures ∙ sym (client-lost st (x .class) (x .size) (x .hops) (taken (stationOk st) (c .before .before .in-range .ensures) (c .before .if1 .taken)))
+
+frame-of-requires : tie.Need-frame-of-requires
+frame-of-requires c κs = search needs
+
+in-range-requires-2 : tie.Need-in-range-requires-2
+in-range-requires-2 c κs = search needs
+
+turned-down-requires-2 : tie.Need-turned-down-requires-2
+turned-down-requires-2 c κs = search needs
+
+returns-2 : tie.Need-returns-2
+returns-2 c = let q = c .before .before .before in
+    let x = q .before .before .before .args in
+    let st = x .self in
+    c .turned-down2 .ensures ∙ sym (client-coded st (x .class) (x .size) (x .hops) (in-range q) (cut-tested st (in-range q) (x .class) (x .size) (x .hops) 0 (q .frame-of .result) (q .frame-of .ensures) false (taken (frameOk (st .settings .mtu) (q .frame-of .result)) (c .before .before .in-range2 .ensures) (c .before .if2 .taken))))
+
+client-requires : tie.Need-client-requires
+client-requires c κs = search needs
+
+returns-3 : tie.Need-returns-3
+returns-3 c = let q = c .before .before .before in
+    let x = q .before .before .before .args in
+    let st = x .self in
+    c .client .ensures
+    ∙ ap (clientFor st) (cut-given st (in-range q) (x .class) (x .size) (x .hops) 0 (q .frame-of .result) (q .frame-of .ensures) (frame-in-range (c .before)))
+    ∙ sym (client-staged st (x .class) (x .size) (x .hops) (in-range q) (cut-tested st (in-range q) (x .class) (x .size) (x .hops) 0 (q .frame-of .result) (q .frame-of .ensures) true (frame-in-range (c .before))))
+
+pub offer-client-spec : {M : Type 1} → statement M
+offer-client-spec =
+    tie.close
+    (tie.spec
+    in-range-requires
+    turned-down-requires
+    returns
+    frame-of-requires
+    in-range-requires-2
+    turned-down-requires-2
+    returns-2
+    client-requires
+    returns-3)

@@ -1,0 +1,71 @@
+-- The reading of a station.
+-- Assumes nothing.
+use Prim.Native.Nat.{ℕ, zero, suc}
+use mathlib.Core.Bool.{cond}
+use mathlib.Core.List.{List, [], _∷_}
+use lib.Dec.{eqb}
+use Rattle.decide.specs.Refusal.{Fault, firstOf}
+use Rattle.queue.specs.declared.Queue.{Queue}
+use Rattle.queue.specs.Frame.{frameOf}
+use Rattle.fair.specs.Start.{noneCounted}
+use Rattle.station.specs.declared.Station.{Station}
+use Rattle.station.specs.declared.Held.{Held}
+use Rattle.station.specs.declared.Reading.{Reading}
+use Rattle.station.specs.declared.Shown.{Shown}
+use Rattle.station.specs.Calls.{rangeFault}
+
+-- a queue: frames, bytes
+abbrev pub heldIn : Queue → Held
+heldIn q = record { frames = q .count; bytes = q .held }
+
+-- stage: frames (0 or 1), bytes
+unfoldable pub heldOn : ℕ → Held
+heldOn w = cond (eqb w 0) (record { frames = 0; bytes = 0 }) (record { frames = 1; bytes = frameOf w .size })
+
+-- the credits of M, A, B, C, D; what control, primary and secondary queue and the stage hold; the fairness state
+abbrev pub readingOf : Station → Reading
+readingOf st =
+    record {
+      credits = st .flow .credits;
+      control = heldIn (st .flow .control);
+      primary = heldIn (st .flow .primary);
+      secondary = heldIn (st .flow .secondary);
+      stage = heldOn (st .flow .stage);
+      fair = st .fair;
+    }
+
+abbrev pub showFaults : Station → List Fault
+showFaults st = rangeFault st ∷ []
+
+-- each word 0
+abbrev pub blankOf : Reading
+blankOf =
+    record {
+      credits = record { m = 0; a = 0; b = 0; c = 0; d = 0 };
+      control = record { frames = 0; bytes = 0 };
+      primary = record { frames = 0; bytes = 0 };
+      secondary = record { frames = 0; bytes = 0 };
+      stage = record { frames = 0; bytes = 0 };
+      fair =
+          record {
+            counters = noneCounted;
+            smoothed = noneCounted;
+            local = 0;
+            allowed = 0;
+            allowedc = 0;
+            own = 0;
+            congested = 0;
+            downstream = 0;
+            ttl = 0;
+            high = 0;
+            low = 0;
+            rate = 0;
+          };
+    }
+
+unfoldable pub shownBy : ℕ → Station → Shown
+shownBy zero st = record { number = 0; detail = 0; reading = readingOf st }
+shownBy (suc n) st = record { number = suc n; detail = 0; reading = blankOf }
+
+abbrev pub showOf : Station → Shown
+showOf st = shownBy (firstOf (showFaults st)) st

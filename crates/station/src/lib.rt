@@ -1,0 +1,250 @@
+// A station on one ringlet: settings, frames and credits, and the fairness state together. Every call takes any station and any numbers, refuses by
+// document 01's number, first fault first, and answers the station afterwards: unchanged where it refuses.
+ghost use mathlib.Core.Path.{_≡_};
+ghost use Rattle.decide.specs.Test.{test};
+ghost use Rattle.station.specs.Range.{stationOk};
+ghost use Rattle.station.specs.Answers.{refusedOf, doneOf, chosenOf, notChosenOf};
+ghost use Rattle.station.specs.Calls.{flagsOk, freshOf, startOf, tickedOf, tickOf, selectOf, agedOf, ageOf};
+
+mod entering;
+mod hearing;
+mod showing;
+
+use advert::Advert;
+use fair::Fair;
+use flow::Credits;
+use flow::Flow;
+use queue::Frame;
+use settings::Settings;
+
+// A station: what it was set to, its credits, queues and stage, and what it knows of rates and congestion.
+pub struct Station {
+    pub settings: Settings,
+    pub flow: Flow,
+    pub fair: Fair,
+}
+
+// What most calls answer: 0 or the number of the refusal, and the station afterwards.
+pub struct Done {
+    pub number: u8,
+    pub detail: u32,
+    pub station: Station,
+}
+
+// What a client's offer answers: 0 or the number of the refusal, the mark that its frame was given, and the station afterwards.
+pub struct Client {
+    pub number: u8,
+    pub detail: u32,
+    pub mark: u32,
+    pub station: Station,
+}
+
+// What goes next: where it comes from (0 nothing, 1 control, 2 primary, 3 secondary, 4 stage), the frame, and the station afterwards.
+pub struct Selected {
+    pub number: u8,
+    pub detail: u32,
+    pub origin: u32,
+    pub frame: Frame,
+    pub station: Station,
+}
+
+// What telling answers: 0 or the number of the refusal, and the frame that is advertised.
+pub struct Told {
+    pub number: u8,
+    pub detail: u32,
+    pub advert: Advert,
+}
+
+// How many frames a queue or the stage holds, and their bytes.
+pub struct Held {
+    pub frames: u32,
+    pub bytes: u32,
+}
+
+// A reading of a station: its 31 words are these numbers in this order, 5 credits, 8 of what is held, and the 18 of the fairness state.
+pub struct Reading {
+    pub credits: Credits,
+    pub control: Held,
+    pub primary: Held,
+    pub secondary: Held,
+    pub stage: Held,
+    pub fair: Fair,
+}
+
+// What showing answers: 0 or the number of the refusal, and the reading.
+pub struct Shown {
+    pub number: u8,
+    pub detail: u32,
+    pub reading: Reading,
+}
+
+impl Station {
+    // A station that has just started under these settings.
+    pub fn fresh(settings: Settings) -> Station
+        ensures { λ r. ⌜ r ≡ freshOf settings ⌝ }
+    {
+        let flow = Flow::start(settings);
+        let fair = Fair::start(settings);
+        Station {
+            settings: settings,
+            flow: flow,
+            fair: fair,
+        }
+    }
+
+    // Whether settings, flow and fairness state are each in range.
+    pub fn in_range(self) -> bool
+        ensures { λ r. ⌜ r ≡ test (stationOk self) ⌝ }
+    {
+        let settings = self.settings;
+        let flow = self.flow;
+        let fair = self.fair;
+        settings.in_range() & flow.in_range(settings) & fair.in_range(settings)
+    }
+
+    // Starts the station anew, whatever it was.
+    pub fn start(self, settings: Settings) -> Done
+        ensures { λ r. ⌜ r ≡ startOf self settings ⌝ }
+    {
+        if !settings.in_range() {
+            return self.refused(1);
+        }
+        let next = Station::fresh(settings);
+        next.done()
+    }
+
+    // A tick. The host says whether A, B and C traffic waits: 1 for yes, 0 for no.
+    pub fn tick(self, a: u64, b: u64, c: u64) -> Done
+        ensures { λ r. ⌜ r ≡ tickOf self a b c ⌝ }
+    {
+        if !self.in_range() {
+            return self.refused(1);
+        }
+        if !flags_ok(a, b, c) {
+            return self.refused(3);
+        }
+        let next = self.ticked(a == 1, b == 1, c == 1);
+        next.done()
+    }
+
+    // What goes next, by table 6.4. The frame leaves its queue, and is counted where it is eligible.
+    pub fn select(self) -> Selected
+        ensures { λ r. ⌜ r ≡ selectOf self ⌝ }
+    {
+        if !self.in_range() {
+            return self.not_chosen(1);
+        }
+        self.chosen()
+    }
+
+    // The end of an aging interval.
+    pub fn age(self) -> Done
+        ensures { λ r. ⌜ r ≡ ageOf self ⌝ }
+    {
+        if !self.in_range() {
+            return self.refused(1);
+        }
+        let next = self.aged();
+        next.done()
+    }
+
+    // The answer where a call was carried out and left this station.
+    fn done(self) -> Done
+        ensures { λ r. ⌜ r ≡ doneOf self ⌝ }
+    {
+        Done {
+            number: 0,
+            detail: 0,
+            station: self,
+        }
+    }
+
+    // The answer of a call that is turned down by this number: nothing is changed.
+    fn refused(self, number: u8) -> Done
+        ensures { λ r. ⌜ r ≡ refusedOf self number ⌝ }
+    {
+        Done {
+            number: number,
+            detail: 0,
+            station: self,
+        }
+    }
+
+    // The station after a tick.
+    fn ticked(self, a: bool, b: bool, c: bool) -> Station
+        ensures { λ r. ⌜ r ≡ tickedOf self a b c ⌝ }
+    {
+        let settings = self.settings;
+        let fair = self.fair;
+        let flow = self.flow;
+        let share = fair.share(settings);
+        let ticked = flow.tick(settings, share, a, b, c);
+        Station {
+            settings: settings,
+            flow: ticked,
+            fair: fair,
+        }
+    }
+
+    // The frame that goes next, and the station in which it left and was counted.
+    fn chosen(self) -> Selected
+        ensures { λ r. ⌜ r ≡ chosenOf self ⌝ }
+    {
+        let settings = self.settings;
+        let fair = self.fair;
+        let flow = self.flow;
+        let out = flow.select(settings);
+        let frame = out.frame;
+        let rest = out.flow;
+        let counted = fair.count(out.origin, frame.mark, frame.hops, frame.size);
+        let next = Station {
+            settings: settings,
+            flow: rest,
+            fair: counted,
+        };
+        Selected {
+            number: 0,
+            detail: 0,
+            origin: out.origin,
+            frame: frame,
+            station: next,
+        }
+    }
+
+    // The answer of a selection that is turned down by this number: no frame, and nothing is changed.
+    fn not_chosen(self, number: u8) -> Selected
+        ensures { λ r. ⌜ r ≡ notChosenOf self number ⌝ }
+    {
+        let none = Frame::of(queue::EMPTY);
+        Selected {
+            number: number,
+            detail: 0,
+            origin: 0,
+            frame: none,
+            station: self,
+        }
+    }
+
+    // The station after an interval.
+    fn aged(self) -> Station
+        ensures { λ r. ⌜ r ≡ agedOf self ⌝ }
+    {
+        let settings = self.settings;
+        let fair = self.fair;
+        let flow = self.flow;
+        let held = flow.secondary.held;
+        let aged = fair.age(settings, held);
+        Station {
+            settings: settings,
+            flow: flow,
+            fair: aged,
+        }
+    }
+}
+
+// Whether each of three flags is 0 or 1.
+fn flags_ok(a: u64, b: u64, c: u64) -> bool
+    ensures { λ r. ⌜ r ≡ test (flagsOk a b c) ⌝ }
+{
+    (a <= 1) & ((b <= 1) & (c <= 1))
+}

@@ -1,0 +1,6 @@
+pub mod Integers
+pub mod Paper
+pub mod Rows
+pub mod Refused
+pub mod Promises
+pub mod Examples

@@ -1,0 +1,199 @@
+-- The paper's signed formulas are those by natural numbers: the join, the end credit, the range.
+-- Assumes nothing.
+use Prim.Native.Nat.{ℕ, _+_, _-_, _*_, _≤_, _<_, min, max}
+use mathlib.Core.Bool.{Bool, true, false, cond, not, _&&_, _||_, true≢false}
+use mathlib.Core.Logic.{_⊎_, inl, inr, ⊎-elim}
+use mathlib.Core.Path.{_≡_, refl, sym, ap, _∙_}
+use native.Mathlib.Omega.{arith}
+use borrow.Author.Tests.{leb-true, ltb-true, le-leb, lt-leb, lt-ltb, le-ltb, not-true, not-false}
+use lib.Dec.{leb, ltb}
+use lib.IntN.{ℤ, pos, negsuc, subℕ, natAbs, _+ℤ_, _-ℤ_, negℤ}
+use lib.Signed.{leZ, ltZ}
+use Rattle.decide.specs.Test.{Holds, test, both, either, and-i, or-r, facts, passes}
+use Rattle.decide.proofs.Cases.{by-cases, true-or-false}
+use Rattle.shaper.specs.Limits.{limitsOk, sameLimits}
+use Rattle.plain.specs.declared.Plain.{Plain}
+use Rattle.plain.specs.Plain.{plainNeed, plainDepth, plainJoined, plainEnd}
+use Rattle.plain.specs.Range.{plainRange, Sound, Same, Small}
+use Rattle.plain.specs.Ceiling.{depthBelow}
+use Rattle.plain.proofs.Laws.{in-range-sound, depth-least, depth-is, need-is, plain-eq, Ends, ends}
+use Rattle.plain.proofs.Ceiling.{depth-ceiling, ceiling-depth}
+use Rattle.summary.specs.declared.Summary.{Summary}
+use Rattle.summary.specs.Summary.{smallerℤ, largerℤ, gain, ceilingOf, needℤ, joined, endℤ}
+use Rattle.summary.specs.Range.{countsOk, ceilingOk, needOk, inRange}
+use Rattle.summary.specs.Plain.{plainFrom, signedFrom}
+use Rattle.summary.proofs.Integers.{sub-eq, sub-add, sub-le, sub-order, pos-sub, pos-less, pos-add, less-sub, neg-is, below-not, smaller-is, larger-pos, smaller-pos}
+
+-- ---- a summary and its natural numbers
+
+pub signed-eq : (a b : Summary) → a .limits ≡ b .limits → a .events ≡ b .events → a .accrued ≡ b .accrued → a .sent ≡ b .sent → a .ceiling ≡ b .ceiling → a .need ≡ b .need → a ≡ b
+signed-eq a b l e x s c n = λ i. record { limits = l i; events = e i; accrued = x i; sent = s i; ceiling = c i; need = n i }
+
+-- ---- join
+
+module _ (p q : Plain) (same : Same p q) where
+  ceiling-signed : ceilingOf (signedFrom p) (signedFrom q) ≡ subℕ (p .limits .hi) (plainDepth p q)
+  unfolding ceilingOf
+  ceiling-signed =
+      let d = depth-least p q in
+      rw (pos-less (q .accrued) (q .sent), sub-add (p .limits .hi) (p .depth) (q .accrued) (q .sent))
+      (smaller-is (p .limits .hi + q .accrued) (p .depth + q .sent) (q .limits .hi) (q .depth) (p .limits .hi) (plainDepth p q)
+      (λ h. ⊎-elim (λ e. omega arith) (λ e. omega arith) (depth-is p q))
+      (λ h. ⊎-elim (λ e. omega arith) (λ e. omega arith) (depth-is p q)))
+
+  -- need is never negative: it is the natural number
+  pub need-signed : needℤ (signedFrom p) (signedFrom q) ≡ pos (plainNeed p q)
+  unfolding needℤ
+  need-signed =
+      rw (pos-less (p .accrued) (p .sent), less-sub (q .need) (p .accrued) (p .sent), larger-pos (p .need) (q .need + p .sent) (p .accrued), smaller-pos (max (p .need) (q .need + p .sent - p .accrued)) (p .limits .hi + 1), below-not (subℕ (p .limits .hi) (p .depth)) (pos (q .need)), pos-sub (q .need), sub-order (q .need) 0 (p .limits .hi) (p .depth))
+      (⊎-elim
+      (λ h. rw (lt-leb (q .need + p .depth) (p .limits .hi + 0) (omega arith)) (ap pos (sym (h .1))))
+      (λ h. rw (le-leb (q .need + p .depth) (p .limits .hi + 0) (omega arith)) (ap pos (sym (h .1))))
+      (need-is p q))
+
+  pub joined-signed : joined (signedFrom p) (signedFrom q) ≡ signedFrom (plainJoined p q)
+  unfolding joined
+  joined-signed = signed-eq (joined (signedFrom p) (signedFrom q)) (signedFrom (plainJoined p q)) refl refl refl refl ceiling-signed (ap natAbs need-signed)
+
+-- ---- the end credit
+
+module _ (p : Plain) (c : ℕ) (sound : Sound p) (most : c ≤ p .limits .hi) (enough : p .need ≤ c) where
+  pub end-signed : endℤ (signedFrom p) c ≡ pos (plainEnd p c)
+  end-signed =
+      let e = ends p c sound most enough in
+      rw (pos-less (p .accrued) (p .sent), pos-add c (p .accrued) (p .sent))
+      (smaller-is (c + p .accrued) (p .sent) (p .limits .hi) (p .depth) (plainEnd p c) 0
+      (λ h. ⊎-elim (λ k. omega (arith, e .gained, e .capped)) (λ k. omega (arith, e .gained, e .capped)) (e .exact))
+      (λ h. ⊎-elim (λ k. omega (arith, e .gained, e .capped)) (λ k. omega (arith, e .gained, e .capped)) (e .exact))
+      ∙ sym (pos-sub (plainEnd p c)))
+
+-- ---- the range
+
+pub same-bool : (x y : Bool) → (x ≡ true → y ≡ true) → (y ≡ true → x ≡ true) → x ≡ y
+same-bool true y f g = sym (f refl)
+same-bool false true f g = g refl
+same-bool false false f g = refl
+
+-- the test that compares sub-le, as a fact on sums
+sums : (m n p q : ℕ) → leZ (subℕ m n) (subℕ p q) ≡ true → m + q ≤ p + n
+sums m n p q e = leb-true (m + q) (p + n) (sym (sub-order m n p q) ∙ e)
+
+module _ (p : Plain) where
+  hi-gain : pos (p .limits .hi) +ℤ gain (signedFrom p) ≡ subℕ (p .limits .hi + p .accrued) (p .sent)
+  hi-gain = ap (λ z. pos (p .limits .hi) +ℤ z) (pos-less (p .accrued) (p .sent)) ∙ pos-add (p .limits .hi) (p .accrued) (p .sent)
+
+  need-gain : pos (p .need) +ℤ gain (signedFrom p) ≡ subℕ (p .need + p .accrued) (p .sent)
+  need-gain = ap (λ z. pos (p .need) +ℤ z) (pos-less (p .accrued) (p .sent)) ∙ pos-add (p .need) (p .accrued) (p .sent)
+
+  range-plain : inRange (signedFrom p) ≡ true → Holds (plainRange p)
+  unfolding inRange
+  range-plain h =
+      let s = signedFrom p in
+      let a = both (test (limitsOk (p .limits))) (leb (p .events) 1000000 && (countsOk s && (ceilingOk s && needOk s))) h in
+      let b = both (leb (p .events) 1000000) (countsOk s && (ceilingOk s && needOk s)) (a .1) in
+      let k = both (countsOk s) (ceilingOk s && needOk s) (b .1) in
+      let n = both (ceilingOk s) (needOk s) (k .1) in
+      let k2 = both (leb (p .accrued) (65535 * p .events)) (leb (p .sent) (9216 * p .events)) (k .0) in
+      let e = both (leZ (s .ceiling) (pos (p .limits .hi))) (leZ (s .ceiling) (pos (p .limits .hi) +ℤ gain s) && leZ (negℤ (pos (9216 * p .events))) (s .ceiling)) (n .0) in
+      let e2 = both (leZ (s .ceiling) (pos (p .limits .hi) +ℤ gain s)) (leZ (negℤ (pos (9216 * p .events))) (s .ceiling)) (e .1) in
+      let m = both (leb (p .need) (p .limits .hi + 1)) (ltb (p .limits .hi) (p .need) || (leZ (pos 0) (s .ceiling) && leZ (pos 0) (pos (p .need) +ℤ gain s))) (n .1) in
+      let few = leb-true (p .events) 1000000 (b .0) in
+      let accrued-max = leb-true (p .accrued) (65535 * p .events) (k2 .0) in
+      let sent-max = leb-true (p .sent) (9216 * p .events) (k2 .1) in
+      let gained = sums (p .limits .hi) (p .depth) (p .limits .hi + p .accrued) (p .sent) (rw hi-gain at (e2 .0)) in
+      let lowest = sums 0 (9216 * p .events) (p .limits .hi) (p .depth) (rw neg-is at (e2 .1)) in
+      let need-most = leb-true (p .need) (p .limits .hi + 1) (m .0) in
+      (facts (limitsOk (p .limits)) (a .0), (few, (omega arith, usable (m .1))))
+    where
+      usable : (ltb (p .limits .hi) (p .need) || (leZ (pos 0) (subℕ (p .limits .hi) (p .depth)) && leZ (pos 0) (pos (p .need) +ℤ gain (signedFrom p)))) ≡ true → (p .limits .hi < p .need) ⊎ ((p .depth ≤ p .limits .hi) × (p .sent ≤ p .need + p .accrued))
+      usable u =
+          ⊎-elim
+          (λ h. inl (ltb-true (p .limits .hi) (p .need) h))
+          (λ h. inr
+          (let v = both (leZ (pos 0) (subℕ (p .limits .hi) (p .depth))) (leZ (pos 0) (pos (p .need) +ℤ gain (signedFrom p))) h in
+          let x = sums 0 0 (p .limits .hi) (p .depth) (v .0) in
+          let y = sums 0 0 (p .need + p .accrued) (p .sent) (rw need-gain at (v .1)) in
+          omega arith))
+          (either (ltb (p .limits .hi) (p .need)) (leZ (pos 0) (subℕ (p .limits .hi) (p .depth)) && leZ (pos 0) (pos (p .need) +ℤ gain (signedFrom p))) u)
+
+  plain-range : Holds (plainRange p) → inRange (signedFrom p) ≡ true
+  unfolding inRange
+  plain-range h =
+      let s = signedFrom p in
+      let top : leZ (s .ceiling) (pos (p .limits .hi)) ≡ true = rw (pos-sub (p .limits .hi)) (sub-le (p .limits .hi) (p .depth) (p .limits .hi) 0 (omega arith)) in
+      let gained : leZ (s .ceiling) (pos (p .limits .hi) +ℤ gain s) ≡ true = rw hi-gain (sub-le (p .limits .hi) (p .depth) (p .limits .hi + p .accrued) (p .sent) (omega arith)) in
+      let lowest : leZ (negℤ (pos (9216 * p .events))) (s .ceiling) ≡ true = rw neg-is (sub-le 0 (9216 * p .events) (p .limits .hi) (p .depth) (omega arith)) in
+      let counts : countsOk s ≡ true = and-i (leb (p .accrued) (65535 * p .events)) (leb (p .sent) (9216 * p .events)) (le-leb (p .accrued) (65535 * p .events) (omega arith)) (le-leb (p .sent) (9216 * p .events) (omega arith)) in
+      let ceilings : ceilingOk s ≡ true = and-i (leZ (s .ceiling) (pos (p .limits .hi))) _ top (and-i (leZ (s .ceiling) (pos (p .limits .hi) +ℤ gain s)) _ gained lowest) in
+      let needs : needOk s ≡ true = and-i (leb (p .need) (p .limits .hi + 1)) _ (le-leb (p .need) (p .limits .hi + 1) (omega arith)) (usable (h .1 .1 .1)) in
+      and-i (test (limitsOk (p .limits))) (leb (p .events) 1000000 && (countsOk s && (ceilingOk s && needOk s))) (passes (limitsOk (p .limits)) (h .0))
+      (and-i (leb (p .events) 1000000) (countsOk s && (ceilingOk s && needOk s)) (le-leb (p .events) 1000000 (omega arith))
+      (and-i (countsOk s) (ceilingOk s && needOk s) counts (and-i (ceilingOk s) (needOk s) ceilings needs)))
+    where
+      usable : (p .limits .hi < p .need) ⊎ ((p .depth ≤ p .limits .hi) × (p .sent ≤ p .need + p .accrued)) → (ltb (p .limits .hi) (p .need) || (leZ (pos 0) (subℕ (p .limits .hi) (p .depth)) && leZ (pos 0) (pos (p .need) +ℤ gain (signedFrom p)))) ≡ true
+      usable (inl u) = rw (lt-ltb (p .limits .hi) (p .need) u)
+      usable (inr u) =
+          let x = sub-le 0 0 (p .limits .hi) (p .depth) (omega arith) in
+          let y : leZ (pos 0) (pos (p .need) +ℤ gain (signedFrom p)) ≡ true = rw need-gain (sub-le 0 0 (p .need + p .accrued) (p .sent) (omega arith)) in
+          or-r (ltb (p .limits .hi) (p .need)) _ (and-i (leZ (pos 0) (subℕ (p .limits .hi) (p .depth))) _ x y)
+
+  pub range-signed : inRange (signedFrom p) ≡ test (plainRange p)
+  range-signed =
+      same-bool (inRange (signedFrom p)) (test (plainRange p)) (λ h. passes (plainRange p) (range-plain h)) (λ h. plain-range (facts (plainRange p) h))
+
+-- ---- from a summary to its natural numbers and back
+
+-- a summary in range has its ceiling at most at hiLimit
+pub not-above : (s : Summary) → inRange s ≡ true → leZ (s .ceiling) (pos (s .limits .hi)) ≡ true
+unfolding inRange
+not-above s h =
+    let a = both (test (limitsOk (s .limits))) (leb (s .events) 1000000 && (countsOk s && (ceilingOk s && needOk s))) h in
+    let b = both (leb (s .events) 1000000) (countsOk s && (ceilingOk s && needOk s)) (a .1) in
+    let k = both (countsOk s) (ceilingOk s && needOk s) (b .1) in
+    let n = both (ceilingOk s) (needOk s) (k .1) in
+    both (leZ (s .ceiling) (pos (s .limits .hi))) (leZ (s .ceiling) (pos (s .limits .hi) +ℤ gain s) && leZ (negℤ (pos (9216 * s .events))) (s .ceiling)) (n .0) .0
+
+pub signed-plain : (s : Summary) → leZ (s .ceiling) (pos (s .limits .hi)) ≡ true → signedFrom (plainFrom s) ≡ s
+signed-plain s h = signed-eq (signedFrom (plainFrom s)) s refl refl refl refl (ceiling-depth (s .limits .hi) (s .ceiling) h) refl
+
+pub plain-signed : (p : Plain) → plainFrom (signedFrom p) ≡ p
+plain-signed p = plain-eq (plainFrom (signedFrom p)) p refl refl refl refl (depth-ceiling (p .limits .hi) (p .depth)) refl
+
+module _ (s : Summary) (h : inRange s ≡ true) where
+  pub same-signed : signedFrom (plainFrom s) ≡ s
+  same-signed = signed-plain s (not-above s h)
+
+  -- in range by the paper is in range by natural numbers
+  pub in-range-plain : Holds (plainRange (plainFrom s))
+  in-range-plain = facts (plainRange (plainFrom s)) (sym (range-signed (plainFrom s)) ∙ ap inRange same-signed ∙ h)
+
+pub in-range-signed : (p : Plain) → Holds (plainRange p) → inRange (signedFrom p) ≡ true
+in-range-signed p h = range-signed p ∙ passes (plainRange p) h
+
+-- a ceiling above hiLimit is out of range
+pub above-out : (s : Summary) → ltZ (pos (s .limits .hi)) (s .ceiling) ≡ true → inRange s ≡ false
+above-out s a = by-cases (true-or-false (inRange s)) (λ h. absurd (true≢false (sym (not-above s h) ∙ not-true (leZ (s .ceiling) (pos (s .limits .hi))) (sym (below-not (pos (s .limits .hi)) (s .ceiling)) ∙ a)))) (λ h. h)
+
+-- one that is not has the range of its natural numbers
+pub below-range : (s : Summary) → ltZ (pos (s .limits .hi)) (s .ceiling) ≡ false → test (plainRange (plainFrom s)) ≡ inRange s
+below-range s b =
+    sym (range-signed (plainFrom s))
+    ∙ ap inRange (signed-plain s (not-false (leZ (s .ceiling) (pos (s .limits .hi))) (sym (below-not (pos (s .limits .hi)) (s .ceiling)) ∙ b)))
+
+-- ---- a join by way of the natural numbers
+
+pub joined-fits : (p q : Plain) → Small p → Small q → (plainJoined p q .events ≤ 2000000) × (plainJoined p q .depth ≤ 9223372036854775807)
+unfolding plainDepth
+joined-fits p q s t = (omega arith, omega arith)
+
+module _ (a b : Summary) (ha : inRange a ≡ true) (hb : inRange b ≡ true) (same : test (sameLimits (a .limits) (b .limits)) ≡ true) where
+  pub joined-plain : joined a b ≡ signedFrom (plainJoined (plainFrom a) (plainFrom b))
+  joined-plain =
+      ap (λ s. joined s b) (sym (same-signed a ha))
+      ∙ ap (λ s. joined (signedFrom (plainFrom a)) s) (sym (same-signed b hb))
+      ∙ joined-signed (plainFrom a) (plainFrom b) (facts (sameLimits (a .limits) (b .limits)) same)
+
+pub settled-plain : (s : Summary) (c : ℕ) → inRange s ≡ true → c ≤ s .limits .hi → s .need ≤ c → natAbs (endℤ s c) ≡ plainEnd (plainFrom s) c
+settled-plain s c h most enough =
+    ap (λ x. natAbs (endℤ x c)) (sym (same-signed s h))
+    ∙ ap natAbs (end-signed (plainFrom s) c (in-range-sound (plainFrom s) (in-range-plain s h)) most enough)

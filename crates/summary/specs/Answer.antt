@@ -1,0 +1,88 @@
+-- What the calls of a summary answer: refusals by the rows that apply, else what the paper says.
+-- Assumes nothing.
+use Prim.Native.Nat.{ℕ, zero, suc, _+_}
+use mathlib.Core.Bool.{Bool, true, cond, not, _&&_}
+use mathlib.Core.List.{List, [], _∷_}
+use lib.Dec.{leb, ltb}
+use lib.IntN.{natAbs}
+use Rattle.decide.specs.Test.{test}
+use Rattle.decide.specs.Refusal.{Fault, fault, firstOf}
+use Rattle.shaper.specs.declared.Limits.{Limits}
+use Rattle.shaper.specs.declared.Event.{Event}
+use Rattle.shaper.specs.declared.Event.the-variants.{Waiting, Idle, Send}
+use Rattle.shaper.specs.Limits.{limitsOk, sameLimits}
+use Rattle.summary.specs.declared.Summary.{Summary}
+use Rattle.summary.specs.declared.Answer.{Answer}
+use Rattle.summary.specs.declared.Outcome.{Outcome}
+use Rattle.summary.specs.Summary.{emptyOf, singleOf, joined, endℤ}
+use Rattle.summary.specs.Range.{inRange}
+
+-- a refusal's number alone, or the summary where there is none
+abbrev pub answered : ℕ → Summary → Answer
+answered zero s = Answer.Summed s
+answered (suc n) s = Answer.Refused (suc n)
+
+-- ---- of no event and of one
+
+-- 1: a setting is outside its range
+abbrev pub emptyFaults : Limits → List Fault
+emptyFaults l = fault 1 (not (test (limitsOk l))) ∷ []
+
+unfoldable pub emptyAnswer : Limits → Answer
+emptyAnswer l = answered (firstOf (emptyFaults l)) (emptyOf l)
+
+-- amount per tick 0 to 65,535; frame size 16 to mtu
+abbrev pub validEvent : Limits → Event → Bool
+validEvent l (Waiting x) = leb x 65535
+validEvent l (Idle x) = leb x 65535
+validEvent l (Send z) = leb 16 z && leb z (l .mtu)
+
+-- 1: a setting is outside its range. 3: the event's number is
+abbrev pub singleFaults : Limits → Event → List Fault
+singleFaults l e = fault 1 (not (test (limitsOk l))) ∷ fault 3 (not (validEvent l e)) ∷ []
+
+unfoldable pub singleAnswer : Limits → Event → Answer
+singleAnswer l e = answered (firstOf (singleFaults l e)) (singleOf l e)
+
+-- ---- join
+
+-- 3: a summary (its settings too) is outside its range. 10: joined summaries have different settings. 9: over 1,000,000 events
+abbrev pub joinFaults : Summary → Summary → List Fault
+joinFaults a b =
+    fault 3 (not (inRange a))
+    ∷ fault 3 (not (inRange b))
+    ∷ fault 10 (not (test (sameLimits (a .limits) (b .limits))))
+    ∷ fault 9 (ltb 1000000 (a .events + b .events))
+    ∷ []
+
+unfoldable pub joinOf : Summary → Summary → Answer
+joinOf a b = answered (firstOf (joinFaults a b)) (joined a b)
+
+-- a further join, where the first was not refused
+abbrev pub andThen : Answer → (Summary → Answer) → Answer
+andThen (Answer.Summed s) f = f s
+andThen (Answer.Refused n) f = Answer.Refused n
+
+-- ---- settle
+
+-- 3: the summary or the starting credit is outside its range
+abbrev pub settleFaults : Summary → ℕ → List Fault
+settleFaults s c = fault 3 (not (inRange s)) ∷ fault 3 (ltb (s .limits .hi) c) ∷ []
+
+-- From credit c: permitted throughout exactly if c ≥ need, ending at min(c + gain, ceiling).
+abbrev pub settled : ℕ → Summary → ℕ → Outcome
+settled zero s c = cond (leb (s .need) c) (Outcome.Permitted (natAbs (endℤ s c))) Outcome.NotPermitted
+settled (suc n) s c = Outcome.Refused (suc n)
+
+unfoldable pub settleOf : Summary → ℕ → Outcome
+settleOf s c = settled (firstOf (settleFaults s c)) s c
+
+-- document 01's number of each answer
+abbrev pub answerNumber : Answer → ℕ
+answerNumber (Answer.Summed s) = 0
+answerNumber (Answer.Refused n) = n
+
+abbrev pub outcomeNumber : Outcome → ℕ
+outcomeNumber (Outcome.Permitted c) = 0
+outcomeNumber Outcome.NotPermitted = 0
+outcomeNumber (Outcome.Refused n) = n

@@ -1,0 +1,4 @@
+pub mod Summary
+pub mod Range
+pub mod Answer
+pub mod Plain

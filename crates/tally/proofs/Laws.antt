@@ -1,0 +1,196 @@
+-- A step is the join with one event's summary, since peak is level + depth: what a tick adds to the level is what a join takes off the depth. And it
+-- keeps the bounds, whatever the event holds. Assumes nothing.
+use Prim.Native.Nat.{ℕ, _+_, _-_, _≤_, _<_, min, max}
+use mathlib.Core.List.{List, [], _∷_}
+use mathlib.Core.Logic.{_⊎_, inl, inr}
+use mathlib.Core.Path.{_≡_, refl, sym, ap, subst, _∙_}
+use native.Mathlib.Omega.{arith}
+use Rattle.decide.specs.Test.{Holds, split, _≡?_}
+use Rattle.decide.proofs.Cases.{by-cases}
+use Rattle.shaper.specs.declared.Limits.{Limits}
+use Rattle.shaper.specs.declared.Event.{Event}
+use Rattle.shaper.specs.declared.Event.the-variants.{Send}
+use Rattle.shaper.specs.Limits.{limitsOk}
+use Rattle.shaper.specs.Credit.{AllValid}
+use Rattle.plain.specs.declared.Plain.{Plain}
+use Rattle.plain.specs.Plain.{plainEmpty, plainSingle, plainDepth, plainJoined, plainOf}
+use Rattle.plain.specs.Range.{plainRange, Sound, Same}
+use Rattle.plain.proofs.Laws.{sound-in-range, need-is, plain-eq, joined-sound, joined-assoc, empty-left, empty-right}
+use Rattle.plain.proofs.Meaning.{single-limits, plain-limits, alike, single-sound, plain-sound}
+use Rattle.tally.specs.declared.Tally.{Tally}
+use Rattle.tally.specs.Tally.{AnEvent, base, startOf, pickOf, fallOf, barOf, stepOf, plainAt, Within, Ready}
+use Rattle.tally.proofs.Cases.{pick-send, pick-tick, fall-max, bar-never, bar-level}
+use Rattle.shaper.specs.Kind.{eventOf}
+use Rattle.shaper.proofs.Kind.{event-1, event-2, event-3}
+use Rattle.tally.proofs.Events.{kinds, number-max}
+
+-- ---- bounds, whatever the events hold
+
+pub start-within : (lo : ℕ) → Within 0 (startOf lo)
+start-within lo = omega arith
+
+-- the bounds of few events are within those of more
+pub within-more : (m n : ℕ) (t : Tally) → m ≤ n → Within m t → Within n t
+within-more m n t h w = omega arith
+
+pub step-within : (rise k v n : ℕ) (t : Tally) → Within n t → rise ≤ 1048576 → v ≤ 65535 → Within (n + 1) (stepOf rise k v t)
+step-within rise k v n t w hr hv =
+    let f = fall-max k rise in
+    by-cases (split (k ≡? 3))
+    (λ h. let a = pick-send k (t .accrued) (t .accrued + v) h in
+    let b = pick-send k (t .level - v) (t .level + v) h in
+    omega arith)
+    (λ h. let a = pick-tick k (t .accrued) (t .accrued + v) h in
+    let b = pick-tick k (t .level - v) (t .level + v) h in
+    omega arith)
+
+-- ---- a step is a join: the numbers
+
+-- a tick's need is 0, and leaves need as it is
+keep-need : (hi need depth sent accrued x : ℕ) → need ≤ hi + 1 → (hi < need) ⊎ ((depth ≤ hi) × (sent ≤ need + accrued)) →
+    ((hi < 0 + depth) × (x ≡ hi + 1)) ⊎ ((0 + depth ≤ hi) × (x ≡ min (max need (0 + sent - accrued)) (hi + 1))) → x ≡ need
+keep-need hi need depth sent accrued x h (inl u) (inl e) = omega arith
+keep-need hi need depth sent accrued x h (inl u) (inr e) = omega arith
+keep-need hi need depth sent accrued x h (inr u) (inl e) = omega arith
+keep-need hi need depth sent accrued x h (inr u) (inr e) = omega arith
+
+module _ (a L v : ℕ) where
+  tick-sent : a + v + base - (L + v) ≡ a + base - L + 0
+  tick-sent = omega arith
+
+  send-sent : L ≤ base + a → v ≤ L → a + base - (L - v) ≡ a + base - L + v
+  send-sent h g = omega arith
+
+module _ (p L v : ℕ) (h : L ≤ p) where
+  tick-depth : (f : ℕ) → max p (L + v + f) - (L + v) ≡ max (p - L + 0 - v) f
+  tick-depth f = omega arith
+
+  send-depth : v ≤ L → max p (L - v + 0) - (L - v) ≡ max (p - L + v - 0) v
+  send-depth g = let e : max p (L - v + 0) ≡ p = omega arith in rw e (omega arith)
+
+owed : (lo a L : ℕ) → L ≤ base + a → lo + 1 + (a + base - L) - a ≡ base + lo + 1 - L
+owed lo a L h = omega arith
+
+less-min : (b x y : ℕ) → b - min x y ≡ max (b - y) (b - x)
+less-min b x y = omega arith
+
+cut-max : (x y h : ℕ) → min (max x y) h ≡ min (max (min x h) y) h
+cut-max x y h = omega arith
+
+above : (lo hi d : ℕ) → lo + 1 + d ≤ hi → d < hi - lo
+above lo hi d h = omega arith
+
+-- where the ceiling is at most loLimit, no credit permits a send
+never-need : (lo hi d L low x : ℕ) → hi ≤ 1048576 → hi < lo + 1 + d → x ≡ hi + 1 → min (base + lo + 1 - min (barOf (hi - lo) d L) low) (hi + 1) ≡ x
+never-need lo hi d L low x h g e = let b = bar-never (hi - lo) d L (omega arith) in omega arith
+
+-- elsewhere it asks for loLimit + 1 after what was gained
+some-need : (lo hi a d L low x : ℕ) → L ≤ base + a → lo + 1 + d ≤ hi → x ≡ min (max (min (base + lo + 1 - low) (hi + 1)) (lo + 1 + (a + base - L) - a)) (hi + 1) →
+    min (base + lo + 1 - min (barOf (hi - lo) d L) low) (hi + 1) ≡ x
+some-need lo hi a d L low x w g e =
+    ap (λ (y : ℕ). min (base + lo + 1 - min y low) (hi + 1)) (bar-level (hi - lo) d L (above lo hi d g))
+    ∙ ap (λ (y : ℕ). min y (hi + 1)) (less-min (base + lo + 1) L low)
+    ∙ cut-max (base + lo + 1 - low) (base + lo + 1 - L) (hi + 1)
+    ∙ ap (λ (y : ℕ). min (max (min (base + lo + 1 - low) (hi + 1)) y) (hi + 1)) (sym (owed lo a L w))
+    ∙ sym e
+
+-- ---- a step is a join
+
+-- the summary of a tick whose own cut lies f below hiLimit
+abbrev tickOf : Limits → ℕ → ℕ → Plain
+tickOf l v f = record { limits = l; events = 1; accrued = v; sent = 0; depth = f; need = 0 }
+
+module _ (l : Limits) (n : ℕ) (t : Tally) (p : Ready l n t) (v : ℕ) (hv : v ≤ 65535) where
+  tick-step : (f : ℕ) →
+      plainAt l (n + 1) (record { accrued = t .accrued + v; level = t .level + v; peak = max (t .peak) (t .level + v + f); low = t .low })
+      ≡ plainJoined (plainAt l n t) (tickOf l v f)
+  unfolding plainDepth
+  tick-step f =
+      plain-eq _ _ refl refl refl (tick-sent (t .accrued) (t .level) v) (tick-depth (t .peak) (t .level) v (p .within .peak-min) f)
+      (sym (keep-need (l .hi) _ _ _ _ _ (omega arith) (p .sound .1 .1) (need-is (plainAt l n t) (tickOf l v f))))
+
+  send-step : plainAt l (n + 1) (stepOf (l .hi - l .lo) 3 v t) ≡ plainJoined (plainAt l n t) (plainSingle l (Send v))
+  unfolding plainDepth pickOf fallOf
+  send-step =
+      let w = p .within in
+      let g : v ≤ t .level = omega (arith, w .level-min, p .few) in
+      plain-eq _ _ refl refl (omega arith) (send-sent (t .accrued) (t .level) v (w .level-max) g) (send-depth (t .peak) (t .level) v (w .peak-min) g)
+      (by-cases (need-is (plainAt l n t) (plainSingle l (Send v)))
+      (λ h. never-need (l .lo) (l .hi) _ _ _ _ (omega arith) (h .0) (h .1))
+      (λ h. some-need (l .lo) (l .hi) (t .accrued) _ _ _ _ (w .level-max) (h .0) (h .1)))
+
+module _ (l : Limits) (n : ℕ) (t : Tally) (p : Ready l n t) (k v : ℕ) (e : AnEvent l k v) where
+  abbrev next : Tally
+  next = stepOf (l .hi - l .lo) k v t
+
+  abbrev single : Plain
+  single = plainSingle l (eventOf k v)
+
+  small : v ≤ 65535
+  small = number-max l k v e (p .sound .0)
+
+  -- Join of 1 then 2, where 2 is one event.
+  pub step-joined : plainAt l (n + 1) next ≡ plainJoined (plainAt l n t) single
+  unfolding pickOf fallOf
+  step-joined =
+      by-cases (kinds l k v e)
+      (λ h. rw (h, event-1 v) (tick-step l n t p v small 0))
+      (λ g. by-cases g
+      (λ h. rw (h, event-2 v) (tick-step l n t p v small (l .hi - l .lo)))
+      (λ h. rw (h, event-3 v) (send-step l n t p v small)))
+
+  single-is-sound : Sound single
+  single-is-sound = single-sound l (p .sound .0) (eventOf k v) (e .valid)
+
+  single-same : Same (plainAt l n t) single
+  single-same = alike l (plainAt l n t) single refl (single-limits l (eventOf k v))
+
+  pub step-sound : Sound (plainAt l (n + 1) next)
+  step-sound = subst (λ (s : Plain). Sound s) (sym step-joined) (joined-sound (plainAt l n t) single (p .sound) single-is-sound single-same)
+
+  -- a walk goes on
+  pub step-ready : n < 1000000 → Ready l (n + 1) next
+  step-ready h =
+      record {
+        few = omega arith;
+        within = step-within (l .hi - l .lo) k v n t (p .within) (rise-max (p .sound .0)) small;
+        sound = step-sound;
+      }
+    where
+      rise-max : Holds (limitsOk l) → l .hi - l .lo ≤ 1048576
+      rise-max ok = omega arith
+
+  -- an event goes over from what is left to what is tallied, and the summary of the whole stays
+  pub step-rest : (es : List Event) → AllValid l es → plainJoined (plainAt l n t) (plainOf l (eventOf k v ∷ es)) ≡ plainJoined (plainAt l (n + 1) next) (plainOf l es)
+  step-rest es a =
+      sym
+      (joined-assoc (plainAt l n t) single (plainOf l es) (p .sound) single-is-sound (plain-sound l (p .sound .0) es a) single-same
+      (alike l single (plainOf l es) (single-limits l (eventOf k v)) (plain-limits l es)))
+      ∙ ap (λ (s : Plain). plainJoined s (plainOf l es)) (sym step-joined)
+
+-- ---- the beginning and the end
+
+pub start-empty : (l : Limits) → plainAt l 0 (startOf (l .lo)) ≡ plainEmpty l
+start-empty l = plain-eq _ _ refl refl refl refl refl (omega arith)
+
+pub start-ready : (l : Limits) → Holds (limitsOk l) → Ready l 0 (startOf (l .lo))
+start-ready l ok =
+    record {
+      few = omega arith;
+      within = start-within (l .lo);
+      sound = subst (λ (s : Plain). Sound s) (sym (start-empty l)) (plain-sound l ok [] tt);
+    }
+
+-- before the first event all is left,
+pub start-rest : (l : Limits) → Holds (limitsOk l) → (es : List Event) → AllValid l es → plainJoined (plainAt l 0 (startOf (l .lo))) (plainOf l es) ≡ plainOf l es
+start-rest l ok es a =
+    ap (λ (s : Plain). plainJoined s (plainOf l es)) (start-empty l)
+    ∙ (rw (plain-limits l es) at (empty-left (plainOf l es) (plain-sound l ok es a)))
+
+-- and after the last none
+pub end-rest : (l : Limits) (n : ℕ) (t : Tally) → Ready l n t → plainJoined (plainAt l n t) (plainOf l []) ≡ plainAt l n t
+end-rest l n t p = empty-right (plainAt l n t) (p .sound)
+
+-- what a walk ends with is a summary in the paper's range
+pub ready-in-range : (l : Limits) (n : ℕ) (t : Tally) → Ready l n t → Holds (plainRange (plainAt l n t))
+ready-in-range l n t p = sound-in-range (plainAt l n t) (p .sound) (p .few)

@@ -1,0 +1,3 @@
+mod Cases
+pub mod Events
+pub mod Laws

@@ -1,0 +1,5 @@
+pub mod Places
+pub mod Puts
+pub mod Numbers
+pub mod Laid
+pub mod Signs

@@ -1,0 +1,3 @@
+pub mod Wire
+pub mod Parts
+pub mod Signed

@@ -1,0 +1,118 @@
+-- The answers of `path`: each refusal is a row of the definition, and the hops moved are the length of the list of links.
+-- Assumes nothing.
+use mathlib.Core.Path.{_≡_, refl, sym, ap, _∙_}
+use mathlib.Core.Bool.{Bool, true, false, cond}
+use mathlib.Core.List.{[], _∷_}
+use Prim.Native.Nat.{ℕ, zero, suc, _*_, _≤_, _<_}
+use native.Mathlib.Omega.{arith}
+use lib.ListN.{length}
+use Rattle.decide.specs.Test.{test}
+use Rattle.decide.specs.Refusal.{fault, firstOf, Given}
+use Rattle.decide.proofs.Refusal.{in-order}
+use Rattle.ring.specs.Choosing.{badSize, badWord, badIndex, placeFaults, Placed}
+use Rattle.ring.proofs.Faults.{then, then-none, place-then, exactly-by, placed as placed-of}
+use Rattle.wrap.specs.declared.Outcome.{Outcome}
+use Rattle.wrap.specs.declared.Outcome.the-variants.{Moved, Refused}
+use Rattle.wrap.specs.declared.Walk.{Walk}
+use Rattle.wrap.specs.Walking.{Course, atHome, walkOf, sideOf, wholeOf, badHome, pathFaults, refusedOr, movedOf, pathOf, numberOf}
+use Rattle.wrap.proofs.Courses.{Usable, short, all-usable}
+
+module _ (stations own target links home : ℕ) where
+  abbrev place : ℕ
+  place = firstOf (placeFaults stations own target links)
+
+  abbrev whole : Course
+  whole = wholeOf stations own target links home
+
+  abbrev answer : ℕ → Outcome
+  answer n = refusedOr n (movedOf whole)
+
+  abbrev row : Bool → ℕ
+  row b = cond b 3 0
+
+  opened : pathOf stations own target links home ≡ answer (then place (row (test (badHome home))))
+  unfolding pathOf
+  opened = ap answer (place-then stations own target links (fault 3 (test (badHome home)) ∷ []) refl)
+
+  -- ---- the rows of the answer
+
+  pub refused-place : (n : ℕ) → n ≡ place → (n ≡ 0 → ⊥) → Refused n ≡ pathOf stations own target links home
+  refused-place zero e f = absurd (f refl)
+  refused-place (suc n) e f = sym (opened ∙ ap (λ (m : ℕ). answer (then m (row (test (badHome home))))) (sym e))
+
+  module _ (placed : place ≡ 0) where
+    after : {b : Bool} → test (badHome home) ≡ b → pathOf stations own target links home ≡ answer (row b)
+    after f = opened ∙ ap (λ (m : ℕ). answer (then m (row (test (badHome home))))) placed ∙ ap (λ (c : Bool). answer (row c)) f
+
+    pub refused-home : test (badHome home) ≡ true → Refused 3 ≡ pathOf stations own target links home
+    refused-home f = sym (after f)
+
+    pub moved : test (badHome home) ≡ false → {w : Walk} → w ≡ walkOf whole → Moved (w .delivered) (w .hops) ≡ pathOf stations own target links home
+    moved f e = ap (λ (x : Walk). Moved (x .delivered) (x .hops)) e ∙ sym (after f)
+
+  -- ---- "Given exactly when"
+
+  numbered : (n : ℕ) → numberOf (answer n) ≡ n
+  numbered zero = refl
+  numbered (suc n) = refl
+
+  pub number-first : numberOf (pathOf stations own target links home) ≡ firstOf (pathFaults stations own target links home)
+  unfolding pathOf
+  number-first = numbered (firstOf (pathFaults stations own target links home))
+
+  pub refused-exactly : (n : ℕ) → 0 < n
+      → (pathOf stations own target links home ≡ Refused n → Given (pathFaults stations own target links home) n)
+      × (Given (pathFaults stations own target links home) n → pathOf stations own target links home ≡ Refused n)
+  unfolding pathOf
+  refused-exactly zero h = absurd (omega arith)
+  refused-exactly (suc n) h = exactly-by (pathFaults stations own target links home) refl answer numberOf numbered (suc n) h
+
+  -- ---- the path's length
+
+  -- an answer with hops is that of the whole course, between two stations of a ring
+  told : (delivered : Bool) (hops : ℕ) → pathOf stations own target links home ≡ Moved delivered hops
+      → Placed stations own target links × (Moved delivered hops ≡ movedOf whole)
+  told delivered hops e =
+      let g = go (then place (row (test (badHome home)))) (sym opened ∙ e) in
+      (placed-of stations own target links (then-none place (row (test (badHome home))) (g .0)), g .1)
+    where
+      go : (n : ℕ) → answer n ≡ Moved delivered hops → (n ≡ 0) × (Moved delivered hops ≡ movedOf whole)
+      go zero p = (refl, sym p)
+      go (suc n) p = let z : _≡_ {A = ℕ} 0 1 = cc in absurd (omega arith)
+
+  -- The hops moved are the path's length, at most twice the stations, delivered or not; they fit a byte; and every link of the path is usable.
+  pub record PathLength (delivered : Bool) (hops : ℕ) : Type 0 where
+    pub counted : hops ≡ length (wholeOf stations own target links home .links)
+    pub within : hops ≤ 2 * stations
+    pub small : hops < 127
+    pub delivers : delivered ≡ wholeOf stations own target links home .delivered
+    pub crosses : Usable links (wholeOf stations own target links home .links)
+
+  pub path-length : (delivered : Bool) (hops : ℕ) → pathOf stations own target links home ≡ Moved delivered hops → PathLength delivered hops
+  path-length delivered hops e =
+      let t = told delivered hops e in
+      let same = t .1 in
+      let n : hops ≡ length (whole .links) = cc in
+      let l = short stations links target (sideOf home) (2 * stations) atHome own in
+      let p = t .0 in
+      record {
+        counted = n;
+        within = omega arith;
+        small = omega arith;
+        delivers = cc;
+        crosses = all-usable stations links target (sideOf home) (2 * stations) atHome own;
+      }
+
+  -- a number that is given is 1 or 3
+  pub refused-small : (n : ℕ) → pathOf stations own target links home ≡ Refused n → n ≤ 3
+  refused-small n e =
+      let f = sym (ap numberOf e) ∙ number-first ∙ in-order (pathFaults stations own target links home) refl in
+      let b = four (test (badSize stations)) (test (badWord stations links)) (test (badIndex stations own target)) (test (badHome home)) in
+      omega (arith, f, b)
+    where
+      four : (a b c d : Bool) → cond a 1 (cond b 3 (cond c 3 (cond d 3 0))) ≤ 3
+      four true b c d = omega arith
+      four false true c d = omega arith
+      four false false true d = omega arith
+      four false false false true = omega arith
+      four false false false false = omega arith

@@ -1,0 +1,68 @@
+//! Writes what the programs must print.
+//!
+//! `expected summarize < INPUT`: what the summary program prints for this input.
+//! `expected vectors < CASES`: what the vectors program prints for this case file.
+//! `expected ring < CASES`: what each call of this case file answers.
+//! `expected station < SCRIPT`: what each call of this script answers.
+
+use model::station_script::Script;
+use model::{cases, ring_cases, text};
+use std::env;
+use std::io::{self, BufRead, Read, Write};
+use std::process::ExitCode;
+
+fn summarize() -> Result<(), String> {
+    let mut input = Vec::new();
+    let read = io::stdin().lock().read_to_end(&mut input);
+    read.map_err(|fault| fault.to_string())?;
+    write(&text::print(&input))
+}
+
+fn vectors() -> Result<(), String> {
+    for line in io::stdin().lock().lines() {
+        let line = line.map_err(|fault| fault.to_string())?;
+        if let Some(case) = cases::parse(&line) {
+            write(&case.print()?)?;
+        }
+    }
+    Ok(())
+}
+
+/// Each line's call and what it answers.
+fn lines(mut print: impl FnMut(&str) -> Result<Option<String>, String>) -> Result<(), String> {
+    for line in io::stdin().lock().lines() {
+        let line = line.map_err(|fault| fault.to_string())?;
+        if let Some(text) = print(&line)? {
+            write(&text)?;
+        }
+    }
+    Ok(())
+}
+
+fn station() -> Result<(), String> {
+    let mut script = Script::default();
+    lines(|line| script.print(line))
+}
+
+fn write(text: &str) -> Result<(), String> {
+    let written = io::stdout().lock().write_all(text.as_bytes());
+    written.map_err(|fault| fault.to_string())
+}
+
+fn main() -> ExitCode {
+    let arguments: Vec<String> = env::args().skip(1).collect();
+    let done = match arguments.iter().map(String::as_str).collect::<Vec<_>>()[..] {
+        ["summarize"] => summarize(),
+        ["vectors"] => vectors(),
+        ["ring"] => lines(ring_cases::print),
+        ["station"] => station(),
+        _ => Err("usage: expected summarize|vectors|ring|station".to_string()),
+    };
+    match done {
+        Ok(()) => ExitCode::SUCCESS,
+        Err(fault) => {
+            eprintln!("expected: {fault}");
+            ExitCode::from(2)
+        }
+    }
+}

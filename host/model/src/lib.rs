@@ -1,0 +1,28 @@
+//! A model of shaper records and their summaries, ringlet choice and path, and the
+//! station, as the paper defines them.
+//!
+//! It shares no code with the library. It is slow and direct: every sum is kept
+//! in 128 bits, a record's summary is joined from its events one by one, and a frame
+//! moves over the ring link by link.
+
+#![forbid(unsafe_code)]
+
+pub mod cases;
+pub mod host;
+pub mod lent;
+pub mod line;
+pub mod make;
+pub mod make_call;
+pub mod make_station;
+pub mod random;
+pub mod record;
+pub mod refusal;
+pub mod report;
+pub mod ring;
+pub mod ring_cases;
+pub mod station;
+pub mod station_call;
+pub mod station_script;
+pub mod summary;
+pub mod tally;
+pub mod text;

@@ -1,0 +1,173 @@
+//! Stations to try: plain settings, random settings and settings just out of range.
+
+use crate::random::Random;
+use crate::station::settings::{self, WORDS};
+use crate::station::Station;
+
+/// Small limits and queues: mtu 64, every shaper 100, 300, 50; queues of 256 bytes, low
+/// threshold 128; weight 2, unit 4, 10 ticks, unreservedRate 10,000; 4, 64, 64.
+pub const PLAIN: [u32; WORDS] = [
+    0x0200,
+    0x5e00_0001,
+    0,
+    64,
+    100,
+    300,
+    50,
+    100,
+    300,
+    50,
+    100,
+    300,
+    50,
+    100,
+    300,
+    50,
+    100,
+    300,
+    50,
+    256,
+    256,
+    256,
+    128,
+    2,
+    4,
+    10,
+    10_000,
+    4,
+    64,
+    64,
+];
+
+/// The plain settings with some words replaced.
+pub fn words(changes: &[(usize, u32)]) -> [u32; WORDS] {
+    let mut words = PLAIN;
+    for (at, word) in changes {
+        words[*at] = *word;
+    }
+    words
+}
+
+/// A fresh station of the plain settings with some words replaced by others in range.
+pub fn station(changes: &[(usize, u32)]) -> Station {
+    let bytes = settings::to_bytes(&words(changes));
+    Station::new(settings::read(&bytes).expect("settings in range"))
+}
+
+fn extreme(random: &mut Random, least: u32, most: u32) -> u32 {
+    random.often_extreme(i128::from(least), i128::from(most)) as u32
+}
+
+fn between(random: &mut Random, least: u32, most: u32) -> u32 {
+    random.between(i128::from(least), i128::from(most)) as u32
+}
+
+/// Settings anywhere in range, often at an end.
+fn wide(random: &mut Random) -> [u32; WORDS] {
+    let mtu = extreme(random, 64, 9_216);
+    let mut words = [0; WORDS];
+    words[3] = mtu;
+    for shaper in 0..5 {
+        let lo = extreme(random, mtu, 65_536);
+        words[4 + 3 * shaper] = lo;
+        words[5 + 3 * shaper] = extreme(random, lo + 1, 1_048_576);
+        words[6 + 3 * shaper] = extreme(random, 0, 65_535);
+    }
+    words[19] = extreme(random, mtu, 1_048_576);
+    words[20] = extreme(random, mtu, 1_048_576);
+    words[21] = extreme(random, 2 * mtu, 1_048_576);
+    words[22] = extreme(random, 0, words[21]);
+    words[23] = extreme(random, 1, 255);
+    words[24] = extreme(random, 1, 1_024);
+    words[25] = extreme(random, 1, 10_000);
+    words[26] = extreme(random, 1, 2_147_483_647);
+    words
+}
+
+/// Settings with which frames come and go: limits of a few frames, rates to match.
+fn lively(random: &mut Random) -> [u32; WORDS] {
+    let mtu = between(random, 64, 300);
+    let mut words = [0; WORDS];
+    words[3] = mtu;
+    for shaper in 0..5 {
+        let lo = mtu + between(random, 0, 100);
+        words[4 + 3 * shaper] = lo;
+        words[5 + 3 * shaper] = lo + 1 + between(random, 0, 6 * mtu);
+        words[6 + 3 * shaper] = between(random, 0, 2 * mtu);
+    }
+    words[19] = between(random, mtu, 6 * mtu);
+    words[20] = between(random, mtu, 6 * mtu);
+    words[21] = between(random, 2 * mtu, 12 * mtu);
+    words[22] = between(random, 0, words[21] / 2);
+    words[23] = between(random, 1, 4);
+    words[24] = between(random, 1, 8);
+    words[25] = between(random, 1, 20);
+    words[26] = between(random, 1, 200_000);
+    if random.one_in(2) {
+        let large = 128 * mtu;
+        words[19..=21].copy_from_slice(&[large, large, large]);
+    }
+    words
+}
+
+/// Valid settings.
+pub fn settings(random: &mut Random) -> [u32; WORDS] {
+    const SLOW: [u32; 6] = [16, 32, 64, 128, 256, 512];
+    let mut words = match random.below(5) {
+        0 => wide(random),
+        _ => lively(random),
+    };
+    words[0] = between(random, 0, 65_535);
+    words[1] = random.word() as u32;
+    words[2] = random.below(2) as u32;
+    words[27] = random.pick(&[1, 2, 4, 8, 16]);
+    words[28] = random.pick(&SLOW);
+    words[29] = random.pick(&SLOW);
+    if random.one_in(4) {
+        eager(random, &mut words);
+    }
+    words
+}
+
+/// Little is unreserved, soon congested, and counters last: the smoothed rate may come
+/// to exceed what is unreserved.
+fn eager(random: &mut Random, words: &mut [u32; WORDS]) {
+    words[22] = words[22].min(40);
+    words[25] = 1;
+    words[26] = between(random, 50, 300);
+    words[27] = random.pick(&[8, 16]);
+    words[28] = 16;
+}
+
+/// A word of the settings moved to an end of its range, just past it, or anywhere.
+pub fn settings_near(random: &mut Random) -> [u32; WORDS] {
+    let mut words = settings(random);
+    let at = random.below(WORDS);
+    let (mtu, lo, secondary) = (words[3], words[4.max(at - at.min(1))], words[21]);
+    let near = match at {
+        0 => [65_535, 65_536],
+        2 => [1, 2],
+        3 => random.pick(&[[64, 63], [9_216, 9_217]]),
+        4..=18 => match (at - 4) % 3 {
+            0 => random.pick(&[[mtu, mtu - 1], [65_536, 65_537]]),
+            1 => random.pick(&[[lo + 1, lo], [1_048_576, 1_048_577]]),
+            _ => [65_535, 65_536],
+        },
+        19 | 20 => random.pick(&[[mtu, mtu - 1], [1_048_576, 1_048_577]]),
+        21 => random.pick(&[[2 * mtu, 2 * mtu - 1], [1_048_576, 1_048_577]]),
+        22 => [secondary, secondary + 1],
+        23 => random.pick(&[[1, 0], [255, 256]]),
+        24 => random.pick(&[[1, 0], [1_024, 1_025]]),
+        25 => random.pick(&[[1, 0], [10_000, 10_001]]),
+        26 => random.pick(&[[1, 0], [2_147_483_647, 2_147_483_648]]),
+        27 => random.pick(&[[16, 32], [1, 0], [2, 3]]),
+        28 | 29 => random.pick(&[[16, 8], [512, 1_024], [64, 65]]),
+        _ => [0, u32::MAX],
+    };
+    words[at] = match random.below(6) {
+        0 => near[0],
+        1 => random.word() as u32,
+        _ => near[1],
+    };
+    words
+}

@@ -1,0 +1,66 @@
+//! What a differential test says when a call differs.
+
+use crate::lent::Lent;
+use crate::record::{EVENT_LENGTH, HEADER_LENGTH};
+use crate::text;
+
+/// The error is the message to print.
+pub type Outcome<T> = Result<T, String>;
+
+/// Hex in the case file's notation, a repeated event written `N*HEX`.
+pub fn notation(bytes: &[u8]) -> String {
+    let (header, events) = bytes.split_at(bytes.len().min(HEADER_LENGTH));
+    let mut words = vec![text::encode(header)];
+    let parts: Vec<&[u8]> = events.chunks(EVENT_LENGTH).collect();
+    for run in parts.chunk_by(|one, next| one == next) {
+        let hex = text::encode(run[0]);
+        words.push(match run.len() {
+            1 => hex,
+            times => format!("{times}*{hex}"),
+        });
+    }
+    words.join(" ")
+}
+
+/// One call's inputs, for the message when it differs.
+pub struct Call<'a> {
+    pub function: &'static str,
+    pub slices: Vec<(&'static str, &'a [u8])>,
+    pub start: Option<u64>,
+}
+
+impl Call<'_> {
+    pub fn fault(&self, what: &str) -> String {
+        let mut fault = format!("{}: {what}", self.function);
+        for (name, bytes) in &self.slices {
+            let hex = match *name {
+                "record" => notation(bytes),
+                _ => text::encode(bytes),
+            };
+            fault += &format!("\n  {name} ({} bytes): {hex}", bytes.len());
+        }
+        if let Some(start) = self.start {
+            fault += &format!("\n  start: {start}");
+        }
+        fault
+    }
+
+    pub fn same_answer(&self, expected: u64, got: u64) -> Outcome<()> {
+        if expected == got {
+            return Ok(());
+        }
+        Err(self.fault(&format!("answer {got:#018x}, model {expected:#018x}")))
+    }
+
+    pub fn same_bytes(&self, name: &str, expected: &[u8], lent: &Lent) -> Outcome<()> {
+        if !lent.guards_intact() {
+            return Err(self.fault(&format!("bytes beside the lent {name} changed")));
+        }
+        if lent.bytes() == expected {
+            return Ok(());
+        }
+        let got = text::encode(lent.bytes());
+        let expected = text::encode(expected);
+        Err(self.fault(&format!("{name} afterwards\n  {got}, model\n  {expected}")))
+    }
+}

@@ -1,0 +1,80 @@
+//! The case file.
+
+use model::cases;
+use model::text;
+use std::collections::{BTreeMap, BTreeSet};
+
+const FILE: &str = include_str!("../cases.txt");
+
+fn printed(line: &str) -> String {
+    cases::parse(line).unwrap().print().unwrap()
+}
+
+#[test]
+fn every_case_prints_and_every_refusal_is_there() {
+    let mut names = BTreeSet::new();
+    let mut outcomes: BTreeMap<String, usize> = BTreeMap::new();
+    for case in FILE.lines().filter_map(cases::parse) {
+        assert!(names.insert(case.name), "{} comes twice", case.name);
+        let text = case.print().unwrap();
+        let first = text.lines().nth(1).unwrap().to_string();
+        *outcomes.entry(first).or_default() += 1;
+    }
+    for number in [1, 2, 3, 9, 10] {
+        assert!(outcomes.contains_key(&format!("refused {number}")));
+    }
+    assert!(outcomes.contains_key("events 1000000"));
+}
+
+#[test]
+fn comments_and_empty_lines_print_nothing() {
+    for line in ["", "  ", "# words"] {
+        assert!(cases::parse(line).is_none());
+    }
+}
+
+#[test]
+fn steps_repeat_and_pieces_join() {
+    let header = "0e00 1000 4000 64000000 2c010000";
+    let whole = printed(&format!(
+        "x {header} 3*060003004000 2*060001000100060002000100"
+    ));
+    let pieces = printed(&format!(
+        "x {header} 060003004000 | {header} 2*060003004000 \
+         060001000100 060002000100 060001000100 | {header} 060002000100"
+    ));
+    assert_eq!(whole, pieces);
+    assert!(whole.starts_with("x\nevents 7\n"));
+    assert_eq!(printed("nothing"), "nothing\nrefused 2\n");
+}
+
+#[test]
+fn the_first_refused_piece_counts_before_a_refused_join() {
+    let header = "0e00 1000 4000 64000000 2c010000";
+    let other = "0e00 1000 4100 64000000 2c010000";
+    assert_eq!(printed(&format!("x {header} | {other}")), "x\nrefused 10\n");
+    let line = format!("x {header} | {other} | {header} 060003000f00");
+    assert_eq!(printed(&line), "x\nrefused 3\n");
+}
+
+#[test]
+fn a_word_that_is_no_step_is_named() {
+    for word in ["0", "xy", "a*00", "2*", "-1*00"] {
+        let line = format!("x {word}");
+        let fault = cases::parse(&line).unwrap().print().unwrap_err();
+        assert!(fault.contains(word), "{fault}");
+    }
+}
+
+#[test]
+fn the_example_prints_as_the_document_says() {
+    let example = FILE
+        .lines()
+        .find(|line| line.starts_with("example "))
+        .unwrap();
+    let hex = example.strip_prefix("example ").unwrap();
+    assert_eq!(
+        printed(example),
+        format!("example\n{}", text::print(hex.as_bytes()))
+    );
+}
