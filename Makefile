@@ -1,16 +1,28 @@
-# make test   proves every crate, tries the must-fail edits, runs the programs, then everything outside the crates
-# make demo   the summary of document 01's example, by the real program
-# make bench  ns per call of the library, beside plain C that does the same work
-# make expect writes anew what the programs are expected to print, by the independent model
-.PHONY: test demo bench expect soak clean
+# make test    proves every crate, tries the must-fail edits, runs the programs, then everything outside the crates
+# make demo    the summary of document 01's example, by the real program, and a minute of a station's life, by a host in C
+# make install puts rpr.h, librpr.a and rpr.pc under $(DESTDIR)$(PREFIX); make uninstall takes them away
+# make bench   ns per call of the library, beside plain C that does the same work
+# make expect  writes anew what the programs are expected to print, by the independent model
+# make soak    the differential tests, with another SEED and as many CALLS as you like
+# make fuzz    random and damaged calls on the library for SECONDS seconds, led by the branches that it takes
+.PHONY: test demo install uninstall bench expect soak fuzz clean
+PREFIX ?= /usr/local
+DESTDIR ?=
 SEED ?= 1
 CALLS ?= 1000000
+SECONDS ?= 60
 
 test:
 	tools/test
 
 demo:
 	tools/demo
+
+install:
+	@PREFIX="$(PREFIX)" DESTDIR="$(DESTDIR)" tools/install
+
+uninstall:
+	@PREFIX="$(PREFIX)" DESTDIR="$(DESTDIR)" tools/install --remove
 
 bench:
 	tools/bench
@@ -20,6 +32,9 @@ expect:
 
 soak:
 	tools/soak $(SEED) $(CALLS)
+
+fuzz:
+	tools/fuzz $(SECONDS)
 
 clean:
 	rm -rf target host/model/target

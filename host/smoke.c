@@ -1,74 +1,220 @@
-/* Calls each function of the library once or twice as a host would, and says what differs from document 01. */
-#include <stdio.h>
-#include <string.h>
+/* Calls each function about records and rings as a host would, and says what differs from document 01. */
+#include <stdlib.h>
 
-#include "rpr.h"
+#include "smoke.h"
 
-static int failures;
+enum { RECORD, FIRST, SECOND, ROOM };
 
-static void expect(const char *what, uint64_t got, uint64_t want) {
-    if (got == want) return;
-    printf("%s: %llu, not %llu\n", what, (unsigned long long)got, (unsigned long long)want);
+/* Document 01's limits, mtu 64, loLimit 100, hiLimit 300, and events. */
+#define HEADER 14, 0, 16, 0, 64, 0, 100, 0, 0, 0, 44, 1, 0, 0
+#define WAITING(amount) 6, 0, 1, 0, (amount), 0
+#define IDLE(amount) 6, 0, 2, 0, (amount), 0
+#define SEND(size) 6, 0, 3, 0, (size), 0
+
+/* ---- records ---- */
+
+static void summarize(const char *what, const uint8_t *bytes, size_t length, uint64_t want) {
+    lend(RECORD, bytes, length);
+    lend_filled(ROOM, 0xaa, RPR_SUMMARY_LENGTH);
+    answered(what, rpr_summarize(LENT(RECORD), LENT(ROOM)), ROOM, want);
+}
+
+/* The room holds a summary with document 01's limits. */
+static void holds(const char *what, uint32_t events, uint64_t accrued, uint64_t sent, int64_t ceiling, uint64_t need) {
+    struct rpr_summary got, want = {64, 100, 300, events, accrued, sent, ceiling, need};
+    memcpy(&got, slices[ROOM].memory + GUARD, sizeof got);
+    if (memcmp(&got, &want, sizeof got) == 0) return;
+    printf("%s: events %u accrued %llu sent %llu ceiling %lld need %llu\n", what, got.events,
+           (unsigned long long)got.accrued, (unsigned long long)got.sent, (long long)got.ceiling,
+           (unsigned long long)got.need);
     failures++;
 }
 
-/* Document 01's record: mtu 64, loLimit 100, hiLimit 300; waiting tick 150, sends of 60 and 64, idle tick 50. */
-static const uint8_t example[] = {14, 0, 16, 0, 64, 0, 100, 0, 0, 0, 44, 1, 0, 0, 6, 0, 1, 0, 150, 0, 6, 0, 3, 0, 60, 0,
-                                  6,  0, 3,  0, 64, 0, 6,   0, 2, 0, 50, 0};
-
-static void records(void) {
-    uint8_t room[RPR_SUMMARY_LENGTH], again[RPR_SUMMARY_LENGTH], none[RPR_SUMMARY_LENGTH];
-    struct rpr_summary s;
-    memset(room, 0xaa, sizeof room);
-    expect("summarize", rpr_summarize(example, sizeof example, room, sizeof room), 0);
-    memcpy(&s, room, sizeof s);
-    expect("events", s.events, 4);
-    expect("accrued", s.accrued, 200);
-    expect("sent", s.sent, 124);
-    expect("ceiling", (uint64_t)s.ceiling, 100);
-    expect("need", s.need, 11);
-
-    uint64_t settled = rpr_settle(room, sizeof room, 100);
-    expect("settle", rpr_number(settled), 0);
-    expect("permitted", rpr_permitted(settled), 1);
-    expect("end", rpr_end_credit(settled), 100);
-    expect("from 10", rpr_settle(room, sizeof room, 10), 0);
-    expect("from 301", rpr_settle(room, sizeof room, 301), RPR_RANGE);
-
-    expect("header alone", rpr_summarize(example, 14, none, sizeof none), 0);
-    expect("join", rpr_join(none, sizeof none, room, sizeof room, again, sizeof again), 0);
-    expect("the empty summary is neutral", (uint64_t)memcmp(again, room, sizeof room), 0);
-
-    memset(again, 0x55, sizeof again);
-    expect("a cut record", rpr_summarize(example, 15, again, sizeof again), RPR_BYTES);
-    expect("a short room", rpr_summarize(example, sizeof example, again, 47), RPR_BYTES);
-    for (size_t i = 0; i < sizeof again; i++) expect("a refusal writes nothing", again[i], 0x55);
+/* P1 to P5, and the record that the summary program prints. */
+static void good_records(void) {
+    summarize("P1", BYTES(HEADER), 0);
+    holds("P1", 0, 0, 0, 300, 0);
+    summarize("P2", BYTES(HEADER, WAITING(150), SEND(60)), 0);
+    holds("P2", 2, 150, 60, 240, 0);
+    summarize("P3", BYTES(HEADER, WAITING(150), SEND(60), SEND(64)), 0);
+    holds("P3", 3, 150, 124, 176, 11);
+    summarize("P4", BYTES(HEADER, SEND(60), SEND(60)), 0);
+    holds("P4", 2, 0, 120, 180, 161);
+    summarize("P5", BYTES(HEADER, SEND(64), SEND(64), SEND(64), SEND(64), SEND(64)), 0);
+    holds("P5", 5, 0, 320, -20, 301);
+    summarize("the program's record", BYTES(HEADER, WAITING(150), SEND(60), SEND(64), IDLE(50)), 0);
+    holds("the program's record", 4, 200, 124, 100, 11);
 }
 
-/* Five stations, 0 to 2: P10, P11 and P12. */
-static void ways(void) {
-    uint64_t right = rpr_choose(5, 0, 2, 0x1f, RPR_SIDE_DEFAULT, RPR_PROTECTION_UNSPECIFIED, RPR_STEERING);
-    expect("all links: side", rpr_side(right), RPR_RIGHT);
-    expect("all links: distance", rpr_distance(right), 2);
-    expect("all links: ttl", rpr_ttl(right), 2);
-    expect("all links: wrap mark", rpr_wrap_mark(right), 0);
-    uint64_t left = rpr_choose(5, 0, 2, 0x1d, RPR_SIDE_DEFAULT, RPR_PROTECTED, RPR_WRAPPING);
-    expect("link 1 down: side", rpr_side(left), RPR_LEFT);
-    expect("link 1 down: distance", rpr_distance(left), 3);
-    expect("link 1 down: ttl", rpr_ttl(left), 63);
-    expect("link 1 down: wrap mark", rpr_wrap_mark(left), 1);
-    expect("links 1 and 3 down", rpr_choose(5, 0, 2, 0x15, RPR_RIGHT, RPR_PROTECTED, RPR_STEERING), RPR_NO_WAY);
-    expect("a size of 2 to the 32", rpr_choose(4294967301u, 0, 2, 0x1f, 0, 0, 0), RPR_SETTING);
-    uint64_t path = rpr_path(5, 0, 2, 0x1d, RPR_RIGHT);
-    expect("wrapped: number", rpr_number(path), 0);
-    expect("wrapped: delivered", rpr_delivered(path), 1);
-    expect("wrapped: hops", rpr_hops(path), 5);
-    expect("the same station", rpr_path(5, 2, 2, 0x1f, RPR_RIGHT), RPR_RANGE);
+/* The earliest fault counts, header first. */
+static void bad_records(void) {
+    static const uint8_t good[] = {HEADER, WAITING(150), SEND(60), SEND(64), IDLE(50)};
+    summarize("no bytes", good, 0, RPR_BYTES);
+    summarize("a cut header", good, 13, RPR_BYTES);
+    summarize("a cut event", good, sizeof good - 1, RPR_BYTES);
+    summarize("a header of another length", BYTES(15, 0, 16, 0, 64, 0, 100, 0, 0, 0, 44, 1, 0, 0), RPR_BYTES);
+    summarize("a header of another kind", BYTES(14, 0, 17, 0, 64, 0, 100, 0, 0, 0, 44, 1, 0, 0), RPR_BYTES);
+    summarize("mtu 63", BYTES(14, 0, 16, 0, 63, 0, 100, 0, 0, 0, 44, 1, 0, 0), RPR_SETTING);
+    summarize("loLimit below the mtu", BYTES(14, 0, 16, 0, 64, 0, 63, 0, 0, 0, 44, 1, 0, 0), RPR_SETTING);
+    summarize("hiLimit equal to loLimit", BYTES(14, 0, 16, 0, 64, 0, 100, 0, 0, 0, 100, 0, 0, 0), RPR_SETTING);
+    summarize("an event of another length", BYTES(HEADER, 7, 0, 1, 0, 150, 0, 0), RPR_BYTES);
+    summarize("an unknown kind", BYTES(HEADER, 6, 0, 4, 0, 150, 0), RPR_BYTES);
+    summarize("a second header", BYTES(HEADER, HEADER), RPR_BYTES);
+    summarize("a send of 15", BYTES(HEADER, SEND(15)), RPR_RANGE);
+    summarize("a send over the mtu", BYTES(HEADER, SEND(65)), RPR_RANGE);
+    summarize("3, then 2", BYTES(HEADER, SEND(65), 6, 0, 4, 0, 0, 0), RPR_RANGE);
+    summarize("2, then 3", BYTES(HEADER, 6, 0, 4, 0, 0, 0, SEND(65)), RPR_BYTES);
+    lend(RECORD, good, sizeof good);
+    for (size_t length = 0; length < 2 * RPR_SUMMARY_LENGTH; length++) {
+        if (length == RPR_SUMMARY_LENGTH) continue;
+        lend_filled(ROOM, 0xaa, length);
+        answered("another room", rpr_summarize(LENT(RECORD), LENT(ROOM)), ROOM, RPR_BYTES);
+    }
+}
+
+/* ---- summaries ---- */
+
+/* Lends the summary of a record. */
+static void lend_summary(int slice, const uint8_t *bytes, size_t length) {
+    summarize("a piece", bytes, length, 0);
+    lend(slice, LENT(ROOM));
+}
+
+static void lend_made_up(int slice, struct rpr_summary summary) { lend(slice, &summary, sizeof summary); }
+
+static void join(const char *what, uint64_t want) {
+    lend_filled(ROOM, 0xaa, RPR_SUMMARY_LENGTH);
+    answered(what, rpr_join(LENT(FIRST), LENT(SECOND), LENT(ROOM)), ROOM, want);
+}
+
+static void joins(void) {
+    lend_summary(FIRST, BYTES(HEADER, WAITING(150), SEND(60)));
+    lend_summary(SECOND, BYTES(HEADER, SEND(64)));
+    join("P2 and a send", 0);
+    holds("P2 and a send", 3, 150, 124, 176, 11);
+    lend_summary(SECOND, BYTES(HEADER));
+    join("P2 and nothing", 0);
+    holds("P2 and nothing", 2, 150, 60, 240, 0);
+    lend_summary(SECOND, BYTES(14, 0, 16, 0, 64, 0, 100, 0, 0, 0, 45, 1, 0, 0));
+    join("another hiLimit", RPR_SETTINGS_DIFFER);
+    lend_made_up(SECOND, (struct rpr_summary){64, 100, 300, 1, 65536, 0, 300, 0});
+    join("accrued over 65,535 for each event", RPR_RANGE);
+    lend_made_up(SECOND, (struct rpr_summary){63, 100, 301, 0, 0, 0, 301, 0});
+    join("a summary's settings are 3, before 10", RPR_RANGE);
+    lend_filled(SECOND, 0, RPR_SUMMARY_LENGTH - 1);
+    join("a short summary is 2, before 3", RPR_BYTES);
+}
+
+static void settle(const char *what, uint64_t start, uint64_t want) {
+    answered(what, rpr_settle(LENT(FIRST), start), NONE, want);
+}
+
+/* P3: accrued 150, sent 124, ceiling 176, need 11. */
+static void settlements(void) {
+    lend_summary(FIRST, BYTES(HEADER, WAITING(150), SEND(60), SEND(64)));
+    uint64_t settled = rpr_settle(LENT(FIRST), 11);
+    expect("from 11: number", rpr_refusal_of(settled), 0);
+    expect("from 11: permitted", rpr_settled_permitted(settled), RPR_YES);
+    expect("from 11: end", rpr_settled_end_credit(settled), 37); /* 11 + 150 - 124 */
+    settle("from 10", 10, 0);
+    settle("from 300", 300, (uint64_t)1 << 8 | (uint64_t)176 << 32); /* 326, cut to the ceiling */
+    settle("from 301", 301, RPR_RANGE);
+    settle("from 2 to the 32", (uint64_t)1 << 32, RPR_RANGE);
+    lend_made_up(FIRST, (struct rpr_summary){64, 100, 300, 0, 0, 0, 300, 302});
+    settle("need over hiLimit + 1", 100, RPR_RANGE);
+    lend_filled(FIRST, 0, RPR_SUMMARY_LENGTH + 1);
+    settle("a long summary is 2, before 3", 100, RPR_BYTES);
+}
+
+/* A million events are fine; any byte more, or one event more, is 9. */
+static void a_million(void) {
+    static const uint8_t header[] = {HEADER}, event[] = {WAITING(150)};
+    size_t length = sizeof header + (size_t)RPR_MOST_EVENTS * sizeof event;
+    uint8_t *record = malloc(length + 1);
+    if (record == NULL) exit(2);
+    memcpy(record, header, sizeof header);
+    for (size_t at = sizeof header; at < length; at += sizeof event) memcpy(record + at, event, sizeof event);
+    record[length] = 0;
+    lend_filled(ROOM, 0xaa, RPR_SUMMARY_LENGTH);
+    answered("a byte more", rpr_summarize(record, length + 1, LENT(ROOM)), ROOM, RPR_MANY_EVENTS);
+    answered("a million events", rpr_summarize(record, length, LENT(ROOM)), ROOM, 0);
+    holds("a million events", 1000000, 150000000, 0, 300, 0);
+    free(record);
+    lend(FIRST, LENT(ROOM));
+    lend_summary(SECOND, BYTES(HEADER, IDLE(50)));
+    join("a million and one", RPR_MANY_EVENTS);
+    lend_summary(SECOND, BYTES(HEADER));
+    join("a million and none", 0);
+}
+
+/* ---- ways ---- */
+
+static void chosen(const char *what, uint64_t answer, unsigned side, unsigned distance, unsigned ttl, unsigned mark) {
+    expect(what, rpr_refusal_of(answer), 0);
+    expect(what, rpr_choice_side(answer), side);
+    expect(what, rpr_choice_distance(answer), distance);
+    expect(what, rpr_choice_ttl(answer), ttl);
+    expect(what, rpr_choice_wrap_mark(answer), mark);
+    expect(what, answer >> 40, 0);
+}
+
+/* Five stations, 0 to 2: links 0 and 1 are on the right side, links 2, 3 and 4 on the left. */
+static void choices(void) {
+    enum { SAFE = RPR_PROTECTED, BOLD = RPR_UNPROTECTED, STEER = RPR_STEERING, WRAP = RPR_WRAPPING };
+    chosen("P10", rpr_choose(5, 0, 2, 0x1f, RPR_SIDE_DEFAULT, SAFE, STEER), RPR_RIGHT, 2, 2, 0);
+    chosen("P10, link 1 down", rpr_choose(5, 0, 2, 0x1d, RPR_SIDE_DEFAULT, SAFE, STEER), RPR_LEFT, 3, 3, 0);
+    chosen("unspecified", rpr_choose(5, 0, 2, 0x1d, 0, 0, WRAP), RPR_LEFT, 3, 63, 1);
+    chosen("right, where it reaches", rpr_choose(5, 0, 2, 0x1d, RPR_RIGHT, SAFE, WRAP), RPR_LEFT, 3, 63, 1);
+    chosen("right, regardless", rpr_choose(5, 0, 2, 0x1d, RPR_RIGHT, BOLD, WRAP), RPR_RIGHT, 2, 63, 0);
+    chosen("the shorter, regardless", rpr_choose(5, 0, 2, 0, RPR_SIDE_DEFAULT, BOLD, STEER), RPR_RIGHT, 2, 2, 0);
+    chosen("a tie", rpr_choose(4, 3, 1, 0xf, RPR_SIDE_DEFAULT, SAFE, STEER), RPR_RIGHT, 2, 2, 0);
+    chosen("the last link", rpr_choose(63, 62, 0, (uint64_t)1 << 62, RPR_LEFT, SAFE, STEER), RPR_RIGHT, 1, 1, 0);
+    expect("P11", rpr_choose(5, 0, 2, 0x15, RPR_RIGHT, SAFE, STEER), RPR_NO_WAY);
+    expect("P11, default", rpr_choose(5, 0, 2, 0x15, RPR_SIDE_DEFAULT, SAFE, WRAP), RPR_NO_WAY);
+}
+
+static void refused_choices(void) {
+    expect("1 station", rpr_choose(1, 0, 0, 1, 9, 9, 9), RPR_SETTING);
+    expect("64 stations", rpr_choose(64, 0, 2, 0x1f, 0, 0, 0), RPR_SETTING);
+    expect("5 and 2 to the 32", rpr_choose(4294967301u, 0, 2, 0x1f, 0, 0, 0), RPR_SETTING);
+    expect("own index 5", rpr_choose(5, 5, 2, 0x1f, 0, 0, 0), RPR_RANGE);
+    expect("target index 5", rpr_choose(5, 0, 5, 0x1f, 0, 0, 0), RPR_RANGE);
+    expect("the same index", rpr_choose(5, 2, 2, 0x1f, 0, 0, 0), RPR_RANGE);
+    expect("a sixth link", rpr_choose(5, 0, 2, 0x3f, 0, 0, 0), RPR_RANGE);
+    expect("side 4", rpr_choose(5, 0, 2, 0x1f, 4, 0, 0), RPR_RANGE);
+    expect("protection 3", rpr_choose(5, 0, 2, 0x1f, 0, 3, 0), RPR_RANGE);
+    expect("ring 2 is 3, before 8", rpr_choose(5, 0, 2, 0x15, 0, 0, 2), RPR_RANGE);
+}
+
+static void moved(const char *what, uint64_t answer, unsigned delivered, unsigned hops) {
+    expect(what, rpr_refusal_of(answer), 0);
+    expect(what, rpr_path_delivered(answer), delivered);
+    expect(what, rpr_path_hops(answer), hops);
+    expect(what, answer >> 24, 0);
+}
+
+static void paths(void) {
+    moved("no break", rpr_path(5, 0, 2, 0x1f, RPR_RIGHT), RPR_YES, 2);
+    moved("no break, left", rpr_path(5, 0, 2, 0x1f, RPR_LEFT), RPR_YES, 3);
+    moved("P12", rpr_path(5, 0, 2, 0x1d, RPR_RIGHT), RPR_YES, 5);                /* 1, 0, 4, 3, 2; there it turns */
+    moved("links 1 and 3 down", rpr_path(5, 0, 2, 0x15, RPR_RIGHT), RPR_NO, 10); /* to and fro, twice 5 hops */
+    moved("both own links down", rpr_path(5, 0, 2, 0x0e, RPR_RIGHT), RPR_NO, 0);
+    expect("1 station", rpr_path(1, 0, 0, 0, 9), RPR_SETTING);
+    expect("target index 5", rpr_path(5, 0, 5, 0x1f, RPR_RIGHT), RPR_RANGE);
+    expect("the same index", rpr_path(5, 2, 2, 0x1f, RPR_RIGHT), RPR_RANGE);
+    expect("a sixth link", rpr_path(5, 0, 2, 0x3f, RPR_RIGHT), RPR_RANGE);
+    expect("home side unspecified", rpr_path(5, 0, 2, 0x1f, RPR_SIDE_UNSPECIFIED), RPR_RANGE);
+    expect("home side default", rpr_path(5, 0, 2, 0x1f, RPR_SIDE_DEFAULT), RPR_RANGE);
 }
 
 int main(void) {
-    records();
-    ways();
-    if (failures == 0) puts("the library answers as document 01 says");
-    return failures == 0 ? 0 : 1;
+    good_records();
+    bad_records();
+    joins();
+    settlements();
+    a_million();
+    choices();
+    refused_choices();
+    paths();
+    return told("records and rings: the library answers as document 01 says");
 }

@@ -1,10 +1,11 @@
 -- The fairness frame of document 01: "ttl; base (bit 7 ringlet, bits 5 to 4 frame type, 2 = fairness); address 6; header 2, top three bits 0 for
 -- single choke; rate 2. Big-endian." Assumes nothing.
-use mathlib.Core.Bool.{cond}
+use mathlib.Core.Bool.{cond, not}
 use mathlib.Core.List.{List, [], _∷_}
 use Prim.Native.Nat.{ℕ, _+_, _*_, _/_, _%_, _<_}
 use lib.ListN.{length}
 use Rattle.decide.specs.Test.{Test, test, _≡?_, _∧?_}
+use Rattle.decide.specs.Refusal.{Fault, fault}
 use Rattle.wire.specs.Wire.{be}
 use Rattle.wire.specs.Parts.{Part, numberBe, laidOut}
 use Rattle.advert.specs.declared.Advert.{Advert}
@@ -87,3 +88,12 @@ advertIn xs = record {
 -- the bytes as they are found, whatever ttl and rate are
 unfoldable pub parsedOf : List ℕ → Parsed
 parsedOf xs = cond (test (whole xs)) (Frame (advertIn xs)) (Refused 2)
+
+-- the number of what was found: 0 for a frame
+abbrev pub parsedNumber : Parsed → ℕ
+parsedNumber (Frame a) = 0
+parsedNumber (Refused n) = n
+
+-- 2: bytes are not a whole frame
+abbrev pub parseFaults : List ℕ → List Fault
+parseFaults xs = fault 2 (not (test (whole xs))) ∷ []

@@ -1,2 +1,4 @@
 pub mod Cases
+pub mod Tests
+pub mod Chain
 pub mod Refusal

@@ -26,7 +26,7 @@ settings =
       fairness = record { weight = 2; unit = 4; ticks = 100; unreserved = 1000000; age = 4; lp = 64; ramp = 64 };
     }
 
--- congested both ways, as told by 00-03-00-00-00-04 with ttl and rate 125, at this own rate
+-- congested both ways, as told by 00-03-00-00-00-04 with this ttl and rate 125, at this own rate
 abbrev pub state : (own ttl : ℕ) → Fair
 state own ttl = record {
   counters = record { add = 6400; fw = 100; addc = 936; fwc = 2147483600 };

@@ -14,8 +14,8 @@ use settings::Address;
 use settings::Fairness;
 use settings::Settings;
 
-// A number of bytes for each of four kinds of frames: those of this station (add), those on transit (fw), and of each the frames which pass the
-// congested station downstream (addc and fwc, the Congested twins).
+// A number of bytes for each of four kinds of eligible frames: those of this station (add), those on transit (fw), and of each the frames which pass
+// the congested station downstream (addc and fwc, the Congested twins).
 pub struct Four {
     pub add: u32,
     pub fw: u32,

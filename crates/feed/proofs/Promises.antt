@@ -1,10 +1,13 @@
 -- What feeding promises: chunks of any sizes come to what the whole record comes to.
 -- Assumes nothing.
-use Prim.Native.Nat.{ℕ}
+use Prim.Native.Nat.{ℕ, _<_}
 use mathlib.Core.List.{List, [], _∷_, _++_, flatten}
-use mathlib.Core.Path.{_≡_, refl, ap, _∙_}
+use mathlib.Core.Path.{_≡_, refl, sym, ap, _∙_}
 use Rattle.wire.specs.Wire.{Bytes}
+use Rattle.summary.specs.declared.Answer.{Answer}
+use Rattle.record.proofs.Means.{Cause}
 use Rattle.account.specs.Account.{summarizeOf}
+use Rattle.account.proofs.Promises.{summarize-refused-exactly}
 use Rattle.feed.specs.declared.Feed.{Feed}
 use Rattle.feed.specs.Feed.{fedByte, startOf, fedOf, fedChunks, finishOf}
 use Rattle.feed.proofs.Reached.{reach-start, reach-bytes, finish-told}
@@ -28,3 +31,12 @@ fed-once xs b = finish-told (fedOf startOf xs) xs (reach-bytes xs startOf [] rea
 -- A record fed in chunks of any sizes gives what the whole gives.
 pub fed-whole : (chunks : List (List ℕ)) → Bytes (flatten chunks) → finishOf (fedChunks startOf chunks) ≡ summarizeOf (flatten chunks)
 fed-whole chunks b = ap finishOf (fed-chunks-all startOf chunks) ∙ fed-once (flatten chunks) b
+
+-- A number is given exactly when it has its cause in the record that was fed.
+pub fed-refused-exactly : (chunks : List (List ℕ)) (n : ℕ) → Bytes (flatten chunks) → 0 < n →
+    (finishOf (fedChunks startOf chunks) ≡ Answer.Refused n → Cause (flatten chunks) n)
+    × (Cause (flatten chunks) n → finishOf (fedChunks startOf chunks) ≡ Answer.Refused n)
+fed-refused-exactly chunks n b p =
+    let e = fed-whole chunks b in
+    let x = summarize-refused-exactly (flatten chunks) n b p in
+    (λ h. x .0 (sym e ∙ h), λ c. e ∙ x .1 c)

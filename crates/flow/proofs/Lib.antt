@@ -1,7 +1,11 @@
 pub mod Range
 pub mod Charge
+pub mod Held
+pub mod Tick
 pub mod Offer
 pub mod Select
+pub mod Ready
 pub mod Kept
 pub mod Events
 pub mod Frames
+pub mod Examples

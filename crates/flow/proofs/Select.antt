@@ -47,14 +47,15 @@ secondary-permitted s f e = lt-ltb (s .shapers .d .lo) (f .credits .d) (facts (s
 abbrev pub No : Test → Type 0
 No t = Holds t → ⊥
 
--- under which condition an origin is answered: nothing, control, primary, secondary, stage
+-- under which condition an origin is answered: nothing, control, primary, secondary, stage, and no other ever
 abbrev pub When : Settings → Flow → ℕ → Type 0
 When s f zero = No (controlReady s f) × (No (primaryReady f) × (No (needy s f) × (No (stageReady f) × No (secondaryReady s f))))
 When s f (suc zero) = Holds (controlReady s f)
 When s f (suc (suc zero)) = No (controlReady s f) × Holds (primaryReady f)
 When s f (suc (suc (suc zero))) =
     No (controlReady s f) × (No (primaryReady f) × (Holds (needy s f) ⊎ (No (needy s f) × (No (stageReady f) × Holds (secondaryReady s f)))))
-When s f (suc (suc (suc (suc n)))) = No (controlReady s f) × (No (primaryReady f) × (No (needy s f) × Holds (stageReady f)))
+When s f (suc (suc (suc (suc zero)))) = No (controlReady s f) × (No (primaryReady f) × (No (needy s f) × Holds (stageReady f)))
+When s f (suc (suc (suc (suc (suc n))))) = ⊥
 
 -- an origin is answered only under its condition, and whenever that holds this is selected
 pub record Exactly (s : Settings) (f : Flow) (origin : ℕ) (gives : Selected) : Type 0 where

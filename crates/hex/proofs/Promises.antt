@@ -1,10 +1,14 @@
 -- What reading hex text promises: a text in chunks of any sizes comes to what the whole text comes to.
 -- Assumes nothing.
-use Prim.Native.Nat.{ℕ}
-use mathlib.Core.Bool.{cond, _&&_}
+use Prim.Native.Nat.{ℕ, _<_}
+use mathlib.Core.Bool.{Bool, true, false, cond, _&&_}
 use mathlib.Core.List.{List, [], _∷_, _++_, flatten}
-use mathlib.Core.Path.{_≡_, refl, ap, _∙_}
+use mathlib.Core.Logic.{_⊎_, inl, inr, ⊎-elim}
+use mathlib.Core.Path.{_≡_, refl, sym, ap, _∙_}
+use Rattle.decide.proofs.Cases.{by-cases, true-or-false}
 use Rattle.summary.specs.declared.Answer.{Answer}
+use Rattle.record.proofs.Means.{Cause}
+use Rattle.account.proofs.Promises.{summarize-refused-exactly}
 use Rattle.feed.proofs.Promises.{fed-once}
 use Rattle.hex.specs.declared.Hex.{Hex}
 use Rattle.hex.specs.Hex.{allHex, digitsOf, pairs, even, textOf}
@@ -33,3 +37,40 @@ text-read cs =
 -- A text in chunks of any sizes gives what the whole text gives.
 pub text-whole : (chunks : List (List ℕ)) → finishOf (readChunks startOf chunks) ≡ textOf (flatten chunks)
 text-whole chunks = ap finishOf (text-chunks-all startOf chunks) ∙ text-read (flatten chunks)
+
+-- ---- refusals
+
+-- no character is other text, and there is no odd digit
+abbrev pub isHex : List ℕ → Bool
+isHex cs = allHex cs && even (digitsOf cs)
+
+-- what a text can be refused for: 2 where it is no hex, before all else; otherwise what its record is refused for
+abbrev pub TextCause : List ℕ → ℕ → Type 0
+TextCause cs n = ((isHex cs ≡ false) × (n ≡ 2)) ⊎ ((isHex cs ≡ true) × Cause (pairs (digitsOf cs)) n)
+
+module _ (cs : List ℕ) (n : ℕ) (p : 0 < n) where
+  means : textOf cs ≡ Answer.Refused n → TextCause cs n
+  unfolding textOf
+  means h =
+      by-cases (true-or-false (isHex cs))
+      (λ e. inr (e, summarize-refused-exactly (pairs (digitsOf cs)) n (text-bytes cs) p .0 (sym (rw e) ∙ h)))
+      (λ e. inl (e, number (sym (sym (rw e) ∙ h))))
+    where
+      number : Answer.Refused n ≡ Answer.Refused 2 → n ≡ 2
+      number q = cc
+
+  meant : TextCause cs n → textOf cs ≡ Answer.Refused n
+  unfolding textOf
+  meant c =
+      ⊎-elim
+      (λ x. rw (x .0) (ap Answer.Refused (sym (x .1))))
+      (λ x. rw (x .0) (summarize-refused-exactly (pairs (digitsOf cs)) n (text-bytes cs) p .1 (x .1)))
+      c
+
+-- A number is given exactly when it has its cause in the text.
+pub text-refused-exactly : (chunks : List (List ℕ)) (n : ℕ) → 0 < n →
+    (finishOf (readChunks startOf chunks) ≡ Answer.Refused n → TextCause (flatten chunks) n)
+    × (TextCause (flatten chunks) n → finishOf (readChunks startOf chunks) ≡ Answer.Refused n)
+text-refused-exactly chunks n p =
+    let e = text-whole chunks in
+    (λ h. means (flatten chunks) n p (sym e ∙ h), λ c. e ∙ meant (flatten chunks) n p c)

@@ -12,11 +12,12 @@ use native.Mathlib.Omega.{arith}
 use lib.ListN.{length, getD}
 use borrow.Author.Tests.{lt-ltb, le-ltb}
 use Rattle.decide.specs.Test.{Test, test, Holds, split, _≤?_, _<?_, _≡?_, _∧?_}
+use Rattle.decide.proofs.Tests.{same-test}
 use Rattle.queue.specs.declared.Queue.{Queue}
 use Rattle.queue.specs.Frame.{frameOf, frameOk, FrameOk}
 use Rattle.queue.specs.Queue.{framesFrom, framesOf, sizes}
 use Rattle.queue.specs.Range.{QueueOk, occupied, slotOk, slotsOk, bytesIn, queueOk}
-use Rattle.queue.proofs.Word.{frame-facts, frame-holds, same-test}
+use Rattle.queue.proofs.Word.{frame-facts, frame-holds}
 use Rattle.queue.proofs.Ring.{held-sum, zero-sizes, all-in, in-all}
 
 -- ---- the slots one by one, and all

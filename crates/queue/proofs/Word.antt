@@ -6,8 +6,8 @@ use mathlib.Core.Logic.{⊎-elim, inl, inr}
 use mathlib.Core.Bool.{true, false, _&&_, _||_}
 use native.Mathlib.Omega.{arith}
 use lib.Dec.{leb}
-use Rattle.decide.specs.Test.{Test, test, Holds, facts, passes, decided, split, _≤?_, _∧?_, _∨?_}
-use Rattle.decide.proofs.Cases.{true-or-false}
+use Rattle.decide.specs.Test.{test, Holds, split, _≤?_, _∧?_, _∨?_}
+use Rattle.decide.proofs.Tests.{same-test}
 use Rattle.queue.specs.declared.Frame.{Frame}
 use Rattle.queue.specs.Frame.{frameOk, FrameOk, wordOf, frameOf, Fits}
 
@@ -71,14 +71,6 @@ frame-fits m r = record { size = omega (arith, r .most); hops = omega (arith, r 
 -- only B and C may be marked
 pub a-unmarked : {mtu : ℕ} {f : Frame} → FrameOk mtu f → f .class ≡ 0 → f .mark ≡ 0
 a-unmarked r e = omega (arith, r .marked)
-
--- tests that hold of the same numbers are equal
-pub same-test : (s t : Test) → (Holds s → Holds t) → (Holds t → Holds s) → test s ≡ test t
-same-test s t f g =
-    ⊎-elim
-    (λ (e : test s ≡ true). e ∙ sym (passes t (f (facts s e))))
-    (λ (e : test s ≡ false). e ∙ decided t false (λ h. mathlib.Core.Bool.true≢false (sym (passes s (g h)) ∙ e)))
-    (true-or-false (test s))
 
 -- class and mark tested as one number: 0, 1 or 2 without the mark, 5 or 6 with it
 pub kinds : (w : ℕ) → (leb (w / 1048576) 2 || (leb 5 (w / 1048576) && leb (w / 1048576) 6)) ≡ (leb (w / 1048576 % 4) 2 && (leb (w / 4194304) 1 && leb (w / 4194304) (w / 1048576 % 4)))

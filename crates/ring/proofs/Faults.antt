@@ -13,18 +13,12 @@ use Rattle.decide.specs.Test.{Test, Holds, test, passes, decided, both}
 use Rattle.decide.specs.Refusal.{Fault, fault, firstOf, ranked, inOrder, chained, Given}
 use Rattle.decide.proofs.Refusal.{in-order, first-exact}
 use Rattle.decide.proofs.Cases.{by-cases, le-or}
+use Rattle.decide.proofs.Tests.{fails, failing}
 use Rattle.ring.specs.declared.Way.{Way}
 use Rattle.ring.specs.declared.Way.the-variants.{Left, Right}
 use Rattle.ring.specs.declared.Choice.{Choice}
 use Rattle.ring.specs.declared.Choice.the-variants.{Chosen, Refused}
 use Rattle.ring.specs.Choosing.{protectedOf, reachesOf, sentOf, wayOf, noWay, goesOf, badSize, badWord, badIndex, badCode, placeFaults, chooseFaults, refusedOr, chooseOf, numberOf, Placed}
-
--- a test that is false does not hold, and one that does not hold is false
-pub fails : (t : Test) → test t ≡ false → Holds t → ⊥
-fails t e h = true≢false (sym (passes t h) ∙ e)
-
-pub failing : (t : Test) → (Holds t → ⊥) → test t ≡ false
-failing t f = sym (decided t false f)
 
 -- ---- the place's faults
 

@@ -5,4 +5,3 @@ pub mod Distances
 pub mod Hops
 pub mod Rows
 pub mod Bounds
-pub mod Examples

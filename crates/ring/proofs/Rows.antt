@@ -13,7 +13,8 @@ use Rattle.ring.specs.declared.Choice.{Choice}
 use Rattle.ring.specs.declared.Choice.the-variants.{Chosen, Refused}
 use Rattle.ring.specs.Links.{otherOf}
 use Rattle.ring.specs.Choosing.{codeOf, protectedOf, distanceOf, tieOf, shorterOf, reachesOf, preferredOf, takenOf, sentOf, noWay, goesOf, badCode, chooseOf, Placed}
-use Rattle.ring.proofs.Faults.{failing, placed-free, in-range}
+use Rattle.decide.proofs.Tests.{failing}
+use Rattle.ring.proofs.Faults.{placed-free, in-range}
 
 -- ---- where no way is usable
 

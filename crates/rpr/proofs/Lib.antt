@@ -5,3 +5,10 @@ pub mod Credit
 pub mod Promises
 pub mod Records
 pub mod Ways
+pub mod Given
+pub mod Written
+pub mod Chosen
+pub mod Station
+pub mod Step
+pub mod Rooms
+pub mod Lent

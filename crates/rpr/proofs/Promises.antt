@@ -27,10 +27,10 @@ use Rattle.summary.proofs.Promises.{join-range, summary-range}
 use Rattle.record.specs.Record.{written, WellFormed}
 use Rattle.account.specs.Account.{summarizeOf}
 use Rattle.account.proofs.Promises.{Accounted, summarize-written, summarized-written}
-use Rattle.sheet.specs.Sheet.{sheetLength, sheetOf, summaryAt}
+use Rattle.sheet.specs.Sheet.{sheetLength, sheetOf, summaryAt, handed}
 use Rattle.sheet.proofs.Round.{summary-of-bytes, in-range-fits}
 use Rattle.rpr.specs.Shape.{answerOf, oldOr, afterOf}
-use Rattle.rpr.specs.Calls.{summarizeRows, summarizeAnswer, handed, summarizeAfter, joinRows, joinAnswer, joinAfter, settleRows, outcomeAnswer, settleAnswer}
+use Rattle.rpr.specs.Calls.{summarizeRows, summarizeAnswer, summarizeAfter, joinRows, joinAnswer, joinAfter, settleRows, outcomeAnswer, settleAnswer}
 use Rattle.rpr.proofs.Shape.{wrong-length, first-most, number-alone, carried, digits-laid, Bears, refused-leaves}
 use Rattle.rpr.proofs.Rows.{summarize-room, summarize-rows, summarize-whole, settle-whole}
 use Rattle.rpr.proofs.Numbers.{AnswerNumbered, record-numbered, answer-most}
@@ -95,7 +95,7 @@ module _ (xs ys room : List ℕ) where
   join-refused-exactly = refused-exactly (joinRows xs ys room) refl _ (join-leaves .0 .byte-0)
 
   join-after : joinAnswer xs ys room ≡ 0 → joinAfter xs ys room ≡ sheetOf (joined (summaryAt xs) (summaryAt ys))
-  unfolding joinAnswer joinAfter answerOf afterOf
+  unfolding joinAnswer joinAfter answerOf oldOr afterOf
   join-after z = ap (λ n. oldOr n room (sheetOf (joined (summaryAt xs) (summaryAt ys)))) (number-alone (firstOf (joinRows xs ys room)) ∙ z)
 
   join-in-range : joinAnswer xs ys room ≡ 0 → inRange (joined (summaryAt xs) (summaryAt ys)) ≡ true

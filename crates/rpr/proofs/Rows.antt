@@ -14,9 +14,9 @@ use Rattle.summary.specs.declared.Outcome.{Outcome}
 use Rattle.summary.specs.Summary.{joined}
 use Rattle.summary.specs.Answer.{answered, joinFaults, joinOf, settleFaults, settleOf, settled, answerNumber}
 use Rattle.account.specs.Account.{summarizeOf}
-use Rattle.sheet.specs.Sheet.{sheetLength, sheetOf, summaryAt}
+use Rattle.sheet.specs.Sheet.{sheetLength, sheetOf, summaryAt, handed}
 use Rattle.rpr.specs.Shape.{numberOr, answerOf, oldOr, afterOf}
-use Rattle.rpr.specs.Calls.{recordFault, summarizeRows, summarizeAnswer, handed, summarizeAfter, joinRows, joinAnswer, joinAfter, settleRows, outcomeAnswer, settleAnswer}
+use Rattle.rpr.specs.Calls.{recordFault, summarizeRows, summarizeAnswer, summarizeAfter, joinRows, joinAnswer, joinAfter, settleRows, outcomeAnswer, settleAnswer}
 use Rattle.rpr.proofs.Shape.{wrong-length, right-length, number-alone, refused}
 
 -- ---- rpr_summarize
@@ -28,6 +28,7 @@ record-row zero = refl
 record-row (suc n) = ap (λ (b : Bool). numberOf (cond (not b) (row (recordFault (suc n))) nothing)) (ne-eqb (suc n) 0 (λ e. omega arith))
 
 handed-alone : (room : List ℕ) (a : Answer) → handed room a ≡ oldOr (answerNumber a) room (handed room a)
+unfolding oldOr
 handed-alone room (Answer.Summed s) = refl
 handed-alone room (Answer.Refused zero) = refl
 handed-alone room (Answer.Refused (suc n)) = refl
@@ -54,10 +55,12 @@ module _ (xs room : List ℕ) where
 
 -- a summary's answer, by the number of its first fault
 number-is : (n : ℕ) (s : Summary) → answerNumber (answered n s) ≡ numberOr n 0
+unfolding numberOr
 number-is zero s = refl
 number-is (suc n) s = refl
 
 handed-is : (n : ℕ) (s : Summary) (room : List ℕ) → handed room (answered n s) ≡ oldOr n room (sheetOf s)
+unfolding oldOr
 handed-is zero s room = refl
 handed-is (suc n) s room = refl
 
@@ -94,6 +97,7 @@ module _ (xs ys room : List ℕ) where
 -- ---- rpr_settle
 
 outcome-is : (n : ℕ) (s : Summary) (c : ℕ) → outcomeAnswer (settled n s c) ≡ numberOr n (outcomeAnswer (settled 0 s c))
+unfolding numberOr
 outcome-is zero s c = refl
 outcome-is (suc n) s c = refl
 

@@ -70,14 +70,19 @@ among-numbered f (g ∷ gs) e m =
     m
 
 pub number-alone : (n : ℕ) → n ≡ numberOr n 0
+unfolding numberOr
 number-alone zero = refl
 number-alone (suc n) = refl
 
--- no row applies where 0 is answered
+-- no row applies where none counts,
+pub free : (rows : List Fault) → numbered rows ≡ true → firstOf rows ≡ 0 → (f : Fault) → Among f rows → f .applies ≡ false
+free rows h e f m =
+    ⊎-elim (λ a. absurd (carried-out rows (λ g k b. among-numbered g rows h k) e f m a)) (λ a. a) (true-or-false (f .applies))
+
+-- and so where 0 is answered
 pub carried : (rows : List Fault) → numbered rows ≡ true → answerOf rows 0 ≡ 0 → (f : Fault) → Among f rows → f .applies ≡ false
 unfolding answerOf
-carried rows h e f m =
-    ⊎-elim (λ a. absurd (carried-out rows (λ g k b. among-numbered g rows h k) (number-alone (firstOf rows) ∙ e) f m a)) (λ a. a) (true-or-false (f .applies))
+carried rows h e = free rows h (number-alone (firstOf rows) ∙ e)
 
 -- ---- bytes
 
@@ -112,8 +117,19 @@ digits-alone n h = ap (λ (v : ℕ). digits 8 v) (omega arith) ∙ digits-laid (
 module _ (rows : List Fault) (said : ℕ) (old new : List ℕ) where
   -- the number of the row that counts, and the bytes as they were
   pub refused : (n : ℕ) → firstOf rows ≡ suc n → (suc n ≡ answerOf rows said) × (old ≡ afterOf rows old new)
-  unfolding answerOf afterOf
+  unfolding numberOr answerOf oldOr afterOf
   refused n e = (rw e, rw e)
+
+-- the same by the number alone: a refusal, and a call that was carried out
+pub turned-down : (n said : ℕ) (old new : List ℕ) → (n ≡ 0 → ⊥) → (n ≡ numberOr n said) × (old ≡ oldOr n old new)
+unfolding numberOr oldOr
+turned-down zero said old new h = absurd (h refl)
+turned-down (suc n) said old new h = (refl, refl)
+
+module _ (n said : ℕ) (old new : List ℕ) where
+  pub taken-on : n ≡ 0 → (said ≡ numberOr n said) × (new ≡ oldOr n old new)
+  unfolding numberOr oldOr
+  taken-on e = (rw e, rw e)
 
 -- Byte 0 of the answer is the number, and where that is not 0 every other byte is 0.
 pub record Bears (number answer : ℕ) : Type 0 where
@@ -121,10 +137,12 @@ pub record Bears (number answer : ℕ) : Type 0 where
   pub others : 0 < number → digits 8 answer ≡ alone number
 
 bears : (n said : ℕ) → n ≤ 11 → said % 256 ≡ 0 → Bears n (numberOr n said)
+unfolding numberOr
 bears zero said h b = record { byte-0 = b; others = λ p. absurd (omega arith) }
 bears (suc n) said h b = record { byte-0 = omega arith; others = λ p. digits-alone (suc n) h }
 
 kept : (n : ℕ) (old new : List ℕ) → 0 < n → oldOr n old new ≡ old
+unfolding oldOr
 kept zero old new h = absurd (omega arith)
 kept (suc n) old new h = refl
 

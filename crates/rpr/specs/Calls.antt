@@ -5,12 +5,11 @@ use mathlib.Core.Bool.{not}
 use mathlib.Core.List.{List, [], _∷_}
 use lib.Dec.{eqb}
 use Rattle.decide.specs.Refusal.{Fault, rankOf}
-use Rattle.summary.specs.declared.Answer.{Answer}
 use Rattle.summary.specs.declared.Outcome.{Outcome}
 use Rattle.summary.specs.Summary.{joined}
 use Rattle.summary.specs.Answer.{joinFaults, settleFaults, settled, answerNumber}
 use Rattle.account.specs.Account.{summarizeOf}
-use Rattle.sheet.specs.Sheet.{sheetLength, sheetOf, summaryAt}
+use Rattle.sheet.specs.Sheet.{sheetLength, sheetOf, summaryAt, handed}
 use Rattle.rpr.specs.Shape.{fromByte, answerOf, afterOf, otherLength}
 
 -- ---- rpr_summarize
@@ -25,11 +24,6 @@ summarizeRows xs room = otherLength sheetLength room ∷ recordFault (answerNumb
 
 unfoldable pub summarizeAnswer : List ℕ → List ℕ → ℕ
 summarizeAnswer xs room = answerOf (summarizeRows xs room) 0
-
--- a summary in the room, or the room as it was
-abbrev pub handed : List ℕ → Answer → List ℕ
-handed room (Answer.Summed s) = sheetOf s
-handed room (Answer.Refused n) = room
 
 -- The room holds the record's summary.
 unfoldable pub summarizeAfter : List ℕ → List ℕ → List ℕ

@@ -12,7 +12,7 @@ abbrev pub fromByte : ℕ → ℕ → ℕ
 fromByte k v = 256 ^ k * v
 
 -- Byte 0 is 0 where the call was carried out, else the refusal number, and then every other byte is 0
-abbrev pub numberOr : ℕ → ℕ → ℕ
+unfoldable pub numberOr : ℕ → ℕ → ℕ
 numberOr zero said = said
 numberOr (suc n) said = suc n
 
@@ -20,7 +20,7 @@ unfoldable pub answerOf : List Fault → ℕ → ℕ
 answerOf rows said = numberOr (firstOf rows) said
 
 -- and every lent byte is as it was.
-abbrev pub oldOr : ℕ → List ℕ → List ℕ → List ℕ
+unfoldable pub oldOr : ℕ → List ℕ → List ℕ → List ℕ
 oldOr zero old new = new
 oldOr (suc n) old new = old
 

@@ -1,13 +1,12 @@
 // The functions that a host written in C calls.
 ghost use mathlib.Core.Path.{_≡_};
 ghost use Prim.Native.Nat.{_≤_};
-ghost use lib.ListN.{length};
-ghost use Rattle.summary.specs.Answer.{answerNumber};
-ghost use Rattle.sheet.specs.Sheet.{sheetLength};
 ghost use Rattle.rpr.specs.Ways.{bitOf, chooseAnswer, pathAnswer};
-ghost use Rattle.rpr.specs.Calls.{handed, summarizeAnswer, summarizeAfter, joinAnswer, joinAfter, settleAnswer};
+ghost use Rattle.rpr.specs.Calls.{summarizeAnswer, summarizeAfter, joinAnswer, joinAfter, settleAnswer};
+
+mod lending;
+
 use ring::Choice;
-use summary::Answer;
 use summary::Outcome;
 
 // The refusal of bytes that are not of the length named.
@@ -35,7 +34,7 @@ pub extern "C" fn rpr_summarize(record: &[u8], room: &mut [u8]) -> u64
         return NOT_WHOLE;
     }
     let whole = account::summarize(record);
-    hand_over(whole, room)
+    sheet::hand_over(whole, room)
 }
 
 // Leaves in the room the summary of the first's events and then the second's. 2 where a slice is not 48 bytes, then 3, 10 and 9.
@@ -54,7 +53,7 @@ pub extern "C" fn rpr_join(first: &[u8], second: &[u8], room: &mut [u8]) -> u64
         return NOT_WHOLE;
     }
     let joined = sheet::read(first).join(sheet::read(second));
-    hand_over(joined, room)
+    sheet::hand_over(joined, room)
 }
 
 // Whether every send of a summary's events is permitted from a starting credit, and the credit at the end. 2 where the slice is not 48 bytes, then 3.
@@ -115,19 +114,4 @@ fn bit(yes: bool) -> u64
     ensures { λ r. ⌜ (r ≡ bitOf yes) × (r ≤ 1) ⌝ }
 {
     if yes { 1 } else { 0 }
-}
-
-// Writes a summary to the room and answers 0, or answers the number of a refusal and writes nothing.
-fn hand_over(answer: Answer, room: &mut [u8]) -> u64
-    requires { ⌜ length (now room) ≡ sheetLength ⌝ }
-    ensures { λ r. ⌜ r ≡ answerNumber answer ⌝ }
-    ensures { λ _. ⌜ now (room .exit) ≡ handed (now (room .entry)) answer ⌝ }
-{
-    match answer {
-        Answer::Summed(whole) => {
-            sheet::write(whole, room);
-            0
-        }
-        Answer::Refused(number) => number,
-    }
 }

@@ -1,5 +1,3 @@
-pub mod Chain
-pub mod Placed
 pub mod Range
 pub mod Words
-pub mod Examples
+pub mod Edges

@@ -13,7 +13,7 @@ use Rattle.wire.proofs.Puts.{put-whole}
 use Rattle.wire.proofs.Places.{Same, Stands, stands-put, stands-whole, put-stands}
 use Rattle.wire.proofs.Numbers.{digits-stand, digits-bytes, le-bound}
 use Rattle.wire.proofs.Laid.{le-part, part-stands}
-use Rattle.settings.proofs.Placed.{placed-stand, laidOut-bytes}
+use Rattle.wire.proofs.Placed.{placed-stand, laidOut-bytes}
 use Rattle.settings.proofs.Range.{age-bounds, coef-bounds}
 use Rattle.settings.specs.declared.Address.{Address}
 use Rattle.settings.specs.declared.Bucket.{Bucket}

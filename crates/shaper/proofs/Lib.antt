@@ -1,4 +1,3 @@
 pub mod Credit
 pub mod Charge
-pub mod Examples
 pub mod Kind

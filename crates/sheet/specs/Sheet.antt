@@ -7,6 +7,7 @@ use Rattle.wire.specs.Wire.{le}
 use Rattle.wire.specs.Parts.{Part, number, laidOut}
 use Rattle.wire.specs.Signed.{signedOf, unsignedOf}
 use Rattle.summary.specs.declared.Summary.{Summary}
+use Rattle.summary.specs.declared.Answer.{Answer}
 
 abbrev pub sheetLength : ℕ
 sheetLength = 48
@@ -27,6 +28,11 @@ sheetParts s =
 -- the bytes of a summary
 unfoldable pub sheetOf : Summary → List ℕ
 sheetOf s = laidOut (sheetParts s)
+
+-- a summary in the room, or the room as it was where there is none
+abbrev pub handed : List ℕ → Answer → List ℕ
+handed room (Answer.Summed s) = sheetOf s
+handed room (Answer.Refused n) = room
 
 -- the summary that bytes hold: each field at its place
 unfoldable pub summaryAt : List ℕ → Summary

@@ -1,8 +1,10 @@
 // A summary as 48 bytes, in which a host keeps it.
 ghost use mathlib.Core.Path.{_≡_};
 ghost use lib.ListN.{length};
-ghost use Rattle.sheet.specs.Sheet.{sheetLength, sheetOf, summaryAt};
+ghost use Rattle.summary.specs.Answer.{answerNumber};
+ghost use Rattle.sheet.specs.Sheet.{sheetLength, sheetOf, summaryAt, handed};
 use shaper::Limits;
+use summary::Answer;
 use summary::Summary;
 
 // How many bytes a summary takes.
@@ -43,4 +45,19 @@ pub fn write(v: Summary, s: &mut [u8])
     wire::put64(s, 24, v.sent);
     wire::put64(s, 32, ceiling);
     wire::put64(s, 40, v.need);
+}
+
+// Writes the summary of an answer to the room and answers 0, or answers the number of a refusal and writes nothing.
+pub fn hand_over(answer: Answer, room: &mut [u8]) -> u64
+    requires { ⌜ length (now room) ≡ sheetLength ⌝ }
+    ensures { λ r. ⌜ r ≡ answerNumber answer ⌝ }
+    ensures { λ _. ⌜ now (room .exit) ≡ handed (now (room .entry)) answer ⌝ }
+{
+    match answer {
+        Answer::Summed(whole) => {
+            write(whole, room);
+            0
+        }
+        Answer::Refused(number) => number,
+    }
 }

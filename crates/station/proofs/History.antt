@@ -1,16 +1,23 @@
 -- Over any calls from a fresh station each shaper's credit is that of its record: each call feeds each shaper its events, so that the calls feed it their sum.
 -- Assumes nothing.
 use Prim.Native.Nat.{ℕ}
+use mathlib.Core.Bool.{Bool, cond}
 use mathlib.Core.List.{List, [], _∷_}
-use mathlib.Core.Path.{_≡_, refl, subst, _∙_}
+use mathlib.Core.Path.{_≡_, refl, ap, subst, _∙_}
 use lib.Dec.{eqb}
 use Rattle.shaper.specs.declared.Event.{Event}
 use Rattle.shaper.specs.Credit.{endCredit, Permitted, AllValid}
+use Rattle.shaper.specs.Credit as shaper
 use Rattle.settings.specs.declared.Settings.{Settings}
 use Rattle.settings.specs.Range.{SettingsOk}
+use Rattle.flow.specs.declared.Credits.{Credits}
+use Rattle.flow.specs.declared.Flow.{Flow}
 use Rattle.flow.specs.declared.Line.the-variants.{Control}
 use Rattle.flow.specs.declared.Which.{Which}
+use Rattle.flow.specs.declared.Which.the-variants.{M, A, B, C, D}
 use Rattle.flow.specs.Which.{bucketOf, creditOf, limitsFor}
+use Rattle.flow.specs.Parts.{withCredits}
+use Rattle.flow.specs.Tick.{waits, amountOf}
 use Rattle.flow.specs.Offer.{queueFor, controlFrame}
 use Rattle.flow.specs.Events.{noEvents, Feeds}
 use Rattle.flow.proofs.Range.{start-credit}
@@ -20,12 +27,36 @@ use Rattle.station.specs.declared.Done.{Done}
 use Rattle.station.specs.declared.Client.{Client}
 use Rattle.station.specs.declared.Selected.{Selected}
 use Rattle.station.specs.Range.{StationOk}
+use Rattle.station.specs.Answers.{withFlow}
 use Rattle.station.specs.Calls.{freshOf, shareFor}
 use Rattle.station.specs.Offers.{givenFrame, overFor}
-use Rattle.station.specs.History.{Call, tick, offerClient, offerTransit, offerControl, select, age, hear, tell, show, Step, ofDone, ofClient, ofSelected, step, trace, after, recordOf}
+use Rattle.station.specs.History.{Call, tick, offerClient, offerTransit, offerControl, select, age, hear, tell, show, Answer, Step, ofDone, ofClient, ofSelected, step, trace, after, recordOf}
 use Rattle.station.proofs.Range.{fresh-ok}
 use Rattle.station.proofs.Refused.{never-1}
 use Rattle.station.proofs.Kept.{tick-cases, offer-cases, client-cases, select-case, age-case, hear-cases, range-kept}
+
+-- ---- no credit is asked
+
+waits-creditless : (f : Flow) (k : Credits) (a b c : Bool) (w : Which) → waits (withCredits f k) a b c w ≡ waits f a b c w
+waits-creditless f k a b c M = refl
+waits-creditless f k a b c A = refl
+waits-creditless f k a b c B = refl
+waits-creditless f k a b c C = refl
+waits-creditless f k a b c D = refl
+
+-- what a call was to a shaper is told from the call, its answer, and a station whatever its credits
+pub trace-creditless : (w : Which) (c : Call) (r : Answer) (st : Station) (k : Credits) → trace w c r (withFlow st (withCredits (st .flow) k)) ≡ trace w c r st
+trace-creditless w (tick a b c) r st k =
+    ap (λ (waiting : Bool). cond (eqb (r .number) 0) (shaper.tickOf waiting (amountOf (st .settings) (shareFor st) w) ∷ []) [])
+    (waits-creditless (st .flow) k (eqb a 1) (eqb b 1) (eqb c 1) w)
+trace-creditless w (offerClient class size hops) r st k = refl
+trace-creditless w (offerTransit class size hops eligible) r st k = refl
+trace-creditless w (offerControl size) r st k = refl
+trace-creditless w select r st k = refl
+trace-creditless w age r st k = refl
+trace-creditless w (hear frame bytes) r st k = refl
+trace-creditless w tell r st k = refl
+trace-creditless w show r st k = refl
 
 -- ---- one call
 

@@ -1,8 +1,12 @@
 pub mod Range
 pub mod Calls
+pub mod Tick
+pub mod Select
 pub mod Offers
 pub mod Hear
 pub mod Refused
 pub mod Kept
 pub mod History
 pub mod ReadBack
+pub mod Narrow
+pub mod Examples

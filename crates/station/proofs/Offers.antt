@@ -12,7 +12,8 @@ use Rattle.decide.proofs.Refusal.{in-order}
 use Rattle.queue.specs.declared.Frame.{Frame}
 use Rattle.queue.specs.Frame.{frameOk, FrameOk, wordOf}
 use Rattle.queue.specs.Queue.{pushed, spaceOf}
-use Rattle.queue.proofs.Word.{same-test, frame-facts}
+use Rattle.decide.proofs.Tests.{same-test}
+use Rattle.queue.proofs.Word.{frame-facts}
 use Rattle.flow.specs.declared.Line.{Line}
 use Rattle.flow.specs.declared.Way.{Way}
 use Rattle.flow.specs.Which.{permitsAll, sends, fed}

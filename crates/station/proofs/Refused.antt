@@ -3,14 +3,14 @@
 use Prim.Native.Nat.{ℕ, zero, suc, _<_}
 use mathlib.Core.Bool.{true, false, _&&_, true≢false}
 use mathlib.Core.List.{List, [], _∷_}
-use mathlib.Core.Logic.{⊎-elim}
-use mathlib.Core.Path.{_≡_, refl, sym, ap, _∙_}
+use mathlib.Core.Logic.{_↔_, ⊎-elim}
+use mathlib.Core.Path.{_≡_, refl, sym, ap, subst, _∙_}
 use native.Mathlib.Omega.{arith}
 use borrow.Author.Tests.{eq-eqb}
 use lib.Dec.{eqb}
 use Rattle.decide.specs.Test.{and-i}
-use Rattle.decide.specs.Refusal.{Fault, Among, firstOf}
-use Rattle.decide.proofs.Refusal.{RefusedExactly, refused-exactly}
+use Rattle.decide.specs.Refusal.{Fault, Among, Free, firstOf}
+use Rattle.decide.proofs.Refusal.{RefusedExactly, refused-exactly, carried-out, free-carried}
 use Rattle.advert.specs.declared.Advert.{Advert}
 use Rattle.settings.specs.declared.Settings.{Settings}
 use Rattle.flow.specs.declared.Client as flow
@@ -88,6 +88,69 @@ module _ (st : Station) where
 
   pub show-exactly : RefusedExactly (showOf st .number) (showFaults st)
   show-exactly = refused-exactly (showFaults st) refl (showOf st .number) (shown-number (firstOf (showFaults st)) st)
+
+-- ---- every call, by its rows
+
+abbrev pub rowsOf : Call → Station → List Fault
+rowsOf (tick a b c) st = tickFaults st a b c
+rowsOf (offerClient class size hops) st = offerClientFaults st class size hops
+rowsOf (offerTransit class size hops eligible) st = offerFaults st (queueFor class) (givenFrame class size hops eligible)
+rowsOf (offerControl size) st = offerFaults st Control (controlFrame size)
+rowsOf select st = selectFaults st
+rowsOf age st = ageFaults st
+rowsOf (hear xs bytes) st = hearFaults st xs
+rowsOf tell st = tellFaults st
+rowsOf show st = showFaults st
+
+-- a call is refused by a number exactly when a row of that number applies and none before it does,
+pub call-exactly : (c : Call) (st : Station) → RefusedExactly (step c st .answer .number) (rowsOf c st)
+call-exactly (tick a b c) st = tick-exactly st a b c
+call-exactly (offerClient class size hops) st = client-exactly st class size hops
+call-exactly (offerTransit class size hops eligible) st = offer-exactly st (queueFor class) (givenFrame class size hops eligible)
+call-exactly (offerControl size) st = offer-exactly st Control (controlFrame size)
+call-exactly select st = select-exactly st
+call-exactly age st = age-exactly st
+call-exactly (hear xs bytes) st = hear-exactly st xs
+call-exactly tell st = tell-exactly st
+call-exactly show st = show-exactly st
+
+call-number : (c : Call) (st : Station) → step c st .answer .number ≡ firstOf (rowsOf c st)
+call-number (tick a b c) st = done-number _ st _
+call-number (offerClient class size hops) st = taken-number _ st _
+call-number (offerTransit class size hops eligible) st = done-number _ st _
+call-number (offerControl size) st = done-number _ st _
+call-number select st = chosen-number _ st
+call-number age st = done-number _ st _
+call-number (hear xs bytes) st = done-number _ st _
+call-number tell st = told-number _ (toldOf (st .fair) (st .settings))
+call-number show st = shown-number _ st
+
+-- each row bears a number
+abbrev Bearing : List Fault → Type 0
+Bearing [] = Unit {0}
+Bearing (g ∷ gs) = (0 < g .number) × Bearing gs
+
+bears : (f : Fault) (gs : List Fault) → Bearing gs → Among f gs → 0 < f .number
+bears f [] b m = absurd m
+bears f (g ∷ gs) b m = ⊎-elim (λ k. subst (λ (x : Fault). 0 < x .number) (sym k) (b .0)) (λ k. bears f gs (b .1) k) m
+
+bearing : (c : Call) (st : Station) → Bearing (rowsOf c st)
+bearing (tick a b c) st = (omega arith, (omega arith, tt))
+bearing (offerClient class size hops) st = (omega arith, (omega arith, (omega arith, (omega arith, (omega arith, tt)))))
+bearing (offerTransit class size hops eligible) st = (omega arith, (omega arith, (omega arith, tt)))
+bearing (offerControl size) st = (omega arith, (omega arith, (omega arith, tt)))
+bearing select st = (omega arith, tt)
+bearing age st = (omega arith, tt)
+bearing (hear xs bytes) st = (omega arith, (omega arith, (omega arith, (omega arith, (omega arith, tt)))))
+bearing tell st = (omega arith, tt)
+bearing show st = (omega arith, tt)
+
+-- and carried out exactly when no row applies
+pub carried-exactly : (c : Call) (st : Station) → (step c st .answer .number ≡ 0) ↔ Free (rowsOf c st)
+carried-exactly c st = (
+  λ e. carried-out (rowsOf c st) (λ f m p. bears f (rowsOf c st) (bearing c st) m) (sym (call-number c st) ∙ e),
+  λ free. call-number c st ∙ free-carried (rowsOf c st) free,
+)
 
 -- ---- a refusal leaves the station
 

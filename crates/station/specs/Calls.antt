@@ -41,10 +41,11 @@ startOf st s = doneBy (firstOf (startFaults s)) st (freshOf s)
 abbrev pub yesNo : ℕ → Test
 yesNo x = x ≤? 1
 
--- 3: a coded choice (yes or no) is outside its range
+-- each of the three flags is in its range
 abbrev pub flagsOk : ℕ → ℕ → ℕ → Test
 flagsOk a b c = yesNo a ∧? yesNo b ∧? yesNo c
 
+-- 1, and 3: a coded choice (yes or no) is outside its range
 abbrev pub tickFaults : Station → ℕ → ℕ → ℕ → List Fault
 tickFaults st a b c = rangeFault st ∷ fault 3 (not (test (flagsOk a b c))) ∷ []
 

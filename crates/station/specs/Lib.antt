@@ -5,3 +5,4 @@ pub mod Offers
 pub mod Hear
 pub mod Show
 pub mod History
+pub mod Narrow

@@ -3,4 +3,3 @@ pub mod Paper
 pub mod Rows
 pub mod Refused
 pub mod Promises
-pub mod Examples

@@ -1,11 +1,11 @@
 // Runs the cases on its input, one on each line: a name, then a record's bytes as words. A word is hex digits, or a number, a star and hex digits: these
 // bytes so many times; a word `|` begins the next piece, a record of its own. For each case its name and what the record, or its pieces joined from the
 // left, comes to. An empty line, and one that begins with #, is skipped.
-mod word;
-
 use feed::Feed;
-use libc::STDIN_FILENO;
-use libc::STDOUT_FILENO;
+use script::Input;
+use script::Value;
+use script::print::text;
+use script::print::wrong;
 use summary::Answer;
 use summary::Summary;
 
@@ -17,22 +17,6 @@ struct Case {
     refused: u64,
 }
 
-// Where a line stands: at its start, in a line that is skipped, in a case's name, or among its words, with the word that is being read.
-struct Line {
-    case: Case,
-    place: u8,
-    word: [u8; 128],
-    length: usize,
-}
-
-const START: u8 = 0;
-
-const SKIPPED: u8 = 1;
-
-const NAME: u8 = 2;
-
-const WORDS: u8 = 3;
-
 // A case of which no byte has come.
 fn fresh() -> Case {
     Case {
@@ -43,115 +27,84 @@ fn fresh() -> Case {
     }
 }
 
-// A line of which no character has come.
-fn blank() -> Line {
-    let word = [0u8; 128];
-    Line {
-        case: fresh(),
-        place: START,
-        word: word,
-        length: 0,
+// Runs the case on a line of this length, which stands in the room, and prints its name and what it comes to.
+fn run(room: &[u8], length: usize) {
+    let line = script::held(room, length);
+    let name = script::head(line);
+    let from = name.from;
+    let end = name.end;
+    if from == end {
+        return;
     }
+    text(&line[from..end]);
+    text(b"\n");
+    let case = applied_all(fresh(), &line[end..]);
+    report::print(answer(parted(case)));
 }
 
-// The line with one character more.
-fn taken(line: Line, b: u8) -> Line {
-    let place = line.place;
-    if b == b'\n' {
-        return ended(line);
-    }
-    if place == SKIPPED {
-        return line;
-    }
-    if place == START {
-        return begun(line, b);
-    }
-    if place == NAME {
-        return named(line, b);
-    }
-    if b == b' ' {
-        return worded(line);
-    }
-    longer(line, b)
-}
-
-// The first character of a line.
-fn begun(line: Line, b: u8) -> Line {
-    let mut next = line;
-    if b == b'#' {
-        next.place = SKIPPED;
-        return next;
-    }
-    next.place = NAME;
-    named(next, b)
-}
-
-// A character of the name is printed; a blank ends it.
-fn named(line: Line, b: u8) -> Line {
-    let mut next = line;
-    if b == b' ' {
-        next.place = WORDS;
-        return next;
-    }
-    io::write_all(STDOUT_FILENO, &[b]);
-    next
-}
-
-// A character of a word.
-fn longer(line: Line, b: u8) -> Line {
-    let at = line.length;
-    let mut next = line;
-    if at < 128 {
-        next.word[at] = b;
-        next.length = at + 1;
+// The case after all words of a text.
+fn applied_all(case: Case, words: &[u8]) -> Case {
+    let mut next = case;
+    let mut rest = words;
+    while 0 < rest.len() {
+        let word = script::word(rest);
+        let from = word.from;
+        let end = word.end;
+        if from == end {
+            return next;
+        }
+        next = applied(next, &rest[from..end]);
+        rest = &rest[end..];
     }
     next
-}
-
-// The line after a word: its bytes are fed.
-fn worded(line: Line) -> Line {
-    let word = line.word;
-    let length = line.length;
-    let place = line.place;
-    let case = line.case;
-    let next = applied(case, word, length);
-    Line {
-        case: next,
-        place: place,
-        word: word,
-        length: 0,
-    }
-}
-
-// The end of a line: where it was a case's, the case is run to its end and printed.
-fn ended(line: Line) -> Line {
-    let place = line.place;
-    if (place == NAME) | (place == WORDS) {
-        let done = worded(line);
-        let case = done.case;
-        io::write_all(STDOUT_FILENO, b"\n");
-        report::print(answer(parted(case)));
-    }
-    blank()
 }
 
 // The case after a word.
-fn applied(case: Case, word: [u8; 128], length: usize) -> Case {
-    if length == 0 {
-        return case;
-    }
-    if word[0] == b'|' {
+fn applied(case: Case, word: &[u8]) -> Case {
+    if check::same(word, b"|") {
         return parted(case);
     }
     let before = case.feed;
     let whole = case.whole;
-    let feed = word::repeated(before, word::spelt(word, length));
+    let feed = worded(before, word);
     Case {
         feed: feed,
         whole: whole,
         some: case.some,
         refused: case.refused,
     }
+}
+
+// A record after the bytes of a word, as often as it says.
+fn worded(feed: Feed, word: &[u8]) -> Feed {
+    let times = script::times_of(word);
+    let number = times.number;
+    let from = times.from;
+    let mut room = io::buffer();
+    let spelt = script::bytes_of(&word[from..], &mut room);
+    let count = spelt.count;
+    if spelt.wrong {
+        wrong(word, b"hex is wanted");
+        return feed;
+    }
+    match number {
+        Value::Is(n) => repeated(feed, &room[0..count], n),
+        Value::Wrong => {
+            wrong(word, b"a number is wanted before the star");
+            feed
+        }
+    }
+}
+
+// A record after some bytes, so often.
+fn repeated(feed: Feed, bytes: &[u8], times: u64) -> Feed {
+    let mut next = feed;
+    let mut left = times;
+    while 0 < left {
+        next = next.feed(bytes);
+        left -= 1;
+    }
+    next
 }
 
 // The case after a piece: joined to those before it, or its refusal kept.
@@ -202,45 +155,21 @@ fn answer(case: Case) -> Answer {
     case.whole
 }
 
-// The line after all characters of a part of the input.
-fn taken_all(line: Line, bytes: &[u8]) -> Line {
-    let mut next = line;
-    let mut i = 0;
-    while i < bytes.len() {
-        next = taken(next, bytes[i]);
-        i += 1;
-    }
-    next
-}
-
-// The line after one read, and whether there may be more.
-struct Read {
-    line: Line,
-    more: bool,
-}
-
-fn turn(line: Line) -> Read {
-    let mut buf = io::buffer();
-    let got = libc::read(STDIN_FILENO, &mut buf);
-    let n = io::count(got, &buf);
-    let next = taken_all(line, &buf[..n]);
-    Read {
-        line: next,
-        more: 0 < n,
-    }
-}
-
 // A proved loop has to end, and nothing says that an input does: the turns are counted down, from a number that no run uses up.
 fn main() {
-    let mut line = blank();
+    let mut ahead = io::buffer();
+    let buffer: &mut [u8] = &mut ahead;
+    let mut space = io::buffer();
+    let room: &mut [u8] = &mut space;
+    let mut input = Input::whole();
     let mut turns = u64::MAX;
     while 0 < turns {
-        let next = turn(line);
-        let more = next.more;
-        if !more {
+        let got = script::line(input, buffer, room);
+        run(room, got.length);
+        if got.last {
             return;
         }
-        line = next.line;
+        input = got.input;
         turns -= 1;
     }
 }

@@ -1,130 +1,35 @@
 // Runs the cases on its input, one on each line: `choose STATIONS OWN TARGET LINKS SIDE PROTECTION RING` or `path STATIONS OWN TARGET LINKS HOME`, and
 // prints what the ring's two calls answer. Numbers are decimal, or hex behind 0x. An empty line, and one that begins with #, is skipped.
-use libc::STDIN_FILENO;
-use libc::STDOUT_FILENO;
 use ring::Choice;
+use script::Input;
+use script::Row;
+use script::print::number;
+use script::print::text;
+use script::print::wrong;
 use wrap::Outcome;
 
-// A line so far: its first character, its numbers, how many there are, and the number that is being read.
-struct Line {
-    first: u8,
-    numbers: [u64; 8],
-    count: u8,
-    value: u64,
-    base: u64,
-    open: bool,
+// Does what a line of this length asks for, which stands in the room.
+fn run(room: &[u8], length: usize) {
+    let line = script::held(room, length);
+    let word = script::head(line);
+    let from = word.from;
+    let end = word.end;
+    if from == end {
+        return;
+    }
+    called(&line[from..end], script::numbers(&line[end..]));
 }
 
-// A line of which no character has come.
-fn blank() -> Line {
-    let numbers = [0u64; 8];
-    Line {
-        first: b'\n',
-        numbers: numbers,
-        count: 0,
-        value: 0,
-        base: 10,
-        open: false,
+// The call of this name with these numbers.
+fn called(name: &[u8], row: Row) {
+    let n = row.values;
+    if check::same(name, b"choose") & row.are(7) {
+        return chosen(ring::choose(n[0], n[1], n[2], n[3], n[4], n[5], n[6]));
     }
-}
-
-// The line with one character more; at its end, what it asks for is done.
-fn taken(line: Line, b: u8) -> Line {
-    if b == b'\n' {
-        run(closed(line));
-        return blank();
+    if check::same(name, b"path") & row.are(5) {
+        return moved(wrap::path(n[0], n[1], n[2], n[3], n[4]));
     }
-    let first = line.first;
-    if first == b'\n' {
-        let mut next = line;
-        next.first = b;
-        return next;
-    }
-    if b == b' ' {
-        return closed(line);
-    }
-    digit(line, b)
-}
-
-// The line with the number that was being read among its numbers.
-fn closed(line: Line) -> Line {
-    let count = line.count;
-    let open = line.open;
-    let value = line.value;
-    let mut next = line;
-    if open {
-        if count < 8 {
-            let at = count as usize;
-            next.numbers[at] = value;
-            next.count = count + 1;
-        }
-    }
-    next.value = 0;
-    next.base = 10;
-    next.open = false;
-    next
-}
-
-// The line with one digit more of its number; an x turns to base 16, and a letter of the first word is no digit.
-fn digit(line: Line, b: u8) -> Line {
-    let mut next = line;
-    if b == b'x' {
-        next.base = 16;
-        return next;
-    }
-    let worth = worth(b, line.base);
-    if worth == 16 {
-        return next;
-    }
-    next.value = longer(line.value, line.base, worth);
-    next.open = true;
-    next
-}
-
-// What a digit is worth in a base, or 16 where it is none.
-fn worth(b: u8, base: u64) -> u64 {
-    if b < b'0' {
-        return 16;
-    }
-    if b <= b'9' {
-        return (b - b'0') as u64;
-    }
-    if base != 16 {
-        return 16;
-    }
-    if b < b'a' {
-        return 16;
-    }
-    if b'f' < b {
-        return 16;
-    }
-    (b - b'a') as u64 + 10
-}
-
-// A number with one digit more, as long as it fits 64 bits.
-fn longer(value: u64, base: u64, worth: u64) -> u64 {
-    if base == 16 {
-        if value < 1152921504606846976 {
-            return std::num::wrapping_add_u64(value * 16, worth);
-        }
-        return value;
-    }
-    if value <= 1844674407370955161 {
-        return std::num::wrapping_add_u64(value * 10, worth);
-    }
-    value
-}
-
-// What a whole line asks for.
-fn run(line: Line) {
-    let first = line.first;
-    let n = line.numbers;
-    if first == b'c' {
-        chosen(ring::choose(n[0], n[1], n[2], n[3], n[4], n[5], n[6]));
-    }
-    if first == b'p' {
-        moved(wrap::path(n[0], n[1], n[2], n[3], n[4]));
-    }
+    wrong(name, b"choose with 7 numbers, or path with 5, is wanted");
 }
 
 // Prints a choice.
@@ -166,53 +71,21 @@ fn bit(yes: bool) -> u64 {
     if yes { 1 } else { 0 }
 }
 
-fn number(word: &[u8], n: u64) -> bool {
-    text(word) & io::print_decimal(STDOUT_FILENO, n)
-}
-
-fn text(bytes: &[u8]) -> bool {
-    io::write_all(STDOUT_FILENO, bytes)
-}
-
-// The line after all characters of a part of the input.
-fn taken_all(line: Line, bytes: &[u8]) -> Line {
-    let mut next = line;
-    let mut i = 0;
-    while i < bytes.len() {
-        next = taken(next, bytes[i]);
-        i += 1;
-    }
-    next
-}
-
-// The line after one read, and whether there may be more.
-struct Read {
-    line: Line,
-    more: bool,
-}
-
-fn turn(line: Line) -> Read {
-    let mut buf = io::buffer();
-    let got = libc::read(STDIN_FILENO, &mut buf);
-    let n = io::count(got, &buf);
-    let next = taken_all(line, &buf[..n]);
-    Read {
-        line: next,
-        more: 0 < n,
-    }
-}
-
 // A proved loop has to end, and nothing says that an input does: the turns are counted down, from a number that no run uses up.
 fn main() {
-    let mut line = blank();
+    let mut ahead = io::buffer();
+    let buffer: &mut [u8] = &mut ahead;
+    let mut space = io::buffer();
+    let room: &mut [u8] = &mut space;
+    let mut input = Input::whole();
     let mut turns = u64::MAX;
     while 0 < turns {
-        let next = turn(line);
-        let more = next.more;
-        if !more {
+        let got = script::line(input, buffer, room);
+        run(room, got.length);
+        if got.last {
             return;
         }
-        line = next.line;
+        input = got.input;
         turns -= 1;
     }
 }

@@ -5,6 +5,7 @@ use mathlib.Core.Bool.{Bool, true, false, true≢false}
 use mathlib.Core.Logic.{⊎-elim}
 use Prim.Native.Nat.{ℕ, zero, suc, _+_, _*_, _≤_, _<_, zero-le}
 use native.Mathlib.Omega.{arith}
+use lib.ListN.{length}
 use borrow.Author.Tests.{leb-true, leb-false}
 use Rattle.decide.proofs.Cases.{by-cases, le-or}
 use Rattle.ring.specs.declared.Way.{Way}
@@ -14,12 +15,12 @@ use Rattle.ring.specs.Links.{otherOf, nextOf, aheadOf, reachOf}
 use Rattle.ring.specs.Choosing.{distanceOf, reachesOf, chooseOf, Between, Placed}
 use Rattle.ring.proofs.Distances.{whole-ring}
 use Rattle.ring.proofs.Hops.{after, after-lt, after-suc, back, arrives, not-before, run-on, run-ends}
-use Rattle.ring.proofs.Faults.{failing, placed-free, no-way-means}
-use Rattle.wrap.specs.declared.Walk.{Walk}
+use Rattle.decide.proofs.Tests.{failing}
+use Rattle.ring.proofs.Faults.{placed-free, no-way-means}
 use Rattle.wrap.specs.declared.Outcome.the-variants.{Moved}
-use Rattle.wrap.specs.Walking.{Course, atHome, courseOf, walkOf, sideOf, wholeOf, badHome, pathOf}
+use Rattle.wrap.specs.Walking.{Course, atHome, courseOf, sideOf, wholeOf, badHome, pathOf}
 use Rattle.wrap.proofs.Courses.{delivered-there, moves-home, of-course}
-use Rattle.wrap.proofs.Answers.{moved, path-length}
+use Rattle.wrap.proofs.Answers.{found, path-length}
 
 -- ---- the stations within reach
 
@@ -113,21 +114,25 @@ module _ (stations own target links : ℕ) (p : Placed stations own target links
     abbrev rest : ℕ → ℕ → Course
     rest left i = courseOf stations links target home left atHome (after home stations own i)
 
-    straight : (k i left : ℕ) → i + k ≡ far → k ≤ left → walkOf (rest left i) ≡ record { delivered = true; hops = k }
+    -- whether a course delivers, and its hops
+    abbrev told : Course → Bool × ℕ
+    told course = (course .delivered, length (course .links))
+
+    straight : (k i left : ℕ) → i + k ≡ far → k ≤ left → told (rest left i) ≡ (true, k)
     straight zero i left e l =
-        ap walkOf
+        ap told
         (delivered-there stations links target home left (after home stations own i)
         (ap (after home stations own) (let f : i ≡ far = omega arith in f) ∙ arrives stations own target between (p .differ) home))
     straight (suc k) i zero e l = absurd (omega arith)
     straight (suc k) i (suc left) e l =
         let n = enough in
-        ap walkOf
+        ap told
         (moves-home stations links target home left (after home stations own i)
         (not-before stations own target between (p .differ) home i (omega arith))
         (run-on home stations links stations own i (omega arith)))
         ∙ ap
-        (λ (w : Walk). record { delivered = w .delivered; hops = suc (w .hops) })
-        (ap (λ (x : ℕ). walkOf (courseOf stations links target home left atHome x)) (sym (after-suc home stations own i))
+        (λ (p : Bool × ℕ). (p .0, suc (p .1)))
+        (ap (λ (x : ℕ). told (courseOf stations links target home left atHome x)) (sym (after-suc home stations own i))
         ∙ straight k (suc i) left (omega arith) (omega arith))
 
 -- Where the choice is 8, no wrap-marked frame is delivered, whatever its home side.
@@ -145,9 +150,10 @@ pub home-run : (stations own target links home : ℕ) → Placed stations own ta
 home-run stations own target links home p l h r =
     let w = whole-ring stations own target (between stations own target links p) in
     sym
-    (moved stations own target links home (placed-free stations own target links p)
-    (failing (badHome home) (λ k. ⊎-elim (λ q. omega arith) (λ q. omega arith) k))
-    (sym (straight stations own target links p (sideOf home) r (distanceOf (sideOf home) stations own target) 0 (2 * stations) (omega arith) (few (sideOf home)))))
+    (found stations own target links home (placed-free stations own target links p)
+    (failing (badHome home) (λ k. ⊎-elim (λ q. omega arith) (λ q. omega arith) k)))
+    ∙ ap (λ (p : Bool × ℕ). Moved (p .0) (p .1))
+    (straight stations own target links p (sideOf home) r (distanceOf (sideOf home) stations own target) 0 (2 * stations) (omega arith) (few (sideOf home)))
   where
     few : (way : Way) → distanceOf way stations own target ≤ 2 * stations
     few Left = let w = whole-ring stations own target (between stations own target links p) in omega arith

@@ -1,10 +1,11 @@
 -- The answers of `path`: each refusal is a row of the definition, and the hops moved are the length of the list of links.
 -- Assumes nothing.
-use mathlib.Core.Path.{_≡_, refl, sym, ap, _∙_}
+use mathlib.Core.Path.{_≡_, refl, sym, ap, ap₂, _∙_}
 use mathlib.Core.Bool.{Bool, true, false, cond}
 use mathlib.Core.List.{[], _∷_}
-use Prim.Native.Nat.{ℕ, zero, suc, _*_, _≤_, _<_}
+use Prim.Native.Nat.{ℕ, zero, suc, _+_, _*_, _/_, _%_, _≤_, _<_}
 use native.Mathlib.Omega.{arith}
+use lib.Dec.{eqb}
 use lib.ListN.{length}
 use Rattle.decide.specs.Test.{test}
 use Rattle.decide.specs.Refusal.{fault, firstOf, Given}
@@ -13,9 +14,13 @@ use Rattle.ring.specs.Choosing.{badSize, badWord, badIndex, placeFaults, Placed
 use Rattle.ring.proofs.Faults.{then, then-none, place-then, exactly-by, placed as placed-of}
 use Rattle.wrap.specs.declared.Outcome.{Outcome}
 use Rattle.wrap.specs.declared.Outcome.the-variants.{Moved, Refused}
-use Rattle.wrap.specs.declared.Walk.{Walk}
 use Rattle.wrap.specs.Walking.{Course, atHome, walkOf, sideOf, wholeOf, badHome, pathFaults, refusedOr, movedOf, pathOf, numberOf}
 use Rattle.wrap.proofs.Courses.{Usable, short, all-usable}
+
+-- whether delivered, and the hops, from twice the hops and 1 more where delivered
+apart : (d : Bool) (hops : ℕ) → Moved (eqb ((2 * (0 + hops) + cond d 1 0) % 2) 1) ((2 * (0 + hops) + cond d 1 0) / 2) ≡ Moved d hops
+apart true hops = ap₂ Moved (ap (λ (x : ℕ). eqb x 1) (let e : (2 * (0 + hops) + 1) % 2 ≡ 1 = omega arith in e)) (omega arith)
+apart false hops = ap₂ Moved (ap (λ (x : ℕ). eqb x 1) (let e : (2 * (0 + hops) + 0) % 2 ≡ 0 = omega arith in e)) (omega arith)
 
 module _ (stations own target links home : ℕ) where
   abbrev place : ℕ
@@ -47,8 +52,12 @@ module _ (stations own target links home : ℕ) where
     pub refused-home : test (badHome home) ≡ true → Refused 3 ≡ pathOf stations own target links home
     refused-home f = sym (after f)
 
-    pub moved : test (badHome home) ≡ false → {w : Walk} → w ≡ walkOf whole → Moved (w .delivered) (w .hops) ≡ pathOf stations own target links home
-    moved f e = ap (λ (x : Walk). Moved (x .delivered) (x .hops)) e ∙ sym (after f)
+    pub found : test (badHome home) ≡ false → movedOf whole ≡ pathOf stations own target links home
+    found f = sym (after f)
+
+    -- a walk's one number is taken apart again
+    pub moved : test (badHome home) ≡ false → {w : ℕ} → w ≡ walkOf 0 whole → Moved (eqb (w % 2) 1) (w / 2) ≡ pathOf stations own target links home
+    moved f e = ap (λ (x : ℕ). Moved (eqb (x % 2) 1) (x / 2)) e ∙ apart (whole .delivered) (length (whole .links)) ∙ found f
 
   -- ---- "Given exactly when"
 

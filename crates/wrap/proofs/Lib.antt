@@ -1,5 +1,5 @@
 pub mod Courses
 mod Steps
 pub mod Answers
-pub mod Examples
+pub mod Undelivered
 pub mod Agreement

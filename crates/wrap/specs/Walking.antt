@@ -11,7 +11,6 @@ use Rattle.ring.specs.declared.Way.{Way}
 use Rattle.ring.specs.declared.Way.the-variants.{Left, Right}
 use Rattle.ring.specs.Links.{otherOf, nextOf, linkOf, aheadOf}
 use Rattle.ring.specs.Choosing.{placeFaults}
-use Rattle.wrap.specs.declared.Walk.{Walk}
 use Rattle.wrap.specs.declared.Outcome.{Outcome}
 use Rattle.wrap.specs.declared.Outcome.the-variants.{Moved, Refused}
 
@@ -93,20 +92,17 @@ abbrev pub numberOf : Outcome → ℕ
 numberOf (Moved delivered hops) = 0
 numberOf (Refused n) = n
 
--- what a walk answers of a course, and with a hop more
-abbrev pub walkOf : Course → Walk
-walkOf course = record { delivered = course .delivered; hops = length (course .links) }
-
-abbrev pub moreOf : Walk → Walk
-moreOf walk = record { delivered = walk .delivered; hops = walk .hops + 1 }
+-- what a walk answers of the rest of a course, with so many hops behind it: twice the hops of both, and 1 more where the frame is delivered
+abbrev pub walkOf : ℕ → Course → ℕ
+walkOf moved rest = 2 * (moved + length (rest .links)) + cond (rest .delivered) 1 0
 
 -- a station of a ring of at most 63
 pub record Stops (stations at : ℕ) : Type 0 where
   pub small : stations < 64
   pub station : at < stations
 
--- a station of a ring of at most 63, and at most twice as many hops left
-pub record Walks (stations left at : ℕ) : Type 0 where
+-- a station of a ring of at most 63, and at most twice as many hops, moved or left
+pub record Walks (stations hops at : ℕ) : Type 0 where
   pub small : stations < 64
   pub station : at < stations
-  pub few : left < 127
+  pub few : hops < 127

@@ -1,16 +1,10 @@
 // The path of a wrap-marked frame round a ring with breaks.
 ghost use mathlib.Core.Path.{_≡_};
 ghost use mathlib.Core.Bool.{false};
-ghost use Prim.Native.Nat.{_+_, _<_};
+ghost use Prim.Native.Nat.{_+_};
 ghost use Rattle.ring.specs.Links.{otherOf, nextOf, linkOf, aheadOf};
-ghost use Rattle.wrap.specs.Walking.{Stops, Walks, atHome, opposite, courseOf, walkOf, moreOf, sideOf, pathOf};
+ghost use Rattle.wrap.specs.Walking.{Stops, Walks, atHome, opposite, courseOf, walkOf, sideOf, pathOf};
 use ring::Way;
-
-// Whether a frame is delivered, and how many hops it moved.
-pub struct Walk {
-    pub delivered: bool,
-    pub hops: u64,
-}
 
 // What becomes of a wrap-marked frame; or the number of the refusal.
 pub enum Outcome {
@@ -29,14 +23,16 @@ pub fn path(stations: u64, own: u64, target: u64, links: u64, home: u64) -> Outc
     if (home < 1) | (2 < home) {
         return Outcome::Refused(3);
     }
-    let walk = home_walk(stations, links, target, side(home), 2 * stations, own, 1);
+    let walk = home_walk(stations, links, target, side(home), 2 * stations, own, 1, 0);
     Outcome::Moved {
-        delivered: walk.delivered,
-        hops: walk.hops,
+        delivered: walk % 2 == 1,
+        hops: walk / 2,
     }
 }
 
-// The rest of a walk on the home side. `turn` is 0 just after a turn, where the link behind is known to be unusable, and else 1.
+// The rest of a walk on the home side, after `moved` hops. The answer is one number: twice all the hops moved, and 1 more where the frame is delivered.
+// No call of a walk is followed by anything, so that a walk runs as a loop. `turn` is 0 just after a turn, where the link behind is known to be unusable,
+// and else 1.
 fn home_walk(
     stations: u64,
     links: u64,
@@ -45,24 +41,25 @@ fn home_walk(
     left: u64,
     at: u64,
     turn: u64,
-) -> Walk
-    requires { ⌜ Walks stations left at × (turn ≡ 0 → aheadOf (otherOf home) stations links at ≡ false) ⌝ }
-    ensures { λ r. ⌜ r ≡ walkOf (courseOf stations links target home left atHome at) ⌝ }
+    moved: u64,
+) -> u64
+    requires { ⌜ Walks stations (moved + left) at × (turn ≡ 0 → aheadOf (otherOf home) stations links at ≡ false) ⌝ }
+    ensures { λ r. ⌜ r ≡ walkOf moved (courseOf stations links target home left atHome at) ⌝ }
 {
     if at == target {
-        return ended(true);
+        return 2 * moved + 1;
     }
     if left == 0 {
-        return ended(false);
+        return 2 * moved;
     }
     if ahead(home, stations, links, at) {
         let on = next(home, stations, at);
-        return hopped(home_walk(stations, links, target, home, left - 1, on, 1));
+        return home_walk(stations, links, target, home, left - 1, on, 1, moved + 1);
     }
     if turn == 0 {
-        return ended(false);
+        return 2 * moved;
     }
-    opposite_walk(stations, links, target, home, left, at, 0)
+    opposite_walk(stations, links, target, home, left, at, 0, moved)
 }
 
 // The rest of a walk on the opposite ringlet, and back again at the next break. `turn` is 0 just after a turn, short of the target and with the link
@@ -75,40 +72,23 @@ fn opposite_walk(
     left: u64,
     at: u64,
     turn: u64,
-) -> Walk
-    requires { ⌜ Walks stations left at × (turn ≡ 0 → (aheadOf home stations links at ≡ false) × (at ≡ target → ⊥)) ⌝ }
-    ensures { λ r. ⌜ r ≡ walkOf (courseOf stations links target home left opposite at) ⌝ }
+    moved: u64,
+) -> u64
+    requires { ⌜ Walks stations (moved + left) at × (turn ≡ 0 → (aheadOf home stations links at ≡ false) × (at ≡ target → ⊥)) ⌝ }
+    ensures { λ r. ⌜ r ≡ walkOf moved (courseOf stations links target home left opposite at) ⌝ }
 {
     if left == 0 {
-        return ended(false);
+        return 2 * moved;
     }
     let away = ring::other(home);
     if ahead(away, stations, links, at) {
         let on = next(away, stations, at);
-        return hopped(opposite_walk(stations, links, target, home, left - 1, on, 1));
+        return opposite_walk(stations, links, target, home, left - 1, on, 1, moved + 1);
     }
     if turn == 0 {
-        return ended(false);
+        return 2 * moved;
     }
-    home_walk(stations, links, target, home, left, at, 0)
-}
-
-// No hop more.
-fn ended(delivered: bool) -> Walk
-    ensures { λ r. ⌜ r ≡ record { delivered = delivered; hops = 0 } ⌝ }
-{
-    Walk { delivered, hops: 0 }
-}
-
-// One hop more.
-fn hopped(walk: Walk) -> Walk
-    requires { ⌜ walk .hops < 127 ⌝ }
-    ensures { λ r. ⌜ r ≡ moreOf walk ⌝ }
-{
-    Walk {
-        delivered: walk.delivered,
-        hops: walk.hops + 1,
-    }
+    home_walk(stations, links, target, home, left, at, 0, moved)
 }
 
 // Whether the link ahead of a station is usable.
@@ -137,8 +117,8 @@ fn next(way: Way, stations: u64, at: u64) -> u64
     ensures { λ r. ⌜ r ≡ nextOf way stations at ⌝ }
 {
     match way {
-        Way::Left => (at + (stations - 1)) % stations,
-        Way::Right => (at + 1) % stations,
+        Way::Left => if at == 0 { stations - 1 } else { at - 1 },
+        Way::Right => if at + 1 == stations { 0 } else { at + 1 },
     }
 }
 

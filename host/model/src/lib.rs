@@ -8,11 +8,15 @@
 #![forbid(unsafe_code)]
 
 pub mod cases;
+pub mod entry_script;
 pub mod host;
 pub mod lent;
+pub mod lent_call;
 pub mod line;
 pub mod make;
 pub mod make_call;
+pub mod make_damage;
+pub mod make_fit;
 pub mod make_station;
 pub mod random;
 pub mod record;
@@ -26,3 +30,4 @@ pub mod station_script;
 pub mod summary;
 pub mod tally;
 pub mod text;
+pub mod walk;

@@ -149,15 +149,11 @@ fn room(random: &mut Random, right: usize) -> usize {
     }
 }
 
-/// A random call.
-pub fn call(random: &mut Random, station: &Station, habit: &Habit) -> Call {
-    let mood = habit.mood;
-    let mut at = random.below(100);
-    let mut kind = 0;
-    while kind < mood.len() && at >= mood[kind] {
-        at -= mood[kind];
-        kind += 1;
-    }
+/// The nine calls on a station.
+pub const KINDS: usize = 9;
+
+/// A random call of one kind.
+pub fn of_kind(random: &mut Random, kind: usize, station: &Station, habit: &Habit) -> Call {
     match kind {
         0 => tick(random),
         1 => Call::Client(frame(random, station, habit)),
@@ -170,4 +166,16 @@ pub fn call(random: &mut Random, station: &Station, habit: &Habit) -> Call {
         7 => Call::Tell(room(random, FRAME_LENGTH)),
         _ => Call::Show(room(random, READING_LENGTH)),
     }
+}
+
+/// A random call.
+pub fn call(random: &mut Random, station: &Station, habit: &Habit) -> Call {
+    let mood = habit.mood;
+    let mut at = random.below(100);
+    let mut kind = 0;
+    while kind < mood.len() && at >= mood[kind] {
+        at -= mood[kind];
+        kind += 1;
+    }
+    of_kind(random, kind, station, habit)
 }

@@ -139,31 +139,56 @@ fn eager(random: &mut Random, words: &mut [u32; WORDS]) {
     words[28] = 16;
 }
 
+/// The ends of a word's range, each with the number just past it. Other words of the
+/// settings set some of them.
+pub fn ends(words: &[u32; WORDS], at: usize) -> Vec<[u32; 2]> {
+    let (mtu, secondary, threshold) = (words[3], words[21], words[22]);
+    let limits = [4, 7, 10, 13, 16, 19, 20].map(|at| words[at]);
+    let most_mtu = limits.into_iter().fold(secondary / 2, u32::min);
+    match at {
+        0 => vec![[65_535, 65_536]],
+        2 => vec![[1, 2], [0, 256]],
+        3 => vec![[64, 63], [9_216, 9_217], up(most_mtu)],
+        4..=18 => match (at - 4) % 3 {
+            0 => vec![
+                down(mtu),
+                [65_536, 65_537],
+                up(words[at + 1].wrapping_sub(1)),
+            ],
+            1 => vec![down(words[at - 1].wrapping_add(1)), [1_048_576, 1_048_577]],
+            _ => vec![[65_535, 65_536]],
+        },
+        19 | 20 => vec![down(mtu), [1_048_576, 1_048_577]],
+        21 => vec![
+            down(mtu.wrapping_mul(2)),
+            [1_048_576, 1_048_577],
+            down(threshold),
+        ],
+        22 => vec![up(secondary)],
+        23 => vec![[1, 0], [255, 256]],
+        24 => vec![[1, 0], [1_024, 1_025]],
+        25 => vec![[1, 0], [10_000, 10_001]],
+        26 => vec![[1, 0], [2_147_483_647, 2_147_483_648]],
+        27 => vec![[16, 32], [1, 0], [2, 3]],
+        28 | 29 => vec![[16, 8], [512, 1_024], [64, 65]],
+        _ => vec![[0, u32::MAX]],
+    }
+}
+
+fn up(most: u32) -> [u32; 2] {
+    [most, most.wrapping_add(1)]
+}
+
+fn down(least: u32) -> [u32; 2] {
+    [least, least.wrapping_sub(1)]
+}
+
 /// A word of the settings moved to an end of its range, just past it, or anywhere.
 pub fn settings_near(random: &mut Random) -> [u32; WORDS] {
     let mut words = settings(random);
     let at = random.below(WORDS);
-    let (mtu, lo, secondary) = (words[3], words[4.max(at - at.min(1))], words[21]);
-    let near = match at {
-        0 => [65_535, 65_536],
-        2 => [1, 2],
-        3 => random.pick(&[[64, 63], [9_216, 9_217]]),
-        4..=18 => match (at - 4) % 3 {
-            0 => random.pick(&[[mtu, mtu - 1], [65_536, 65_537]]),
-            1 => random.pick(&[[lo + 1, lo], [1_048_576, 1_048_577]]),
-            _ => [65_535, 65_536],
-        },
-        19 | 20 => random.pick(&[[mtu, mtu - 1], [1_048_576, 1_048_577]]),
-        21 => random.pick(&[[2 * mtu, 2 * mtu - 1], [1_048_576, 1_048_577]]),
-        22 => [secondary, secondary + 1],
-        23 => random.pick(&[[1, 0], [255, 256]]),
-        24 => random.pick(&[[1, 0], [1_024, 1_025]]),
-        25 => random.pick(&[[1, 0], [10_000, 10_001]]),
-        26 => random.pick(&[[1, 0], [2_147_483_647, 2_147_483_648]]),
-        27 => random.pick(&[[16, 32], [1, 0], [2, 3]]),
-        28 | 29 => random.pick(&[[16, 8], [512, 1_024], [64, 65]]),
-        _ => [0, u32::MAX],
-    };
+    let ends = ends(&words, at);
+    let near = random.pick(&ends);
     words[at] = match random.below(6) {
         0 => near[0],
         1 => random.word() as u32,

@@ -6,6 +6,33 @@ use std::fmt;
 /// A function's name, and the refusals that it can give.
 pub type Reachable = &'static [(&'static str, &'static [&'static str])];
 
+// The pairs of call and refusal that the paper and HOST make possible. `differ` fails
+// where one of them never came up, or where another one did.
+//
+// 2 | every call that lends a slice: "A slice whose length is not the one named below, or
+//   |   not `rpr_station_length()`, is refusal 2"; rpr_summarize also for what isn't a
+//   |   whole record, rpr_read_frame also for "Another length, type, header kind or a
+//   |   ringlet bit equal to the station's own". rpr_choose and rpr_path lend none.
+// 1 | rpr_start and rpr_summarize: "a setting"; the nine calls on a station: "a lent
+//   |   station's state"; rpr_choose and rpr_path: "2 to 63 stations (else 1)". A
+//   |   summary's settings are 3 instead: not rpr_join, not rpr_settle.
+// 3 | "a frame": the three offers, rpr_read_frame ("ttl 193 to 255, else 3"),
+//   |   rpr_summarize (a send's size); "station index" and "higher bits set": rpr_choose,
+//   |   rpr_path; "summary (its settings too)": rpr_join, rpr_settle; "starting credit":
+//   |   rpr_settle; "coded choice": rpr_tick, rpr_offer_client, rpr_offer_transit,
+//   |   rpr_choose, rpr_path.
+// 11 | rpr_read_frame: "a fairness frame bears this station's own address".
+// 10 | rpr_join: "joined summaries have different settings".
+// 9 | rpr_summarize, rpr_join: "over 1,000,000 events".
+// 4 | rpr_offer_transit, rpr_offer_control: "a frame's size exceeds the queue's space".
+//   |   The stage is no queue: not rpr_offer_client.
+// 5 | rpr_offer_client: "the stage already holds a frame".
+// 6 | rpr_offer_client: "a needed shaper doesn't permit". rpr_select goes on to the next
+//   |   that holds, and to nothing.
+// 7 | rpr_offer_client: "the congested fair rate would be passed".
+// 8 | rpr_choose: "no usable way". A path not delivered is "no refusal".
+// rpr_station_length answers "the number of bytes [...], and nothing else".
+
 /// A room of another length is told apart from the other reasons for 2.
 pub const OF_RECORDS: Reachable = &[
     ("rpr_summarize", &["2 room", "2", "1", "3", "9"]),
@@ -15,15 +42,15 @@ pub const OF_RECORDS: Reachable = &[
 pub const OF_RINGS: Reachable = &[("rpr_choose", &["1", "3", "8"]), ("rpr_path", &["1", "3"])];
 pub const OF_STATIONS: Reachable = &[
     ("rpr_start", &["2", "1"]),
-    ("rpr_tick", &["2", "3"]),
-    ("rpr_offer_client", &["2", "3", "5", "6", "7"]),
-    ("rpr_offer_transit", &["2", "3", "4"]),
-    ("rpr_offer_control", &["2", "3", "4"]),
-    ("rpr_select", &["2"]),
-    ("rpr_age", &["2"]),
-    ("rpr_read_frame", &["2", "3", "11"]),
-    ("rpr_write_frame", &["2"]),
-    ("rpr_show", &["2"]),
+    ("rpr_tick", &["2", "1", "3"]),
+    ("rpr_offer_client", &["2", "1", "3", "5", "6", "7"]),
+    ("rpr_offer_transit", &["2", "1", "3", "4"]),
+    ("rpr_offer_control", &["2", "1", "3", "4"]),
+    ("rpr_select", &["2", "1"]),
+    ("rpr_age", &["2", "1"]),
+    ("rpr_read_frame", &["2", "1", "3", "11"]),
+    ("rpr_write_frame", &["2", "1"]),
+    ("rpr_show", &["2", "1"]),
 ];
 const CARRIED_OUT: &str = "carried out";
 
@@ -57,9 +84,21 @@ impl Tally {
         self.counts.get(&key).copied().unwrap_or(0)
     }
 
+    /// What the table of pairs doesn't have.
+    fn unexpected(&self) -> Vec<String> {
+        let listed = |function: &str, outcome: &str| {
+            let pairs = self.reachable.iter().find(|pairs| pairs.0 == function);
+            pairs.is_some_and(|pairs| outcome == CARRIED_OUT || pairs.1.contains(&outcome))
+        };
+        let keys = self.counts.keys();
+        keys.filter(|(function, outcome)| !listed(function, outcome))
+            .map(|(function, outcome)| format!("{function}: {outcome} isn't possible"))
+            .collect()
+    }
+
     /// What is missing: too few calls carried out, or a refusal never reached.
     pub fn faults(&self) -> Vec<String> {
-        let mut faults = Vec::new();
+        let mut faults = self.unexpected();
         let of = |(function, _): &(&'static str, _)| self.of(function, CARRIED_OUT);
         let carried_out: u64 = self.reachable.iter().map(of).sum();
         if 2 * carried_out < self.calls() {

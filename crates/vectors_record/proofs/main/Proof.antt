@@ -5,19 +5,34 @@ use Rattle.vectors_record.proofs.main.Statement.{statement}
 use Rattle.vectors_record.proofs.main.Tie as tie
 
 abbrev Inv-loop : tie.InvT-loop
-Inv-loop line₀ turns₀ line turns = Unit {0}
+Inv-loop buffer₀ room₀ input₀ turns₀ buffer room input turns = Unit {0}
 
 abbrev μ-loop : tie.MeasureT-loop
-μ-loop line₀ turns₀ line turns = turns
+μ-loop buffer₀ room₀ input₀ turns₀ buffer room input turns = turns
 
-blank-requires : tie.Need-blank-requires Inv-loop μ-loop
-blank-requires c κs = search needs
+buffer-requires : tie.Need-buffer-requires Inv-loop μ-loop
+buffer-requires c κs = search needs
+
+slice-aggregate-buffer : tie.Need-slice-aggregate-buffer Inv-loop μ-loop
+slice-aggregate-buffer c = search needs
+
+buffer-requires-2 : tie.Need-buffer-requires-2 Inv-loop μ-loop
+buffer-requires-2 c κs = search needs
+
+slice-aggregate-room : tie.Need-slice-aggregate-room Inv-loop μ-loop
+slice-aggregate-room c = search needs
+
+whole-requires : tie.Need-whole-requires Inv-loop μ-loop
+whole-requires c κs = search needs
 
 loop-holds : tie.Need-loop-holds Inv-loop μ-loop
 loop-holds c = search needs
 
-turn-requires : tie.Need-turn-requires Inv-loop μ-loop
-turn-requires c κs = search needs
+line-requires : tie.Need-line-requires Inv-loop μ-loop
+line-requires c κs = search needs
+
+run-requires : tie.Need-run-requires Inv-loop μ-loop
+run-requires c κs = search needs
 
 returns : tie.Need-returns Inv-loop μ-loop
 returns c = search needs
@@ -40,9 +55,14 @@ main-spec =
     (tie.spec
     Inv-loop
     μ-loop
-    blank-requires
+    buffer-requires
+    slice-aggregate-buffer
+    buffer-requires-2
+    slice-aggregate-room
+    whole-requires
     loop-holds
-    turn-requires
+    line-requires
+    run-requires
     returns
     sub-turns
     loop-less

@@ -3,10 +3,12 @@
 //! `expected summarize < INPUT`: what the summary program prints for this input.
 //! `expected vectors < CASES`: what the vectors program prints for this case file.
 //! `expected ring < CASES`: what each call of this case file answers.
+//! `expected walk < CASES`: what a reader finds in the record of each line.
 //! `expected station < SCRIPT`: what each call of this script answers.
+//! `expected entry < SCRIPT`: what each call of this script answers, and what it leaves.
 
 use model::station_script::Script;
-use model::{cases, ring_cases, text};
+use model::{cases, entry_script, ring_cases, text, walk};
 use std::env;
 use std::io::{self, BufRead, Read, Write};
 use std::process::ExitCode;
@@ -44,6 +46,11 @@ fn station() -> Result<(), String> {
     lines(|line| script.print(line))
 }
 
+fn entry() -> Result<(), String> {
+    let mut script = entry_script::Script::default();
+    lines(|line| script.print(line))
+}
+
 fn write(text: &str) -> Result<(), String> {
     let written = io::stdout().lock().write_all(text.as_bytes());
     written.map_err(|fault| fault.to_string())
@@ -55,8 +62,10 @@ fn main() -> ExitCode {
         ["summarize"] => summarize(),
         ["vectors"] => vectors(),
         ["ring"] => lines(ring_cases::print),
+        ["walk"] => lines(walk::print),
         ["station"] => station(),
-        _ => Err("usage: expected summarize|vectors|ring|station".to_string()),
+        ["entry"] => entry(),
+        _ => Err("usage: expected summarize|vectors|ring|walk|station|entry".to_string()),
     };
     match done {
         Ok(()) => ExitCode::SUCCESS,

@@ -16,7 +16,7 @@ impl Rates {
         [self.add, self.fw, self.add_congested, self.fw_congested]
     }
 
-    fn each(list: [u64; 4]) -> Rates {
+    pub fn each(list: [u64; 4]) -> Rates {
         let [add, fw, add_congested, fw_congested] = list;
         Rates {
             add,

@@ -2,7 +2,7 @@
 //!
 //! "Each returns its number alone and leaves the station and all lent bytes untouched":
 //! a call works on a copy and stores it where it was carried out. A lent station is
-//! taken to be a good one.
+//! in range here; `lent_call` makes the calls on any lent bytes.
 
 use super::fairness::FRAME_LENGTH;
 use super::frames::{yes, Class, Frame};

@@ -38,9 +38,9 @@ fn write(ringlet: u64, frame: Received) -> [u8; FRAME_LENGTH] {
     bytes
 }
 
-/// "Another length, type, header kind or a ringlet bit equal to the station's own: 2.
-/// ttl 193 to 255, else 3."
-fn read(own_ringlet: u64, bytes: &[u8]) -> Result<Received, Refusal> {
+/// "Another length, type, header kind or a ringlet bit equal to the station's own: 2."
+/// The own ringlet is the number that stands in the station, in range or not.
+pub fn whole(own_ringlet: u64, bytes: &[u8]) -> Result<(), Refusal> {
     if bytes.len() != FRAME_LENGTH {
         return Err(Refusal::Bytes);
     }
@@ -50,6 +50,12 @@ fn read(own_ringlet: u64, bytes: &[u8]) -> Result<Received, Refusal> {
     if kind != 2 || header_kind != 0 || ringlet == own_ringlet {
         return Err(Refusal::Bytes);
     }
+    Ok(())
+}
+
+/// "ttl 193 to 255, else 3."
+fn read(own_ringlet: u64, bytes: &[u8]) -> Result<Received, Refusal> {
+    whole(own_ringlet, bytes)?;
     let ttl = u64::from(bytes[0]);
     if !(193..=255).contains(&ttl) {
         return Err(Refusal::Range);

@@ -6,6 +6,39 @@ use crate::refusal::Refusal;
 pub const WORDS: usize = 30;
 pub const SETTINGS_LENGTH: usize = 4 * WORDS;
 
+pub const NAMES: [&str; WORDS] = [
+    "addressHigh",
+    "addressLow",
+    "ringlet",
+    "mtu",
+    "loLimitM",
+    "hiLimitM",
+    "amountM",
+    "loLimitA",
+    "hiLimitA",
+    "amountA",
+    "loLimitB",
+    "hiLimitB",
+    "amountB",
+    "loLimitC",
+    "hiLimitC",
+    "amountC",
+    "loLimitD",
+    "hiLimitD",
+    "amountD",
+    "controlQueue",
+    "primaryQueue",
+    "secondaryQueue",
+    "lowThreshold",
+    "weight",
+    "rateUnit",
+    "ticksPerInterval",
+    "unreservedRate",
+    "ageCoef",
+    "lpCoef",
+    "rampUp",
+];
+
 #[derive(Clone, Copy, Debug, PartialEq, Eq)]
 pub struct Limits {
     pub lo_limit: u64,
@@ -39,13 +72,80 @@ pub struct Settings {
 /// Six bytes, the first the highest.
 pub type Address = [u8; 6];
 
-/// "own address, high 16 bits (more is 1)"; "own address, low 32 bits"
-fn address(high: u64, low: u64) -> Result<Address, Refusal> {
-    if high > 65_535 {
-        return Err(Refusal::Setting);
+/// The least and the most of each word; other words set some of them.
+fn ranges(words: &[u64; WORDS]) -> [(u64, u64); WORDS] {
+    let (mtu, secondary) = (words[3], words[21]);
+    let mut ranges = [(0, 0xffff_ffff); WORDS];
+    // "own address, high 16 bits (more is 1)"
+    ranges[0] = (0, 65_535);
+    // "Own ringlet 0 or 1."
+    ranges[2] = (0, 1);
+    // "mtu 64 to 9,216"
+    ranges[3] = (64, 9_216);
+    // "Each shaper: loLimit mtu to 65,536, hiLimit loLimit+1 to 1,048,576, amount per
+    // tick 0 to 65,535."
+    for at in [4, 7, 10, 13, 16] {
+        ranges[at] = (mtu, 65_536);
+        ranges[at + 1] = (words[at] + 1, 1_048_576);
+        ranges[at + 2] = (0, 65_535);
     }
-    let [_, _, bytes @ ..] = (high << 32 | low).to_be_bytes();
-    Ok(bytes)
+    // "Primary and control queue mtu to 1,048,576 bytes, secondary 2 mtu to 1,048,576,
+    // low threshold 0 to its capacity."
+    ranges[19] = (mtu, 1_048_576);
+    ranges[20] = (mtu, 1_048_576);
+    ranges[21] = (2 * mtu, 1_048_576);
+    ranges[22] = (0, secondary);
+    // "Weight 1 to 255, rate unit 1 to 1,024, ticks per interval 1 to 10,000,
+    // unreservedRate 1 to 2,147,483,647."
+    ranges[23] = (1, 255);
+    ranges[24] = (1, 1_024);
+    ranges[25] = (1, 10_000);
+    ranges[26] = (1, 2_147_483_647);
+    ranges
+}
+
+/// "ageCoef 1, 2, 4, 8 or 16 (default 4); lpCoef and rampUp 16, 32, 64, 128, 256 or 512
+/// (default 64)."
+const COEFFICIENTS: [(usize, &[u64]); 3] = [
+    (27, &[1, 2, 4, 8, 16]),
+    (28, &[16, 32, 64, 128, 256, 512]),
+    (29, &[16, 32, 64, 128, 256, 512]),
+];
+
+/// The words that are outside their range, by name, and on which side.
+pub fn faults(words: &[u64; WORDS]) -> Vec<String> {
+    let mut faults = Vec::new();
+    for (at, (least, most)) in ranges(words).into_iter().enumerate() {
+        let name = NAMES[at];
+        if words[at] < least {
+            faults.push(format!("{name} below"));
+        }
+        if words[at] > most {
+            faults.push(format!("{name} above"));
+        }
+    }
+    let wrong = COEFFICIENTS
+        .iter()
+        .filter(|(at, codes)| !codes.contains(&words[*at]));
+    faults.extend(wrong.map(|(at, _)| NAMES[*at].to_string()));
+    faults
+}
+
+/// Every name that `faults` may give.
+pub fn every_fault() -> Vec<String> {
+    let mut names = Vec::new();
+    // With these words no range is empty.
+    let ranges = ranges(&[1; WORDS]);
+    for (name, (least, most)) in NAMES.iter().zip(ranges) {
+        if least > 0 {
+            names.push(format!("{name} below"));
+        }
+        if most < 0xffff_ffff {
+            names.push(format!("{name} above"));
+        }
+    }
+    names.extend(COEFFICIENTS.map(|(at, _)| NAMES[at].to_string()));
+    names
 }
 
 /// The words as HOST lays them out. "another length is 2"; "a setting [...] is outside
@@ -54,26 +154,25 @@ pub fn read(bytes: &[u8]) -> Result<Settings, Refusal> {
     if bytes.len() != SETTINGS_LENGTH {
         return Err(Refusal::Bytes);
     }
-    let words: Vec<u64> = bytes
-        .chunks(4)
-        .map(|word| u64::from(u32::from_le_bytes([word[0], word[1], word[2], word[3]])))
-        .collect();
-    let settings = from_words(&words)?;
-    if settings.valid() {
-        Ok(settings)
-    } else {
-        Err(Refusal::Setting)
+    let mut words = [0; WORDS];
+    for (at, word) in bytes.chunks(4).enumerate() {
+        words[at] = u64::from(u32::from_le_bytes([word[0], word[1], word[2], word[3]]));
+    }
+    match faults(&words).is_empty() {
+        true => Ok(from_words(&words)),
+        false => Err(Refusal::Setting),
     }
 }
 
-fn from_words(words: &[u64]) -> Result<Settings, Refusal> {
+fn from_words(words: &[u64; WORDS]) -> Settings {
     let limits = |at: usize| Limits {
         lo_limit: words[at],
         hi_limit: words[at + 1],
         amount: words[at + 2],
     };
-    Ok(Settings {
-        address: address(words[0], words[1])?,
+    let [_, _, address @ ..] = (words[0] << 32 | words[1]).to_be_bytes();
+    Settings {
+        address,
         ringlet: words[2],
         mtu: words[3],
         m: limits(4),
@@ -92,7 +191,7 @@ fn from_words(words: &[u64]) -> Result<Settings, Refusal> {
         age_coef: words[27],
         lp_coef: words[28],
         ramp_up: words[29],
-    })
+    }
 }
 
 /// The bytes that these words make.
@@ -100,47 +199,32 @@ pub fn to_bytes(words: &[u32]) -> Vec<u8> {
     words.iter().flat_map(|word| word.to_le_bytes()).collect()
 }
 
-impl Limits {
-    /// "Each shaper: loLimit mtu to 65,536, hiLimit loLimit+1 to 1,048,576, amount per
-    /// tick 0 to 65,535."
-    fn valid(&self, mtu: u64) -> bool {
-        (mtu..=65_536).contains(&self.lo_limit)
-            && (self.lo_limit + 1..=1_048_576).contains(&self.hi_limit)
-            && self.amount <= 65_535
-    }
-}
-
 impl Settings {
-    /// "Own ringlet 0 or 1."; "mtu 64 to 9,216"
-    fn valid(&self) -> bool {
+    /// The words that a host gives.
+    pub fn words(&self) -> [u64; WORDS] {
+        let address = self.address.map(u64::from);
+        let number = address.iter().fold(0, |sum, byte| sum << 8 | byte);
+        let mut words = [0; WORDS];
+        words[..4].copy_from_slice(&[number >> 32, number & 0xffff_ffff, self.ringlet, self.mtu]);
         let shapers = [self.m, self.a, self.b, self.c, self.d];
-        self.ringlet <= 1
-            && (64..=9_216).contains(&self.mtu)
-            && shapers.iter().all(|limits| limits.valid(self.mtu))
-            && self.queues_valid()
-            && self.rates_valid()
-    }
-
-    /// "Primary and control queue mtu to 1,048,576 bytes, secondary 2 mtu to 1,048,576,
-    /// low threshold 0 to its capacity."
-    fn queues_valid(&self) -> bool {
-        (self.mtu..=1_048_576).contains(&self.primary_queue)
-            && (self.mtu..=1_048_576).contains(&self.control_queue)
-            && (2 * self.mtu..=1_048_576).contains(&self.secondary_queue)
-            && self.low_threshold <= self.secondary_queue
-    }
-
-    /// "Weight 1 to 255, rate unit 1 to 1,024, ticks per interval 1 to 10,000,
-    /// unreservedRate 1 to 2,147,483,647. ageCoef 1, 2, 4, 8 or 16 (default 4); lpCoef
-    /// and rampUp 16, 32, 64, 128, 256 or 512 (default 64)."
-    fn rates_valid(&self) -> bool {
-        const SLOW: [u64; 6] = [16, 32, 64, 128, 256, 512];
-        (1..=255).contains(&self.weight)
-            && (1..=1_024).contains(&self.rate_unit)
-            && (1..=10_000).contains(&self.ticks_per_interval)
-            && (1..=2_147_483_647).contains(&self.unreserved_rate)
-            && [1, 2, 4, 8, 16].contains(&self.age_coef)
-            && SLOW.contains(&self.lp_coef)
-            && SLOW.contains(&self.ramp_up)
+        for (at, limits) in shapers.iter().enumerate() {
+            words[4 + 3 * at] = limits.lo_limit;
+            words[5 + 3 * at] = limits.hi_limit;
+            words[6 + 3 * at] = limits.amount;
+        }
+        words[19..].copy_from_slice(&[
+            self.control_queue,
+            self.primary_queue,
+            self.secondary_queue,
+            self.low_threshold,
+            self.weight,
+            self.rate_unit,
+            self.ticks_per_interval,
+            self.unreserved_rate,
+            self.age_coef,
+            self.lp_coef,
+            self.ramp_up,
+        ]);
+        words
     }
 }

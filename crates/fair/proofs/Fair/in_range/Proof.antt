@@ -2,7 +2,7 @@
 -- Assumes nothing.
 use mathlib.Core.List.{[], _∷_}
 use Rattle.decide.specs.Test.{test, _≤?_}
-use Rattle.settings.proofs.Chain.{chain}
+use Rattle.decide.proofs.Chain.{chain}
 use Rattle.fair.specs.Range.{ttlOk, fourOk, fairOk}
 use borrow.Author.Needs.{needs}
 use Rattle.fair.proofs.Fair.in_range.Statement.{statement}

@@ -1,5 +1,6 @@
 -- `fair::Fair::is_beyond` meets its contract: the comparisons are the definition's.
 -- Assumes nothing.
+use mathlib.Core.Path.{refl}
 use Rattle.decide.specs.Test.{test}
 use borrow.Author.Needs.{needs}
 use Rattle.fair.proofs.Fair.is_beyond.Statement.{statement}
@@ -13,7 +14,7 @@ less-requires c κs = search needs
 
 returns : tie.Need-returns
 unfolding test
-returns c = rw (c .less .ensures)
+returns c = rw (c .less .ensures) refl
 
 pub is-beyond-spec : {M : Type 1} → statement M
 is-beyond-spec = tie.close (tie.spec cast-less less-requires returns)

@@ -2,7 +2,7 @@
 -- Assumes nothing.
 use mathlib.Core.List.{[], _∷_}
 use Rattle.queue.specs.Range.{queueOk}
-use Rattle.settings.proofs.Chain.{chain}
+use Rattle.decide.proofs.Chain.{chain}
 use Rattle.flow.specs.Range.{creditsOk, stageOk, flowOk}
 use borrow.Author.Needs.{needs}
 use Rattle.flow.proofs.Flow.in_range.Statement.{statement}

@@ -1,6 +1,10 @@
 -- Each credit is that after its own tick.
 -- Assumes nothing.
-use Rattle.flow.specs.Tick.{tickOf}
+use Prim.Native.Nat.{ℕ}
+use mathlib.Core.Bool.{_||_}
+use mathlib.Core.Path.{_≡_, ap, _∙_}
+use Rattle.flow.specs.declared.Which.the-variants.{M, C, D}
+use Rattle.flow.proofs.Tick.{ticks, tick-each}
 use borrow.Author.Needs.{needs}
 use Rattle.flow.proofs.Flow.tick.Statement.{statement}
 use Rattle.flow.proofs.Flow.tick.Tie as tie
@@ -33,8 +37,27 @@ ticked-requires-5 : tie.Need-ticked-requires-5
 ticked-requires-5 c κs = search needs
 
 returns : tie.Need-returns
-unfolding tickOf
-returns c = rw (c .ticked5 .ensures, c .before .ticked4 .ensures, c .before .before .ticked3 .ensures, c .before .before .before .ticked2 .ensures, c .before .before .before .before .ticked .ensures, c .before .before .before .before .before .amount-c .ensures, c .before .before .before .before .before .before .holds-frame2 .ensures, c .before .before .before .before .before .before .before .stage-holds .ensures, c .before .before .before .before .before .before .before .before .holds-frame .ensures)
+returns c =
+    let d = c .before in
+    let m = d .before .before .before in
+    let amount = m .before in
+    let secondary = amount .before in
+    let stage = secondary .before in
+    let control = stage .before in
+    let x = control .before .before .before .args in
+    let s = x .settings in
+    let f = x .self in
+    let of-m : m .ticked .result ≡ ticks s f M (control .holds-frame .result) (s .shapers .m .amount) = m .ticked .ensures in
+    let of-c : d .ticked4 .result ≡ ticks s f C (x .b || x .c) (amount .amount-c .result) = d .ticked4 .ensures in
+    let of-d : c .ticked5 .result ≡ ticks s f D ((x .b || x .c) || (stage .stage-holds .result || secondary .holds-frame2 .result)) (s .shapers .d .amount) =
+    c .ticked5 .ensures
+    in
+    tick-each s f (x .share) (x .a) (x .b) (x .c)
+    (of-m ∙ rw (control .holds-frame .ensures))
+    (d .before .before .ticked2 .ensures)
+    (d .before .ticked3 .ensures)
+    (of-c ∙ ap (λ (given : ℕ). ticks s f C (x .b || x .c) given) (amount .amount-c .ensures))
+    (of-d ∙ rw (stage .stage-holds .ensures, secondary .holds-frame2 .ensures))
 
 pub tick-spec : {M : Type 1} → statement M
 tick-spec =

@@ -2,7 +2,7 @@
 -- Assumes nothing.
 use mathlib.Core.List.{[], _∷_}
 use Rattle.decide.specs.Test.{test, _≤?_}
-use Rattle.settings.proofs.Chain.{chain}
+use Rattle.decide.proofs.Chain.{chain}
 use Rattle.settings.specs.declared.Settings.{Settings}
 use Rattle.settings.specs.Range.{shapersOk, queuesOk, fairnessOk, settingsOk}
 use borrow.Author.Needs.{needs}

@@ -2,7 +2,7 @@
 -- Assumes nothing.
 use mathlib.Core.List.{[], _∷_}
 use Rattle.decide.specs.Test.{Test}
-use Rattle.settings.proofs.Chain.{chain}
+use Rattle.decide.proofs.Chain.{chain}
 use Rattle.settings.specs.declared.Bucket.{Bucket}
 use Rattle.settings.specs.Range.{bucketOk}
 use borrow.Author.Needs.{needs}

@@ -2,7 +2,7 @@
 -- Assumes nothing.
 use mathlib.Core.List.{[], _∷_}
 use Rattle.settings.specs.Range.{settingsOk}
-use Rattle.settings.proofs.Chain.{chain}
+use Rattle.decide.proofs.Chain.{chain}
 use Rattle.flow.specs.Range.{flowOk}
 use Rattle.fair.specs.Range.{fairOk}
 use Rattle.station.specs.Range.{stationOk}

@@ -5,8 +5,9 @@
 //! `differ station SEED CALLS`: the station, with the feature `station`.
 //!
 //! Makes random calls and compares every answer and every lent byte. Ends with 1 on
-//! the first difference, when fewer than half of the random calls were carried out, or
-//! when a refusal that a function can give was never reached.
+//! the first difference, when fewer than half of the counted calls were carried out,
+//! when a refusal that a function can give was never reached or one that it can't give
+//! was, or when something else that must come up never did.
 
 mod record;
 mod ring;
@@ -18,7 +19,11 @@ use model::tally::Tally;
 use std::env;
 use std::process::ExitCode;
 
-type Part = fn(u64, u64) -> (Tally, Outcome<()>);
+/// The tally, and what else was never seen, or the first difference.
+type Part = fn(u64, u64) -> (Tally, Outcome<Vec<String>>);
+
+/// Fewer calls may be too few to see all that must be seen.
+const ENOUGH: u64 = 100_000;
 
 const USAGE: &str = "usage: differ [record|ring|station] SEED CALLS";
 
@@ -35,6 +40,25 @@ fn arguments() -> Option<(Part, u64, u64)> {
     Some((part, seed.parse().ok()?, calls.parse().ok()?))
 }
 
+/// What a run without a difference lacks.
+fn lacking(tally: &Tally, mut unseen: Vec<String>) -> Vec<String> {
+    let mut faults = tally.faults();
+    let more = unseen.len().saturating_sub(10);
+    unseen.truncate(10);
+    if more > 0 {
+        unseen.push(format!("and {more} more"));
+    }
+    if !unseen.is_empty() {
+        faults.push(format!("never seen: {}", unseen.join("; ")));
+    }
+    if !faults.is_empty() && tally.calls() < ENOUGH {
+        faults.push(format!(
+            "too short: fewer than {ENOUGH} calls may not see all"
+        ));
+    }
+    faults
+}
+
 fn main() -> ExitCode {
     let Some((part, seed, calls)) = arguments() else {
         eprintln!("{USAGE}");
@@ -42,12 +66,13 @@ fn main() -> ExitCode {
     };
     let (tally, outcome) = part(seed, calls);
     println!("{tally}");
+    let calls = tally.calls();
     let faults = match outcome {
-        Ok(()) => tally.faults(),
+        Ok(unseen) => lacking(&tally, unseen),
         Err(fault) => vec![fault],
     };
     for fault in &faults {
-        eprintln!("differ: seed {seed}, call {}: {fault}", tally.calls());
+        eprintln!("differ: seed {seed}, call {calls}: {fault}");
     }
     match faults.is_empty() {
         true => ExitCode::SUCCESS,

@@ -311,13 +311,13 @@ impl Trial {
 }
 
 /// The tally of so many calls, and the first difference.
-pub fn run(seed: u64, calls: u64) -> (Tally, Outcome<()>) {
+pub fn run(seed: u64, calls: u64) -> (Tally, Outcome<Vec<String>>) {
     let mut trial = Trial {
         random: Random::new(seed),
         tally: Tally::new(tally::OF_RECORDS),
     };
     let outcome = trial.rounds(calls);
-    (trial.tally, outcome)
+    (trial.tally, outcome.map(|()| Vec::new()))
 }
 
 /// The answer of rpr_settle against the shaper run event by event.

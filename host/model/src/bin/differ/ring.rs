@@ -237,11 +237,11 @@ fn raw_stations(place: Place) -> u64 {
 }
 
 /// The tally of so many random calls, and the first difference.
-pub fn run(seed: u64, calls: u64) -> (Tally, Outcome<()>) {
+pub fn run(seed: u64, calls: u64) -> (Tally, Outcome<Vec<String>>) {
     let mut trial = Trial {
         random: Random::new(seed),
         tally: Tally::new(tally::OF_RINGS),
     };
     let outcome = trial.rounds(calls);
-    (trial.tally, outcome)
+    (trial.tally, outcome.map(|()| Vec::new()))
 }

@@ -1,126 +1,46 @@
-//! The station: lives of random calls, each answer, each lent byte and each reading
-//! compared.
+//! The station: lives of random calls on sound and on damaged stations; each answer,
+//! each lent byte, all bytes of the station and each reading compared.
 
+mod counters;
+mod difference;
+mod harm;
 mod library;
+mod life;
 mod sights;
 
+use self::difference::part_by_part;
+use self::harm::Harm;
+use self::life::Life;
 use self::sights::Sights;
 use model::lent::Lent;
+use model::lent_call;
 use model::make::wrong_length;
 use model::make_call::{self, Habit};
 use model::make_station;
 use model::random::Random;
 use model::report::Outcome;
-use model::station::reading::{NAMES, READING_LENGTH};
 use model::station::settings::{to_bytes, SETTINGS_LENGTH};
-use model::station::{calls, Station, MOST_RATE};
-use model::station_call::Call;
+use model::station::{calls, layout, range};
 use model::tally::{self, Tally};
 use model::text;
-
-/// The same station in the library's memory and in the model.
-struct Life {
-    memory: Vec<u8>,
-    model: Station,
-    /// The calls so far, as a script.
-    script: Vec<String>,
-}
 
 struct Trial {
     random: Random,
     tally: Tally,
     sights: Sights,
-}
-
-impl Life {
-    fn fault(&self, what: &str) -> String {
-        format!("{what}; the script:\n{}", self.script.join("\n"))
-    }
-
-    fn check(&self, good: bool, what: impl FnOnce() -> String) -> Outcome<()> {
-        match good {
-            true => Ok(()),
-            false => Err(self.fault(&what())),
-        }
-    }
-
-    /// Makes the call in both, and compares all but the state afterwards.
-    fn make(&mut self, random: &mut Random, call: &Call) -> Outcome<u64> {
-        self.script.push(call.to_string());
-        let other = call.other_slice(random.word() as u8);
-        let mut lent = Lent::new(random, &self.memory);
-        let mut lent_other = Lent::new(random, &other);
-        let answer = library::call(call, lent.bytes_mut(), lent_other.bytes_mut());
-        let (expected, other_after) = call.apply(&mut self.model, &other);
-        self.check(answer == expected, || {
-            format!("answer {answer:#018x}, model {expected:#018x}")
-        })?;
-        let guarded = lent.guards_intact() && lent_other.guards_intact();
-        self.check(guarded, || "bytes beside a lent slice changed".to_string())?;
-        self.check(lent_other.bytes() == other_after, || {
-            difference(lent_other.bytes(), &other_after)
-        })?;
-        let only_read = matches!(call, Call::Tell(_) | Call::Show(_));
-        if only_read || answer as u8 != 0 {
-            let untouched = lent.bytes() == self.memory;
-            self.check(untouched, || "the station changed".to_string())?;
-        }
-        self.memory.copy_from_slice(lent.bytes());
-        Ok(answer)
-    }
-
-    /// The readings are the same.
-    fn compare(&mut self, random: &mut Random) -> Outcome<()> {
-        self.make(random, &Call::Show(READING_LENGTH)).map(|_| ())
-    }
-
-    /// Another length of station: 2, and nothing changes.
-    fn another_length(&self, random: &mut Random, call: &Call) -> Outcome<u64> {
-        let mut bytes = self.memory.clone();
-        bytes.resize(wrong_length(random, self.memory.len()), 0);
-        let other = call.other_slice(7);
-        let mut lent = Lent::new(random, &bytes);
-        let mut lent_other = Lent::new(random, &other);
-        let answer = library::call(call, lent.bytes_mut(), lent_other.bytes_mut());
-        let untouched = lent.bytes() == bytes && lent_other.bytes() == other;
-        self.check(answer == 2 && untouched, || {
-            let length = bytes.len();
-            format!("{call} on {length} bytes: answer {answer:#018x}, or bytes changed")
-        })?;
-        Ok(answer)
-    }
-
-    /// A station with a byte changed: refused and untouched, or carried out and in range
-    /// afterwards.
-    fn damaged(&self, random: &mut Random, call: &Call) -> Outcome<()> {
-        let mut bytes = self.memory.clone();
-        let at = random.below(bytes.len());
-        bytes[at] = match random.below(3) {
-            0 => bytes[at] ^ 1 << random.below(8),
-            1 => 0xff,
-            _ => random.word() as u8,
-        };
-        let before = bytes.clone();
-        let mut other = call.other_slice(7);
-        let lent = other.clone();
-        let answer = library::call(call, &mut bytes, &mut other);
-        let good = match answer as u8 {
-            0 => {
-                library::call(
-                    &Call::Show(READING_LENGTH),
-                    &mut bytes,
-                    &mut [0; READING_LENGTH],
-                ) == 0
-            }
-            _ => answer <= 11 && bytes == before && other == lent,
-        };
-        self.check(good, || {
-            format!("{call} with byte {at} changed: answer {answer:#018x}")
-        })
-    }
+    harm: Harm,
 }
 
 impl Trial {
+    fn new(seed: u64) -> Trial {
+        Trial {
+            random: Random::new(seed),
+            tally: Tally::new(tally::OF_STATIONS),
+            sights: Sights::default(),
+            harm: Harm::new(),
+        }
+    }
+
     /// A fresh station over whatever the memory held.
     fn start(&mut self, words: &[u32]) -> Outcome<Option<Life>> {
         let settings = to_bytes(words);
@@ -134,12 +54,14 @@ impl Trial {
         if answer != expected || !lent.guards_intact() {
             return Err(format!("answer {answer:#x}, model {expected:#x}: {line}"));
         }
-        if answer != 0 && lent.bytes() != memory {
-            return Err(format!("refused, but the station changed: {line}"));
+        let after = model.as_ref().map_or(memory, layout::write);
+        if lent.bytes() != after {
+            let what = part_by_part(lent.bytes(), &after, "model");
+            return Err(format!("{what}: {line}"));
         }
         self.tally.count("rpr_start", answer, false);
         Ok(model.map(|model| Life {
-            memory: lent.bytes().to_vec(),
+            memory: after,
             model,
             script: vec![line],
         }))
@@ -164,24 +86,10 @@ impl Trial {
         Ok(())
     }
 
-    /// A station from its start through some hundred calls.
-    fn life(&mut self) -> Outcome<()> {
-        let words = make_station::settings(&mut self.random);
-        let Some(mut life) = self.start(&words)? else {
-            return Ok(());
-        };
-        life.compare(&mut self.random)?;
-        let mut habit = Habit::new(&mut self.random);
-        for _ in 0..self.random.between(20, 900) {
-            if self.random.one_in(200) {
-                habit = Habit::new(&mut self.random);
-            }
-            let call = make_call::call(&mut self.random, &life.model, &habit);
-            if self.random.one_in(60) {
-                let answer = life.another_length(&mut self.random, &call)?;
-                self.tally.count(call.function(), answer, false);
-                life.damaged(&mut self.random, &call)?;
-            }
+    /// So many random calls, one after the other.
+    fn calls(&mut self, life: &mut Life, habit: &Habit, count: usize) -> Outcome<()> {
+        for _ in 0..count {
+            let call = make_call::call(&mut self.random, &life.model, habit);
             let answer = life.make(&mut self.random, &call)?;
             self.tally.count(call.function(), answer, false);
             self.sights.look(&life.model, &call, answer);
@@ -192,9 +100,94 @@ impl Trial {
         Ok(())
     }
 
-    /// Lives, and starts that are refused, until so many calls are made.
-    fn rounds(&mut self, calls: u64) -> Outcome<()> {
-        println!("{} calls until counters stop", stopping_counters()?);
+    fn another_length(&mut self, life: &Life, habit: &Habit) -> Outcome<()> {
+        let call = make_call::call(&mut self.random, &life.model, habit);
+        let answer = life.another_length(&mut self.random, &call)?;
+        self.tally.count(call.function(), answer, false);
+        Ok(())
+    }
+
+    /// The station damaged, or one far from it, and calls on it.
+    fn damage(&mut self, life: &Life, habit: &Habit) -> Outcome<()> {
+        if self.random.one_in(3) {
+            let bytes = self.harm.wild(&mut self.random, &life.memory);
+            if let Some(wild) = Life::of_bytes(&bytes) {
+                return self.damage_of(&wild, habit);
+            }
+        }
+        self.damage_of(life, habit)
+    }
+
+    /// Each of the nine calls on a damaged station, and where it is in range now and then
+    /// a life that goes on from it.
+    fn damage_of(&mut self, life: &Life, habit: &Habit) -> Outcome<()> {
+        let bytes = self.harm.damaged(&mut self.random, &life.memory);
+        self.nine_calls(life, &bytes, habit).map_err(|what| {
+            let changed = part_by_part(&bytes, &life.memory, "was");
+            let faults = range::faults(&bytes).join(", ");
+            let bytes = text::encode(&bytes);
+            format!("{what}\n  changed: {changed}\n  out of range: {faults}\n  station: {bytes}")
+        })?;
+        if let Some(mut other) = Life::of_bytes(&bytes) {
+            if self.random.one_in(2) {
+                self.calls(&mut other, habit, 12)?;
+            }
+        }
+        Ok(())
+    }
+
+    /// Each call on a copy of the bytes.
+    fn nine_calls(&mut self, life: &Life, bytes: &[u8], habit: &Habit) -> Outcome<()> {
+        let read = layout::read(bytes);
+        let model = read.as_ref().unwrap_or(&life.model);
+        for kind in 0..make_call::KINDS {
+            let call = make_call::of_kind(&mut self.random, kind, model, habit);
+            let other = call.other_slice(self.random.word() as u8);
+            let after = lent_call::apply(&call, bytes, &other);
+            let mut copy = bytes.to_vec();
+            let answer = life::same(&mut self.random, &call, &mut copy, &other, &after)
+                .map_err(|what| format!("{call}: {what}"))?;
+            self.tally.count(call.function(), answer, false);
+            if read.is_err() {
+                self.harm.look_at_order(&call, bytes, &life.model, answer);
+            }
+        }
+        Ok(())
+    }
+
+    /// A station from its start through some hundred calls.
+    fn life(&mut self) -> Outcome<()> {
+        let words = make_station::settings(&mut self.random);
+        let Some(mut life) = self.start(&words)? else {
+            return Ok(());
+        };
+        life.compare(&mut self.random)?;
+        let mut habit = Habit::new(&mut self.random);
+        for _ in 0..3 {
+            self.damage(&life, &habit)?;
+        }
+        for _ in 0..self.random.between(20, 900) {
+            if self.random.one_in(200) {
+                habit = Habit::new(&mut self.random);
+            }
+            if self.random.one_in(60) {
+                self.another_length(&life, &habit)?;
+            }
+            if self.random.one_in(15) {
+                self.damage(&life, &habit)?;
+            }
+            self.calls(&mut life, &habit, 1)?;
+        }
+        Ok(())
+    }
+
+    /// Lives, and starts that are refused, until so many calls are made. What was never
+    /// seen.
+    fn rounds(&mut self, calls: u64) -> Outcome<Vec<String>> {
+        if library::station_length() != layout::STATION_LENGTH {
+            return Err("a station has another length than the layout says".to_string());
+        }
+        println!("{} calls until counters stop", counters::stopping()?);
         while self.tally.calls() < calls {
             self.life()?;
             let words = make_station::settings_near(&mut self.random);
@@ -203,91 +196,16 @@ impl Trial {
             }
             self.start_of_another_length()?;
         }
-        let missing = self.sights.missing();
-        match missing.is_empty() {
-            true => Ok(()),
-            false => Err(format!("never seen: {}", missing.join(", "))),
-        }
+        let mut missing = self.sights.missing();
+        missing.extend(self.harm.missing());
+        Ok(missing)
     }
 }
 
-/// The words of a reading that differ, or the bytes of a frame.
-fn difference(got: &[u8], expected: &[u8]) -> String {
-    if got.len() != READING_LENGTH {
-        let (got, expected) = (text::encode(got), text::encode(expected));
-        return format!("lent bytes {got}, model {expected}");
-    }
-    let word = |bytes: &[u8]| bytes.try_into().map_or(0, u32::from_le_bytes);
-    let mut words = Vec::new();
-    for (at, name) in NAMES.iter().enumerate() {
-        let [got, expected] = [got, expected].map(|bytes| word(&bytes[4 * at..4 * at + 4]));
-        if got != expected {
-            words.push(format!("{name} {got}, model {expected}"));
-        }
-    }
-    words.join("; ")
-}
-
-/// Settings of the largest frames, with room and credit for them.
-fn largest() -> [u32; 30] {
-    let mut words = make_station::words(&[(3, 9_216), (19, 9_216), (20, 9_216), (21, 18_432)]);
-    for at in [4, 7, 10, 13, 16] {
-        words[at..at + 3].copy_from_slice(&[65_536, 1_048_576, 65_535]);
-    }
-    words[23..].copy_from_slice(&[1, 1, 1, MOST_RATE as u32, 1, 16, 16]);
-    words
-}
-
-/// "Counters stop at 2,147,483,647.": sends the largest frames until all four have.
-/// Answers how many calls that was.
-fn stopping_counters() -> Outcome<u64> {
-    let mut trial = Trial::new(0);
-    let Some(mut life) = trial.start(&largest())? else {
-        return Err("the largest settings are refused".to_string());
-    };
-    let clear = Call::Hear(vec![255, 0xa0, 0, 0, 0, 0, 0, 9, 0, 0, 255, 255]);
-    let congest = Call::Hear(vec![255, 0xa0, 0, 0, 0, 0, 0, 9, 0, 0, 0, 9]);
-    let round = [
-        clear,
-        Call::Tick([0, 0, 1]),
-        Call::Client([2, 9_216, 2]),
-        congest,
-        Call::Select,
-        Call::Transit([2, 9_216, 2, 1]),
-        Call::Select,
-    ];
-    let mut made = 0;
-    while life.model.counters.list() != [MOST_RATE; 4] {
-        for call in &round {
-            let mut other = call.other_slice(0);
-            let answer = library::call(call, &mut life.memory, &mut other);
-            let (expected, _) = call.apply(&mut life.model, &[]);
-            if answer != expected || expected as u8 != 0 {
-                let what = format!("{call}: {answer:#x}, model {expected:#x}, call {made}");
-                return Err(life.fault(&what));
-            }
-            made += 1;
-        }
-    }
-    life.compare(&mut trial.random)?;
-    life.make(&mut trial.random, &Call::Age)?;
-    life.compare(&mut trial.random)?;
-    Ok(made)
-}
-
-impl Trial {
-    fn new(seed: u64) -> Trial {
-        Trial {
-            random: Random::new(seed),
-            tally: Tally::new(tally::OF_STATIONS),
-            sights: Sights::default(),
-        }
-    }
-}
-
-/// The tally of so many calls, and the first difference.
-pub fn run(seed: u64, calls: u64) -> (Tally, Outcome<()>) {
+/// The tally of so many calls, and the first difference or what was never seen.
+pub fn run(seed: u64, calls: u64) -> (Tally, Outcome<Vec<String>>) {
     let mut trial = Trial::new(seed);
     let outcome = trial.rounds(calls);
+    println!("{}", trial.harm);
     (trial.tally, outcome)
 }

@@ -72,9 +72,12 @@ impl Sights {
         self.see(RATES[7], station.counters.fw_congested > 0);
     }
 
-    pub fn missing(&self) -> Vec<&'static str> {
+    pub fn missing(&self) -> Vec<String> {
         let all = [&SELECTED[..], &MARKS, &FULL, &RATES].concat();
-        let unseen = |sight: &&str| !self.seen.contains(*sight);
-        all.into_iter().filter(unseen).collect()
+        let unseen = |sight: &&&str| !self.seen.contains(**sight);
+        all.iter()
+            .filter(unseen)
+            .map(|sight| sight.to_string())
+            .collect()
     }
 }

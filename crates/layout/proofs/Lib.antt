@@ -1,0 +1,5 @@
+pub mod Words
+pub mod Groups
+pub mod Round
+pub mod Anew
+pub mod Kept

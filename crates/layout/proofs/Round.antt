@@ -1,0 +1,260 @@
+-- A station and its 1,770 bytes say the same, and so do a reading and its 124. What is written is read back, and bytes that are read are written again.
+-- Assumes nothing.
+use Prim.Native.Nat.{ℕ, _+_, _≤_}
+use mathlib.Core.List.{List}
+use mathlib.Core.Logic.{⊎-elim}
+use mathlib.Core.Path.{_≡_, refl, sym}
+use native.Mathlib.Omega.{arith}
+use lib.ListN.{length}
+use Rattle.decide.specs.Test.{split, _≡?_}
+use Rattle.wire.specs.Wire.{Bytes}
+use Rattle.wire.specs.Parts.{Part, nth, offset, length-laidOut}
+use Rattle.wire.proofs.Places.{Stands, stands-whole}
+use Rattle.wire.proofs.Numbers.{digits-stand, digits-bytes, le-bound, le-stands}
+use Rattle.wire.proofs.Laid.{part-stands, whole-standing}
+use Rattle.settings.specs.Range.{SettingsOk}
+use Rattle.wire.proofs.Placed.{laidOut-bytes}
+use Rattle.settings.proofs.Words as settings
+use Rattle.settings.proofs.Words.{wordAt}
+use Rattle.flow.specs.declared.Line.the-variants.{Control, Primary, Secondary}
+use Rattle.flow.specs.declared.Which.the-variants.{M, A, B, C, D}
+use Rattle.flow.specs.Range.{FlowOk}
+use Rattle.fair.specs.declared.Four.{Four}
+use Rattle.fair.specs.Range.{FairOk}
+use Rattle.station.specs.declared.Station.{Station}
+use Rattle.station.specs.declared.Held.{Held}
+use Rattle.station.specs.declared.Reading.{Reading}
+use Rattle.station.specs.Range.{StationOk}
+use Rattle.station.specs.Narrow.{Narrow}
+use Rattle.station.specs.Show.{heldOn, readingOf}
+use Rattle.station.proofs.Hear.{held-none, held-one}
+use Rattle.slots.specs.Slots.{queueBytes, queuePart, WordsFit}
+use Rattle.slots.proofs.Round as slots
+use Rattle.layout.specs.Layout.{stationLength, whole, creditsWords, creditsAt, fairWords, fairAt}
+use Rattle.layout.specs.Layout.{stationParts, stationBytes, stationAt, StationFits}
+use Rattle.layout.specs.Reading.{readingLength, heldWords, heldAt, readingParts, readingBytes, readingAt, ReadingFits}
+use Rattle.layout.proofs.Words.{words-bytes, words-stand, words-fit}
+use Rattle.layout.proofs.Groups.{credits-back, held-back, fair-back, credits-read, held-read, fair-read}
+
+-- ---- a queue has its 128 slots
+
+abbrev pub Slotted : Station → Type 0
+Slotted st = (length (st .flow .control .slots) ≡ 128) × (length (st .flow .primary .slots) ≡ 128) × (length (st .flow .secondary .slots) ≡ 128)
+
+pub fits-slotted : {st : Station} → StationFits st → Slotted st
+fits-slotted f = (f .of-control .many, f .of-primary .many, f .of-secondary .many)
+
+pub in-range-slotted : {st : Station} → StationOk st → Slotted st
+in-range-slotted ok = (ok .flow .queues Control .slots, ok .flow .queues Primary .slots, ok .flow .queues Secondary .slots)
+
+-- a station's parts, with each queue 518 bytes
+abbrev pub parts : (st : Station) → Slotted st → List Part
+parts st e = stationParts (queuePart (st .flow .control) (e .0)) (queuePart (st .flow .primary) (e .1)) (queuePart (st .flow .secondary) (e .2)) st
+
+pub station-length : (st : Station) → Slotted st → length (stationBytes st) ≡ stationLength
+unfolding stationBytes
+station-length st e = length-laidOut (parts st e)
+
+-- ---- a station, written and read
+
+-- a station is read where its bytes stand
+station-back : (xs : List ℕ) (st : Station) → StationFits st → Stands xs 0 (stationBytes st) → stationAt xs ≡ st
+unfolding stationBytes stationAt
+station-back xs st f s =
+    let ps : List Part = parts st (fits-slotted f) in
+    let p : (k : ℕ) → Stands xs (0 + offset ps k) (nth ps k .bytes) = λ k. part-stands ps k xs 0 s in
+    rw (
+      credits-back xs 0 (st .flow .credits) (f .of-credits) (p 0),
+      slots.queue-back xs 20 (st .flow .control) (f .of-control) (p 1),
+      slots.queue-back xs 538 (st .flow .primary) (f .of-primary) (p 2),
+      slots.queue-back xs 1056 (st .flow .secondary) (f .of-secondary) (p 3),
+      le-stands 4 (st .flow .stage) xs 1574 (f .of-stage) (p 4),
+      fair-back xs 1578 (st .fair) (f .of-fair) (p 5),
+      settings.settings-back xs 1650 (st .settings) (f .of-settings) (p 6),
+    )
+
+-- A station whose numbers fit is read back as it was written.
+pub state-of-bytes : (st : Station) → StationFits st → stationAt (stationBytes st) ≡ st
+state-of-bytes st f = station-back (stationBytes st) st f (stands-whole (stationBytes st))
+
+-- what is written are bytes
+pub station-bytes : (st : Station) → Bytes (stationBytes st)
+unfolding stationBytes
+station-bytes st =
+    laidOut-bytes
+    (stationParts (whole (queueBytes (st .flow .control))) (whole (queueBytes (st .flow .primary))) (whole (queueBytes (st .flow .secondary))) st) (
+      words-bytes (creditsWords (st .flow .credits)),
+      (
+        slots.queue-bytes (st .flow .control),
+        (
+          slots.queue-bytes (st .flow .primary),
+          (
+            slots.queue-bytes (st .flow .secondary),
+            (digits-bytes 4 (st .flow .stage), (words-bytes (fairWords (st .fair)), (settings.settings-bytes (st .settings), tt))),
+          ),
+        ),
+      ),
+    )
+
+-- ---- 1,770 bytes, read and written
+
+module _ (xs : List ℕ) (b : Bytes xs) where
+  -- what is read from bytes fits
+  pub station-fits : StationFits (stationAt xs)
+  unfolding stationAt
+  station-fits =
+      record {
+        of-credits = words-fit xs 0 b (creditsWords (creditsAt xs 0)) (credits-read xs 0);
+        of-control = slots.queue-fits xs 20 b;
+        of-primary = slots.queue-fits xs 538 b;
+        of-secondary = slots.queue-fits xs 1056 b;
+        of-stage = le-bound 4 xs 1574 b;
+        of-fair = words-fit xs 1578 b (fairWords (fairAt xs 1578)) (fair-read xs 1578);
+        of-settings = settings.settings-fit xs 1650 b;
+      }
+
+  -- Every 1,770 bytes hold one station, and it writes them again.
+  pub bytes-of-state : length xs ≡ stationLength → stationBytes (stationAt xs) ≡ xs
+  unfolding stationBytes stationAt
+  bytes-of-state e =
+      whole-standing (parts (stationAt xs) (fits-slotted station-fits)) xs (sym e) (
+        words-stand xs 0 b (creditsWords (creditsAt xs 0)) (omega arith) (credits-read xs 0),
+        (
+          slots.queue-stand xs b 20 (omega arith),
+          (
+            slots.queue-stand xs b 538 (omega arith),
+            (
+              slots.queue-stand xs b 1056 (omega arith),
+              (
+                digits-stand 4 xs 1574 b,
+                (
+                  words-stand xs 1578 b (fairWords (fairAt xs 1578)) (omega arith) (fair-read xs 1578),
+                  (settings.settings-stand xs b 1650 (omega arith), tt),
+                ),
+              ),
+            ),
+          ),
+        ),
+      )
+
+-- ---- a station in range fits
+
+-- where the low words of addresses, of which the range says nothing, are numbers of 32 bits
+pub in-range-fits : (st : Station) → StationOk st → Narrow st → StationFits st
+in-range-fits st ok n =
+    let s : SettingsOk (st .settings) = ok .settings in
+    let f : FairOk (st .settings) (st .fair) = ok .fair in
+    let w : FlowOk (st .settings) (st .flow) = ok .flow in
+    record {
+      of-credits = omega (arith, w .credits M, w .credits A, w .credits B, w .credits C, w .credits D);
+      of-control = slots.in-range-fits (st .settings .mtu) (st .settings .queues .control) (st .flow .control) (s .of-queues .control-most) (w .queues Control);
+      of-primary = slots.in-range-fits (st .settings .mtu) (st .settings .queues .primary) (st .flow .primary) (s .of-queues .primary-most) (w .queues Primary);
+      of-secondary = slots.in-range-fits (st .settings .mtu) (st .settings .queues .secondary) (st .flow .secondary) (s .of-queues .secondary-most) (w .queues Secondary);
+      of-stage = ⊎-elim (λ (e : st .flow .stage ≡ 0). omega arith) (λ h. omega (arith, h .mark)) (w .stage);
+      of-fair = omega (arith, s .of-fairness .unreserved-most);
+      of-settings = settings.in-range-fit (st .settings) s (n .own-low);
+    }
+
+-- ---- a reading
+
+pub reading-length : (r : Reading) → length (readingBytes r) ≡ readingLength
+unfolding readingBytes
+reading-length r = length-laidOut (readingParts r)
+
+reading-back : (xs : List ℕ) (r : Reading) → ReadingFits r → Stands xs 0 (readingBytes r) → readingAt xs ≡ r
+unfolding readingBytes readingAt
+reading-back xs r f s =
+    let ps : List Part = readingParts r in
+    let p : (k : ℕ) → Stands xs (0 + offset ps k) (nth ps k .bytes) = λ k. part-stands ps k xs 0 s in
+    rw (
+      credits-back xs 0 (r .credits) (f .of-credits) (p 0),
+      held-back xs 20 (r .control) (f .of-control) (p 1),
+      held-back xs 28 (r .primary) (f .of-primary) (p 2),
+      held-back xs 36 (r .secondary) (f .of-secondary) (p 3),
+      held-back xs 44 (r .stage) (f .of-stage) (p 4),
+      fair-back xs 52 (r .fair) (f .of-fair) (p 5),
+    )
+
+-- A reading whose numbers fit is read back as it was written.
+pub reading-of-bytes : (r : Reading) → ReadingFits r → readingAt (readingBytes r) ≡ r
+reading-of-bytes r f = reading-back (readingBytes r) r f (stands-whole (readingBytes r))
+
+-- what is written are bytes
+pub reading-bytes : (r : Reading) → Bytes (readingBytes r)
+unfolding readingBytes
+reading-bytes r =
+    laidOut-bytes (readingParts r) (
+      words-bytes (creditsWords (r .credits)),
+      (
+        words-bytes (heldWords (r .control)),
+        (
+          words-bytes (heldWords (r .primary)),
+          (words-bytes (heldWords (r .secondary)), (words-bytes (heldWords (r .stage)), (words-bytes (fairWords (r .fair)), tt))),
+        ),
+      ),
+    )
+
+-- Every 124 bytes hold one reading, and it writes them again.
+pub bytes-of-reading : (xs : List ℕ) → Bytes xs → length xs ≡ readingLength → readingBytes (readingAt xs) ≡ xs
+unfolding readingBytes readingAt
+bytes-of-reading xs b e =
+    let held : (at : ℕ) → at + 8 ≤ length xs → _ = λ at h. words-stand xs at b (heldWords (heldAt xs at)) h (held-read xs at) in
+    whole-standing (readingParts (readingAt xs)) xs (sym e) (
+      words-stand xs 0 b (creditsWords (creditsAt xs 0)) (omega arith) (credits-read xs 0),
+      (
+        held 20 (omega arith),
+        (held 28 (omega arith), (held 36 (omega arith), (held 44 (omega arith), (words-stand xs 52 b (fairWords (fairAt xs 52)) (omega arith) (fair-read xs 52), tt)))),
+      ),
+    )
+
+-- what the stage holds: a size has 14 bits
+stage-fits : (w : ℕ) → WordsFit (heldWords (heldOn w))
+stage-fits w = ⊎-elim (λ (e : w ≡ 0). rw (held-none w e) (omega arith)) (λ n. rw (held-one w n) (omega arith)) (split (w ≡? 0))
+
+-- The reading of a station whose numbers fit does.
+pub reading-fits : {st : Station} → StationFits st → ReadingFits (readingOf st)
+reading-fits {st} f =
+    record {
+      of-credits = f .of-credits;
+      of-control = omega (arith, f .of-control .count, f .of-control .held);
+      of-primary = omega (arith, f .of-primary .count, f .of-primary .held);
+      of-secondary = omega (arith, f .of-secondary .count, f .of-secondary .held);
+      of-stage = stage-fits (st .flow .stage);
+      of-fair = f .of-fair;
+    }
+
+-- ---- the table of words
+
+abbrev heldFrom : List ℕ → ℕ → Held
+heldFrom xs k = record { frames = wordAt xs k; bytes = wordAt xs (k + 1) }
+
+abbrev fourFrom : List ℕ → ℕ → Four
+fourFrom xs k = record { add = wordAt xs k; fw = wordAt xs (k + 1); addc = wordAt xs (k + 2); fwc = wordAt xs (k + 3) }
+
+-- Words 0 to 4 are the credits of M, A, B, C, D; 5, 7, 9 and 11 begin control, primary and secondary queue and stage (frames, bytes); 13 to 16 are
+-- addRate, fwRate, addRateCongested, fwRateCongested, 17 to 20 the smoothed rates in the same order; 21 localFairRate, 22 allowedRate, 23
+-- allowedRateCongested, 24 own rate; 25, 26 locally congested, downstream congested; 27 received ttl; 28, 29, 30 received address (high 16, low 32
+-- bits), received rate.
+pub by-words : (xs : List ℕ) → readingAt xs ≡ record {
+  credits = record { m = wordAt xs 0; a = wordAt xs 1; b = wordAt xs 2; c = wordAt xs 3; d = wordAt xs 4 };
+  control = heldFrom xs 5;
+  primary = heldFrom xs 7;
+  secondary = heldFrom xs 9;
+  stage = heldFrom xs 11;
+  fair = record {
+    counters = fourFrom xs 13;
+    smoothed = fourFrom xs 17;
+    local = wordAt xs 21;
+    allowed = wordAt xs 22;
+    allowedc = wordAt xs 23;
+    own = wordAt xs 24;
+    congested = wordAt xs 25;
+    downstream = wordAt xs 26;
+    ttl = wordAt xs 27;
+    high = wordAt xs 28;
+    low = wordAt xs 29;
+    rate = wordAt xs 30;
+  };
+}
+unfolding readingAt creditsAt fairAt
+by-words xs = refl

@@ -1,0 +1,60 @@
+-- A reading as 31 words of 4 bytes, least byte first.
+-- Assumes nothing.
+use Prim.Native.Nat.{ℕ, _+_}
+use mathlib.Core.List.{List, [], _∷_}
+use Rattle.wire.specs.Wire.{le}
+use Rattle.wire.specs.Parts.{Part, laidOut}
+use Rattle.station.specs.declared.Held.{Held}
+use Rattle.station.specs.declared.Reading.{Reading}
+use Rattle.slots.specs.Slots.{WordsFit}
+use Rattle.layout.specs.Layout.{wordsPart, creditsWords, creditsAt, fairWords, fairAt}
+
+-- how many bytes a reading takes
+abbrev pub readingLength : ℕ
+readingLength = 124
+
+-- ---- what is written: the words, one after another
+
+-- a queue or the stage: frames, bytes
+abbrev pub heldWords : Held → List ℕ
+heldWords h = h .frames ∷ h .bytes ∷ []
+
+-- the credits; what control, primary and secondary queue and the stage hold; the fairness state
+abbrev pub readingParts : Reading → List Part
+readingParts r =
+    wordsPart (creditsWords (r .credits))
+    ∷ wordsPart (heldWords (r .control))
+    ∷ wordsPart (heldWords (r .primary))
+    ∷ wordsPart (heldWords (r .secondary))
+    ∷ wordsPart (heldWords (r .stage))
+    ∷ wordsPart (fairWords (r .fair))
+    ∷ []
+
+unfoldable pub readingBytes : Reading → List ℕ
+readingBytes r = laidOut (readingParts r)
+
+-- ---- what is read: each number at its place
+
+abbrev pub heldAt : List ℕ → ℕ → Held
+heldAt xs at = record { frames = le 4 xs at; bytes = le 4 xs (at + 4) }
+
+unfoldable pub readingAt : List ℕ → Reading
+readingAt xs =
+    record {
+      credits = creditsAt xs 0;
+      control = heldAt xs 20;
+      primary = heldAt xs 28;
+      secondary = heldAt xs 36;
+      stage = heldAt xs 44;
+      fair = fairAt xs 52;
+    }
+
+-- ---- numbers of 32 bits
+
+pub record ReadingFits (r : Reading) : Type 0 where
+  pub of-credits : WordsFit (creditsWords (r .credits))
+  pub of-control : WordsFit (heldWords (r .control))
+  pub of-primary : WordsFit (heldWords (r .primary))
+  pub of-secondary : WordsFit (heldWords (r .secondary))
+  pub of-stage : WordsFit (heldWords (r .stage))
+  pub of-fair : WordsFit (fairWords (r .fair))

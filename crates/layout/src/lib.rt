@@ -1,0 +1,183 @@
+// A station and its reading as bytes, in which a host keeps the one and looks at the other. A station's bytes are 1,770: the credits at 0, control,
+// primary and secondary queue at 20, 538 and 1056, the stage's word at 1574, the fairness state at 1578, the settings at 1650.
+ghost use mathlib.Core.Path.{_≡_};
+ghost use Prim.Native.Nat.{_+_, _%_, _≤_};
+ghost use lib.ListN.{length};
+ghost use Rattle.wire.specs.Wire.{digits, put};
+ghost use Rattle.station.specs.Offers.{givenFrame};
+ghost use Rattle.slots.specs.Slots.{wordsBytes};
+ghost use Rattle.layout.specs.Layout.{stationLength, stationAt, stationBytes, creditsAt, creditsWords, fairWords, placeOf, pushedAt, takenFrom};
+ghost use Rattle.layout.specs.Reading.{readingLength, heldWords, readingBytes};
+
+mod fairness;
+
+use fair::Fair;
+use flow::Credits;
+use flow::Flow;
+use flow::Line;
+use queue::Frame;
+use settings::Settings;
+use station::Held;
+use station::Reading;
+use station::Station;
+
+// How many bytes a station takes, and how many a reading of one.
+pub const LENGTH: usize = 1770;
+
+pub const READING: usize = 124;
+
+// The station that 1,770 bytes hold, in range or not.
+pub fn read(s: &[u8]) -> Station
+    requires { ⌜ length (now s) ≡ stationLength ⌝ }
+    ensures { λ r. ⌜ r ≡ stationAt (now (s .entry)) ⌝ }
+{
+    let flow = Flow {
+        credits: read_credits(s, 0),
+        control: slots::read(s, 20),
+        primary: slots::read(s, 538),
+        secondary: slots::read(s, 1056),
+        stage: wire::get32(s, 1574),
+    };
+    Station {
+        settings: Settings::read(s, 1650),
+        flow: flow,
+        fair: fairness::read(s, 1578),
+    }
+}
+
+// Writes a station to 1,770 bytes.
+pub fn write(st: Station, s: &mut [u8])
+    requires { ⌜ length (now s) ≡ stationLength ⌝ }
+    ensures { λ _. ⌜ now (s .exit) ≡ stationBytes st ⌝ }
+{
+    let flow = st.flow;
+    put_credits(flow.credits, s, 0);
+    slots::write(flow.control, s, 20);
+    slots::write(flow.primary, s, 538);
+    slots::write(flow.secondary, s, 1056);
+    wire::put32(s, 1574, flow.stage);
+    fairness::write(st.fair, s, 1578);
+    st.settings.write(s, 1650);
+}
+
+// Writes the credits of a station to its 1,770 bytes, and leaves all others.
+pub fn write_credits(c: Credits, s: &mut [u8])
+    requires { ⌜ length (now s) ≡ stationLength ⌝ }
+    ensures { λ _. ⌜ now (s .exit) ≡ put (now (s .entry)) 0 (wordsBytes (creditsWords c)) ⌝ }
+{
+    put_credits(c, s, 0);
+}
+
+// Pushes a frame to a queue of a station, in its bytes, and leaves all others. The frame's numbers are those of any call: what does not fit is cut off.
+pub fn push_frame(line: Line, class: u64, size: u64, hops: u64, mark: u64, s: &mut [u8])
+    requires { ⌜ length (now s) ≡ stationLength ⌝ }
+    ensures { λ _. ⌜ now (s .exit) ≡ pushedAt (now (s .entry)) line (givenFrame class size hops mark) ⌝ }
+{
+    let frame = Frame {
+        size: low(size),
+        hops: low(hops),
+        class: low(class),
+        mark: low(mark),
+    };
+    slots::push(frame, s, place(line));
+}
+
+// Takes the first frame from the queue that a selection names, in the bytes of a station, and leaves all others: 1 control, 2 primary, 3 secondary.
+pub fn take_frame(origin: u32, s: &mut [u8])
+    requires { ⌜ length (now s) ≡ stationLength ⌝ }
+    ensures { λ _. ⌜ now (s .exit) ≡ takenFrom origin (now (s .entry)) ⌝ }
+{
+    if origin == 1 {
+        slots::take(s, place(Line::Control));
+        return;
+    }
+    if origin == 2 {
+        slots::take(s, place(Line::Primary));
+        return;
+    }
+    if origin == 3 {
+        slots::take(s, place(Line::Secondary));
+    }
+}
+
+// Writes the stage's word to the bytes of a station, and leaves all others.
+pub fn write_stage(word: u32, s: &mut [u8])
+    requires { ⌜ length (now s) ≡ stationLength ⌝ }
+    ensures { λ _. ⌜ now (s .exit) ≡ put (now (s .entry)) 1574 (digits 4 word) ⌝ }
+{
+    wire::put32(s, 1574, word);
+}
+
+// Writes the fairness state of a station to its bytes, and leaves all others.
+pub fn write_fair(f: Fair, s: &mut [u8])
+    requires { ⌜ length (now s) ≡ stationLength ⌝ }
+    ensures { λ _. ⌜ now (s .exit) ≡ put (now (s .entry)) 1578 (wordsBytes (fairWords f)) ⌝ }
+{
+    fairness::write(f, s, 1578);
+}
+
+// Writes a reading to 124 bytes.
+pub fn write_reading(r: Reading, s: &mut [u8])
+    requires { ⌜ length (now s) ≡ readingLength ⌝ }
+    ensures { λ _. ⌜ now (s .exit) ≡ readingBytes r ⌝ }
+{
+    put_credits(r.credits, s, 0);
+    write_held(r.control, s, 20);
+    write_held(r.primary, s, 28);
+    write_held(r.secondary, s, 36);
+    write_held(r.stage, s, 44);
+    fairness::write(r.fair, s, 52);
+}
+
+// Where the bytes of a queue stand.
+fn place(line: Line) -> usize
+    ensures { λ r. ⌜ r ≡ placeOf line ⌝ }
+{
+    match line {
+        Line::Control => 20,
+        Line::Primary => 538,
+        Line::Secondary => 1056,
+    }
+}
+
+// The low 32 bits of a number.
+fn low(x: u64) -> u32
+    ensures { λ r. ⌜ r ≡ x % 4294967296 ⌝ }
+{
+    (x % 4294967296) as u32
+}
+
+// The credits whose words stand in `s` from `at` on.
+fn read_credits(s: &[u8], at: usize) -> Credits
+    requires { ⌜ at + 20 ≤ length (now s) ⌝ }
+    ensures { λ r. ⌜ r ≡ creditsAt (now (s .entry)) at ⌝ }
+{
+    Credits {
+        m: wire::get32(s, at),
+        a: wire::get32(s, at + 4),
+        b: wire::get32(s, at + 8),
+        c: wire::get32(s, at + 12),
+        d: wire::get32(s, at + 16),
+    }
+}
+
+// Writes the words of credits to `s` from `at` on.
+fn put_credits(c: Credits, s: &mut [u8], at: usize)
+    requires { ⌜ at + 20 ≤ length (now s) ⌝ }
+    ensures { λ _. ⌜ now (s .exit) ≡ put (now (s .entry)) at (wordsBytes (creditsWords c)) ⌝ }
+{
+    wire::put32(s, at, c.m);
+    wire::put32(s, at + 4, c.a);
+    wire::put32(s, at + 8, c.b);
+    wire::put32(s, at + 12, c.c);
+    wire::put32(s, at + 16, c.d);
+}
+
+// Writes the two words of what a queue or the stage holds to `s` from `at` on.
+fn write_held(h: Held, s: &mut [u8], at: usize)
+    requires { ⌜ at + 8 ≤ length (now s) ⌝ }
+    ensures { λ _. ⌜ now (s .exit) ≡ put (now (s .entry)) at (wordsBytes (heldWords h)) ⌝ }
+{
+    wire::put32(s, at, h.frames);
+    wire::put32(s, at + 4, h.bytes);
+}

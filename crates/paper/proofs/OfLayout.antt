@@ -1,0 +1,19 @@
+-- Each contract of `layout` is an equation for the answer.
+-- Assumes nothing.
+use Rattle.paper.specs.OfLayout.{Functions}
+use Rattle.paper.proofs.Determined.{by-equation}
+
+pub functions : Functions
+functions =
+    record {
+      fairness-read = λ s at. by-equation;
+      fairness-write = λ f s at. by-equation;
+      read = λ s. by-equation;
+      write = λ st s. by-equation;
+      write-credits = λ c s. by-equation;
+      push-frame = λ line class size hops mark s. by-equation;
+      take-frame = λ origin s. by-equation;
+      write-stage = λ word s. by-equation;
+      write-fair = λ f s. by-equation;
+      write-reading = λ r s. by-equation;
+    }

@@ -1,0 +1,20 @@
+-- Each contract of `queue` is an equation for the answer.
+-- Assumes nothing.
+use Rattle.paper.specs.OfQueue.{Functions}
+use Rattle.paper.proofs.Determined.{by-equation}
+
+pub functions : Functions
+functions =
+    record {
+      hops-ok = λ hops. by-equation;
+      frame-in-range = λ self mtu. by-equation;
+      frame-word = λ self. by-equation;
+      frame-of = λ w. by-equation;
+      queue-empty = by-equation;
+      queue-push = λ self f. by-equation;
+      queue-first = λ self. by-equation;
+      queue-take = λ self. by-equation;
+      queue-space = λ self capacity. by-equation;
+      queue-holds-frame = λ self. by-equation;
+      queue-in-range = λ self mtu capacity. by-equation;
+    }

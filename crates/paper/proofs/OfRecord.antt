@@ -1,0 +1,11 @@
+-- Each contract of `record` is an equation for the answer.
+-- Assumes nothing.
+use Rattle.paper.specs.OfRecord.{Functions}
+use Rattle.paper.proofs.Determined.{by-equation}
+
+pub functions : Functions
+functions =
+    record {
+      header-of = λ s. by-equation;
+      event-at = λ s at mtu. by-equation;
+    }

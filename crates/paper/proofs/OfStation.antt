@@ -1,0 +1,21 @@
+-- Each contract of `station` is an equation for the answer.
+-- Assumes nothing.
+use Rattle.paper.specs.OfStation.{Functions}
+use Rattle.paper.proofs.Determined.{by-equation}
+
+pub functions : Functions
+functions =
+    record {
+      station-offer-client = λ self class size hops. by-equation;
+      station-offer-transit = λ self class size hops eligible. by-equation;
+      station-offer-control = λ self size. by-equation;
+      station-hear = λ self frame. by-equation;
+      station-tell = λ self. by-equation;
+      station-fresh = λ settings. by-equation;
+      station-in-range = λ self. by-equation;
+      station-start = λ self settings. by-equation;
+      station-tick = λ self a b c. by-equation;
+      station-select = λ self. by-equation;
+      station-age = λ self. by-equation;
+      station-show = λ self. by-equation;
+    }

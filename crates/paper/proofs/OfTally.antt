@@ -1,0 +1,12 @@
+-- Each contract of `tally` is an equation for the answer.
+-- Assumes nothing.
+use Rattle.paper.specs.OfTally.{Functions}
+use Rattle.paper.proofs.Determined.{by-equation}
+
+pub functions : Functions
+functions =
+    record {
+      start = λ lo. by-equation;
+      step = λ t rise k v. by-equation;
+      finish = λ limits n t. by-equation;
+    }

@@ -1,0 +1,54 @@
+-- Document 01: "show that two answers meeting it are equal", of every public function of every library crate.
+-- Assumes nothing.
+use Rattle.paper.specs.OfDecide as OfDecide
+use Rattle.paper.specs.OfWire as OfWire
+use Rattle.paper.specs.OfShaper as OfShaper
+use Rattle.paper.specs.OfPlain as OfPlain
+use Rattle.paper.specs.OfTally as OfTally
+use Rattle.paper.specs.OfSummary as OfSummary
+use Rattle.paper.specs.OfRecord as OfRecord
+use Rattle.paper.specs.OfAccount as OfAccount
+use Rattle.paper.specs.OfRing as OfRing
+use Rattle.paper.specs.OfWrap as OfWrap
+use Rattle.paper.specs.OfSheet as OfSheet
+use Rattle.paper.specs.OfReader as OfReader
+use Rattle.paper.specs.OfFeed as OfFeed
+use Rattle.paper.specs.OfHex as OfHex
+use Rattle.paper.specs.OfSettings as OfSettings
+use Rattle.paper.specs.OfQueue as OfQueue
+use Rattle.paper.specs.OfRates as OfRates
+use Rattle.paper.specs.OfAdvert as OfAdvert
+use Rattle.paper.specs.OfFair as OfFair
+use Rattle.paper.specs.OfFlow as OfFlow
+use Rattle.paper.specs.OfStation as OfStation
+use Rattle.paper.specs.OfSlots as OfSlots
+use Rattle.paper.specs.OfLayout as OfLayout
+use Rattle.paper.specs.OfRpr as OfRpr
+use Rattle.paper.specs.OfEntry as OfEntry
+
+pub record AnswersDetermined : Type 0 where
+  pub of-decide : OfDecide.Functions
+  pub of-wire : OfWire.Functions
+  pub of-shaper : OfShaper.Functions
+  pub of-plain : OfPlain.Functions
+  pub of-tally : OfTally.Functions
+  pub of-summary : OfSummary.Functions
+  pub of-record : OfRecord.Functions
+  pub of-account : OfAccount.Functions
+  pub of-ring : OfRing.Functions
+  pub of-wrap : OfWrap.Functions
+  pub of-sheet : OfSheet.Functions
+  pub of-reader : OfReader.Functions
+  pub of-feed : OfFeed.Functions
+  pub of-hex : OfHex.Functions
+  pub of-settings : OfSettings.Functions
+  pub of-queue : OfQueue.Functions
+  pub of-rates : OfRates.Functions
+  pub of-advert : OfAdvert.Functions
+  pub of-fair : OfFair.Functions
+  pub of-flow : OfFlow.Functions
+  pub of-station : OfStation.Functions
+  pub of-slots : OfSlots.Functions
+  pub of-layout : OfLayout.Functions
+  pub of-rpr : OfRpr.Functions
+  pub of-entry : OfEntry.Functions

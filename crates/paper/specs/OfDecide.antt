@@ -1,0 +1,13 @@
+-- The public functions of `decide`, by name: two answers that meet the contract are equal.
+-- Assumes nothing.
+use Prim.Native.Nat.{_-_, max, min, ℕ}
+use mathlib.Core.Path.{_≡_}
+use Rattle.paper.specs.Determined.{Determined}
+
+pub record Functions : Type 0 where
+  -- lesser
+  pub lesser : (x y : ℕ) → Determined (λ (r : ℕ). r ≡ min x y)
+  -- larger
+  pub larger : (x y : ℕ) → Determined (λ (r : ℕ). r ≡ max x y)
+  -- less
+  pub less : (x y : ℕ) → Determined (λ (r : ℕ). r ≡ x - y)

@@ -1,0 +1,45 @@
+-- The public functions of `fair`, by name: two answers that meet the contract are equal.
+-- Assumes nothing.
+use Prim.Native.Nat.{ℕ}
+use Rattle.advert.specs.declared.Advert.{Advert}
+use Rattle.decide.specs.Test.{test}
+use Rattle.fair.specs.Advertise.{heardOf, ownAddress, ownRinglet, toldOf}
+use Rattle.fair.specs.Age.{ageOf}
+use Rattle.fair.specs.Count.{beyond, countOf, over}
+use Rattle.fair.specs.Range.{fairOk, fourOk, ttlOk}
+use Rattle.fair.specs.Start.{startOf}
+use Rattle.fair.specs.declared.Fair.{Fair}
+use Rattle.fair.specs.declared.Four.{Four}
+use Rattle.rates.specs.Rates.{shareOf}
+use Rattle.settings.specs.declared.Settings.{Settings}
+use mathlib.Core.Bool.{Bool}
+use mathlib.Core.Path.{_≡_}
+use Rattle.paper.specs.Determined.{Determined}
+
+pub record Functions : Type 0 where
+  -- Four::in_range
+  pub four-in-range : (self : Four) → Determined (λ (r : Bool). r ≡ test (fourOk self))
+  -- ttl_ok
+  pub ttl-ok : (ttl : ℕ) → Determined (λ (r : Bool). r ≡ test (ttlOk ttl))
+  -- Fair::in_range
+  pub fair-in-range : (self : Fair) (settings : Settings) → Determined (λ (r : Bool). r ≡ test (fairOk settings self))
+  -- Fair::start
+  pub fair-start : (settings : Settings) → Determined (λ (r : Fair). r ≡ startOf settings)
+  -- Fair::is_beyond
+  pub fair-is-beyond : (self : Fair) (hops : ℕ) → Determined (λ (r : Bool). r ≡ test (beyond self hops))
+  -- Fair::is_over
+  pub fair-is-over : (self : Fair) (size hops : ℕ) → Determined (λ (r : Bool). r ≡ test (over self size hops))
+  -- Fair::count
+  pub fair-count : (self : Fair) (origin mark hops size : ℕ) → Determined (λ (r : Fair). r ≡ countOf self origin mark hops size)
+  -- Fair::age
+  pub fair-age : (self : Fair) (settings : Settings) (held : ℕ) → Determined (λ (r : Fair). r ≡ ageOf self settings held)
+  -- Fair::share
+  pub fair-share : (self : Fair) (settings : Settings) → Determined (λ (r : ℕ). r ≡ shareOf (self .allowed) (settings .fairness .age) (settings .fairness .ticks))
+  -- Fair::told (a leaf: it asks that FairOk settings self)
+  pub fair-told : (self : Fair) (settings : Settings) → Determined (λ (r : Advert). r ≡ toldOf self settings)
+  -- Fair::heard
+  pub fair-heard : (self : Fair) (advert : Advert) → Determined (λ (r : Fair). r ≡ heardOf self advert)
+  -- is_own_ringlet
+  pub is-own-ringlet : (settings : Settings) (advert : Advert) → Determined (λ (r : Bool). r ≡ test (ownRinglet settings advert))
+  -- is_own_address
+  pub is-own-address : (settings : Settings) (advert : Advert) → Determined (λ (r : Bool). r ≡ test (ownAddress settings advert))

@@ -1,0 +1,38 @@
+-- The public functions of `layout`, by name: two answers that meet the contract are equal.
+-- Assumes nothing.
+use Prim.Native.Nat.{ℕ}
+use Rattle.fair.specs.declared.Fair.{Fair}
+use Rattle.flow.specs.declared.Credits.{Credits}
+use Rattle.flow.specs.declared.Line.{Line}
+use Rattle.layout.specs.Layout.{creditsWords, fairAt, fairWords, pushedAt, stationAt, stationBytes, takenFrom}
+use Rattle.layout.specs.Reading.{readingBytes}
+use Rattle.slots.specs.Slots.{wordsBytes}
+use Rattle.station.specs.Offers.{givenFrame}
+use Rattle.station.specs.declared.Reading.{Reading}
+use Rattle.station.specs.declared.Station.{Station}
+use Rattle.wire.specs.Wire.{digits, put}
+use mathlib.Core.List.{List}
+use mathlib.Core.Path.{_≡_}
+use Rattle.paper.specs.Determined.{Determined}
+
+pub record Functions : Type 0 where
+  -- fairness::read (a leaf: it asks that at + 72 ≤ length (now s))
+  pub fairness-read : (s : List ℕ) (at : ℕ) → Determined (λ (r : Fair). r ≡ fairAt s at)
+  -- fairness::write (a leaf: it asks that at + 72 ≤ length (now s))
+  pub fairness-write : (f : Fair) (s : List ℕ) (at : ℕ) → Determined (λ (after-s : List ℕ). after-s ≡ put s at (wordsBytes (fairWords f)))
+  -- read (a leaf: it asks that length (now s) ≡ stationLength)
+  pub read : (s : List ℕ) → Determined (λ (r : Station). r ≡ stationAt s)
+  -- write (a leaf: it asks that length (now s) ≡ stationLength)
+  pub write : (st : Station) (s : List ℕ) → Determined (λ (after-s : List ℕ). after-s ≡ stationBytes st)
+  -- write_credits (a leaf: it asks that length (now s) ≡ stationLength)
+  pub write-credits : (c : Credits) (s : List ℕ) → Determined (λ (after-s : List ℕ). after-s ≡ put s 0 (wordsBytes (creditsWords c)))
+  -- push_frame (a leaf: it asks that length (now s) ≡ stationLength)
+  pub push-frame : (line : Line) (class size hops mark : ℕ) (s : List ℕ) → Determined (λ (after-s : List ℕ). after-s ≡ pushedAt s line (givenFrame class size hops mark))
+  -- take_frame (a leaf: it asks that length (now s) ≡ stationLength)
+  pub take-frame : (origin : ℕ) (s : List ℕ) → Determined (λ (after-s : List ℕ). after-s ≡ takenFrom origin s)
+  -- write_stage (a leaf: it asks that length (now s) ≡ stationLength)
+  pub write-stage : (word : ℕ) (s : List ℕ) → Determined (λ (after-s : List ℕ). after-s ≡ put s 1574 (digits 4 word))
+  -- write_fair (a leaf: it asks that length (now s) ≡ stationLength)
+  pub write-fair : (f : Fair) (s : List ℕ) → Determined (λ (after-s : List ℕ). after-s ≡ put s 1578 (wordsBytes (fairWords f)))
+  -- write_reading (a leaf: it asks that length (now s) ≡ readingLength)
+  pub write-reading : (r : Reading) (s : List ℕ) → Determined (λ (after-s : List ℕ). after-s ≡ readingBytes r)

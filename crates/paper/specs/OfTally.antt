@@ -1,0 +1,17 @@
+-- The public functions of `tally`, by name: two answers that meet the contract are equal.
+-- Assumes nothing.
+use Prim.Native.Nat.{ℕ}
+use Rattle.plain.specs.declared.Plain.{Plain}
+use Rattle.shaper.specs.declared.Limits.{Limits}
+use Rattle.tally.specs.Tally.{plainAt, startOf, stepOf}
+use Rattle.tally.specs.declared.Tally.{Tally}
+use mathlib.Core.Path.{_≡_}
+use Rattle.paper.specs.Determined.{Determined}
+
+pub record Functions : Type 0 where
+  -- start
+  pub start : (lo : ℕ) → Determined (λ (r : Tally). r ≡ startOf lo)
+  -- step (a leaf: it asks that Within 1000000 t × (rise ≤ 1048576) × (v ≤ 65535))
+  pub step : (t : Tally) (rise k v : ℕ) → Determined (λ (r : Tally). r ≡ stepOf rise k v t)
+  -- finish (a leaf: it asks that Within 1000000 t)
+  pub finish : (limits : Limits) (n : ℕ) (t : Tally) → Determined (λ (r : Plain). r ≡ plainAt limits n t)

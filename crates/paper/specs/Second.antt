@@ -1,0 +1,157 @@
+-- The second condition of acceptance, in its own words: credits, frame selection, fair rates, ringlet choice and fairness frames equal the rules of document 01,
+-- step for step; fairness frames are both written and read. That each exported call does what the definitions say is its contract (`AnswersDetermined` has
+-- them all); here stand the rules, in the paper's words, over those definitions. Ranges and refusals are the first condition's. Assumes nothing.
+use Prim.Native.Nat.{ℕ, _+_, _*_, _-_, _/_, _≤_, _<_, min}
+use mathlib.Core.Bool.{Bool, true, false}
+use mathlib.Core.List.{List, _++_}
+use mathlib.Core.Path.{_≡_}
+use lib.ListN.{length, take, drop}
+use Rattle.decide.specs.Test.{Holds}
+use Rattle.settings.specs.declared.Settings.{Settings}
+use Rattle.settings.specs.Range.{SettingsOk}
+use Rattle.settings.specs.Words.{settingsAt}
+use Rattle.wire.specs.Wire.{Bytes}
+use Rattle.flow.specs.declared.Flow.{Flow}
+use Rattle.flow.specs.declared.Line.the-variants.{Control, Primary, Secondary}
+use Rattle.flow.specs.declared.Which.{Which}
+use Rattle.flow.specs.declared.Which.the-variants.{M, D}
+use Rattle.flow.specs.Which.{creditOf}
+use Rattle.flow.specs.Select.{controlReady, primaryReady, needy, stageReady, secondaryReady, leaves, leavesCharged, leavesStage, nothingOf, selectOf}
+use Rattle.flow.proofs.Select.{No, Exactly}
+use Rattle.fair.specs.declared.Fair.{Fair}
+use Rattle.advert.specs.declared.Advert.{Advert}
+use Rattle.fair.specs.Age.{ageOf}
+use Rattle.fair.specs.Range.{FairOk}
+use Rattle.fair.proofs.ReadBack.{ReadBack}
+use Rattle.ring.specs.declared.Way.{Way}
+use Rattle.ring.specs.declared.Way.the-variants.{Left, Right}
+use Rattle.ring.specs.declared.Choice.the-variants.{Chosen, Refused}
+use Rattle.ring.specs.Links.{otherOf}
+use Rattle.ring.specs.Choosing.{codeOf, distanceOf, reachesOf, sentOf, chooseOf, Placed}
+use Rattle.wrap.specs.declared.Outcome as wrap
+use Rattle.wrap.specs.Walking.{wholeOf, pathOf}
+use Rattle.station.specs.declared.Station.{Station}
+use Rattle.station.specs.Range.{StationOk}
+use Rattle.station.specs.Calls.{freshOf, flagsOk}
+use Rattle.station.specs.History.{recordOf}
+use Rattle.station.proofs.History.{Recorded}
+use Rattle.layout.specs.Layout.{stationLength}
+use Rattle.rpr.specs.Station.{startAnswer, startAfter}
+use Rattle.rpr.specs.Lent.{Lending, memoryThrough, callsOn, stationIn}
+use Rattle.paper.specs.Rules.{Ticks, Enters, Counts, Tells, Hears}
+
+-- ---- frame selection: first that holds
+
+pub record Selects (s : Settings) (f : Flow) : Type 0 where
+  -- control, if its head's size fits the space of both transit queues and M permits (M charged);
+  pub control : Exactly s f 1 (leavesCharged s f Control M)
+  -- primary;
+  pub primary : Exactly s f 2 (leaves f Primary)
+  -- secondary, if mtu > its space (nothing charged);
+  pub needy-secondary : No (controlReady s f) → No (primaryReady f) → Holds (needy s f) → selectOf s f ≡ leaves f Secondary
+  -- stage;
+  pub stage : Exactly s f 4 (leavesStage f)
+  -- secondary, if D permits (D charged);
+  pub secondary : No (controlReady s f) → No (primaryReady f) → No (needy s f) → No (stageReady f) → Holds (secondaryReady s f)
+      → selectOf s f ≡ leavesCharged s f Secondary D
+  -- nothing.
+  pub nothing : Exactly s f 0 (nothingOf f)
+
+-- ---- fair rates: an aging interval, with so many bytes in the secondary queue
+
+pub record Ages (f : Fair) (s : Settings) (held : ℕ) : Type 0 where
+  -- Each of the four smoothed rates becomes floor(((lpCoef−1) × lp + rate) / lpCoef).
+  pub smoothed : ageOf f s held .smoothed
+      ≡ record {
+        add = ((s .fairness .lp - 1) * f .smoothed .add + f .counters .add) / s .fairness .lp;
+        fw = ((s .fairness .lp - 1) * f .smoothed .fw + f .counters .fw) / s .fairness .lp;
+        addc = ((s .fairness .lp - 1) * f .smoothed .addc + f .counters .addc) / s .fairness .lp;
+        fwc = ((s .fairness .lp - 1) * f .smoothed .fwc + f .counters .fwc) / s .fairness .lp;
+      }
+  -- Locally congested: secondary bytes > low threshold. localFairRate: lpAddRate if locally congested, else unreservedRate.
+  pub congested : s .queues .threshold < held → (ageOf f s held .congested ≡ 1) × (ageOf f s held .local ≡ ageOf f s held .smoothed .add)
+  pub not-congested : held ≤ s .queues .threshold → (ageOf f s held .congested ≡ 0) × (ageOf f s held .local ≡ s .fairness .unreserved)
+  -- allowedRate: the smaller of localFairRate and unreservedRate if locally congested, else allowedRate + floor((unreservedRate − allowedRate) / rampUp).
+  pub allowed-congested : s .queues .threshold < held → ageOf f s held .allowed ≡ min (ageOf f s held .local) (s .fairness .unreserved)
+  pub allowed-ramped : held ≤ s .queues .threshold → ageOf f s held .allowed ≡ f .allowed + (s .fairness .unreserved - f .allowed) / s .fairness .ramp
+  -- allowedRateCongested: if downstream congested the smaller of unreservedRate and received × weight × unit, else ramped the same way.
+  pub allowedc-congested : f .downstream ≡ 1 → ageOf f s held .allowedc ≡ min (s .fairness .unreserved) (f .rate * s .fairness .weight * s .fairness .unit)
+  pub allowedc-ramped : (f .downstream ≡ 1 → ⊥) → ageOf f s held .allowedc ≡ f .allowedc + (s .fairness .unreserved - f .allowedc) / s .fairness .ramp
+  -- Each counter becomes floor(rate × (ageCoef−1) / ageCoef).
+  pub counters : ageOf f s held .counters
+      ≡ record {
+        add = f .counters .add * (s .fairness .age - 1) / s .fairness .age;
+        fw = f .counters .fw * (s .fairness .age - 1) / s .fairness .age;
+        addc = f .counters .addc * (s .fairness .age - 1) / s .fairness .age;
+        fwc = f .counters .fwc * (s .fairness .age - 1) / s .fairness .age;
+      }
+  -- What was received stays.
+  pub keeps : (ageOf f s held .downstream ≡ f .downstream) × (ageOf f s held .ttl ≡ f .ttl) × (ageOf f s held .high ≡ f .high)
+      × (ageOf f s held .low ≡ f .low) × (ageOf f s held .rate ≡ f .rate)
+  -- Own rate is floor(localFairRate / (weight × unit)), at most 65,534.
+  pub own : ageOf f s held .own ≡ min (ageOf f s held .local / (s .fairness .weight * s .fairness .unit)) 65534
+
+-- ---- ringlet choice and path
+
+-- Side 3 is default; protection 1 is protected, 2 unprotected.
+pub record Chooses (stations own target links ring : ℕ) : Type 0 where
+  -- Protected left or right: that side if it reaches, else the other if it reaches, else 8.
+  pub that : (way : Way) → reachesOf way stations own target links ≡ true
+      → chooseOf stations own target links (codeOf way) 1 ring ≡ sentOf way stations own target 1 ring
+  pub other : (way : Way) → reachesOf way stations own target links ≡ false → reachesOf (otherOf way) stations own target links ≡ true
+      → chooseOf stations own target links (codeOf way) 1 ring ≡ sentOf (otherOf way) stations own target 1 ring
+  pub neither : (way : Way) → reachesOf way stations own target links ≡ false → reachesOf (otherOf way) stations own target links ≡ false
+      → chooseOf stations own target links (codeOf way) 1 ring ≡ Refused 8
+  -- Unprotected: that side regardless.
+  pub regardless : (way : Way) → chooseOf stations own target links (codeOf way) 2 ring ≡ sentOf way stations own target 2 ring
+  -- Default: the shorter side that reaches (unprotected: the shorter), right on a tie, 8 if none.
+  pub shorter : (way : Way) → distanceOf way stations own target < distanceOf (otherOf way) stations own target → reachesOf way stations own target links ≡ true
+      → chooseOf stations own target links 3 1 ring ≡ sentOf way stations own target 1 ring
+  pub only : (way : Way) → reachesOf way stations own target links ≡ true → reachesOf (otherOf way) stations own target links ≡ false
+      → chooseOf stations own target links 3 1 ring ≡ sentOf way stations own target 1 ring
+  pub tie : distanceOf Left stations own target ≡ distanceOf Right stations own target → reachesOf Right stations own target links ≡ true
+      → chooseOf stations own target links 3 1 ring ≡ sentOf Right stations own target 1 ring
+  pub none : reachesOf Left stations own target links ≡ false → reachesOf Right stations own target links ≡ false
+      → chooseOf stations own target links 3 1 ring ≡ Refused 8
+  pub unprotected-tie : distanceOf Left stations own target ≡ distanceOf Right stations own target
+      → chooseOf stations own target links 3 2 ring ≡ sentOf Right stations own target 2 ring
+  pub unprotected-shorter : (way : Way) → distanceOf way stations own target < distanceOf (otherOf way) stations own target
+      → chooseOf stations own target links 3 2 ring ≡ sentOf way stations own target 2 ring
+
+-- What is unspecified, and what a side that is taken sends, whatever the other numbers are.
+pub record Sends (stations own target links ring : ℕ) : Type 0 where
+  -- Unspecified means default and protected.
+  pub side : (protection : ℕ) → chooseOf stations own target links 0 protection ring ≡ chooseOf stations own target links 3 protection ring
+  pub protection : (s : ℕ) → chooseOf stations own target links s 0 ring ≡ chooseOf stations own target links s 1 ring
+  -- ttl: the distance on a steering ring, 63 on a wrapping one. Wrap mark: protected on a wrapping ring.
+  pub steering : (way : Way) (p : ℕ) → sentOf way stations own target p 0 ≡ Chosen (codeOf way) (distanceOf way stations own target) (distanceOf way stations own target) false
+  pub wrapping : (way : Way) → sentOf way stations own target 1 1 ≡ Chosen (codeOf way) (distanceOf way stations own target) 63 true
+  pub wrapping-unprotected : (way : Way) → sentOf way stations own target 2 1 ≡ Chosen (codeOf way) (distanceOf way stations own target) 63 false
+
+-- ---- all together
+
+-- memory whose first bytes were lent to rpr_start
+abbrev pub startedIn : List ℕ → List ℕ → List ℕ
+startedIn settings mem = startAfter settings (take stationLength mem) ++ drop stationLength mem
+
+pub record Condition2 : Type 0 where
+  -- Over any calls from a fresh station, each lent what the one before left and none a new start, a shaper's credit equals that of its record: one event per
+  -- tick, one send per charge; and every send was permitted at its place. Here over any exported calls on one piece of memory, wrong lengths and refused
+  -- arguments among them, from a start that was carried out.
+  pub credits : (settings mem : List ℕ) → Bytes settings → startAnswer settings (take stationLength mem) ≡ 0 → (calls : List Lending) (w : Which)
+      → Recorded (settingsAt settings 0) w (creditOf (stationIn (memoryThrough (startedIn settings mem) calls) .flow .credits) w)
+      (recordOf w (freshOf (settingsAt settings 0)) (callsOn (startedIn settings mem) calls))
+  pub ticks : (st : Station) → StationOk st → (a b c : ℕ) → Holds (flagsOk a b c) → Ticks st a b c
+  pub entry : Enters
+  pub selection : (s : Settings) (f : Flow) → Selects s f
+  pub counting : (f : Fair) (hops size : ℕ) → Counts f hops size
+  pub rates : (f : Fair) (s : Settings) (held : ℕ) → Ages f s held
+  pub telling : (f : Fair) (s : Settings) → Tells f s
+  pub hearing : (f : Fair) (a : Advert) → Hears f a
+  pub sending : (stations own target links ring : ℕ) → Sends stations own target links ring
+  pub choice : (stations own target links ring : ℕ) → Placed stations own target links → ring ≤ 1 → Chooses stations own target links ring
+  -- The answer holds the hops moved, equal to the path's length.
+  pub path : (stations own target links home : ℕ) (delivered : Bool) (hops : ℕ) → pathOf stations own target links home ≡ wrap.Outcome.Moved delivered hops
+      → hops ≡ length (wholeOf stations own target links home .links)
+  -- Reading a written frame, with the same settings but an address it doesn't bear, gives back its ringlet bit, ttl, address and rate.
+  pub frames : (s : Settings) (f : Fair) → SettingsOk s → FairOk s f → s .address .low < 4294967296 → f .low < 4294967296 → ReadBack s f

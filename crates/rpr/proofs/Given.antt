@@ -1,0 +1,111 @@
+-- What a call on a station gives, by what led there: a slice of another length is 2, and else what the station said is handed back.
+-- Assumes nothing.
+use Prim.Native.Nat.{ℕ, zero, suc}
+use mathlib.Core.Bool.{true, false}
+use mathlib.Core.List.{List, _∷_}
+use mathlib.Core.Path.{_≡_, refl, _∙_}
+use lib.ListN.{length}
+use Rattle.decide.specs.Test.{test}
+use Rattle.decide.specs.Refusal.{Fault, firstOf}
+use Rattle.decide.proofs.Refusal.{in-order}
+use Rattle.settings.specs.declared.Settings.{Settings}
+use Rattle.settings.specs.Range.{settingsOk}
+use Rattle.advert.specs.declared.Advert.{Advert}
+use Rattle.advert.specs.Frame.{advertBytes}
+use Rattle.flow.specs.declared.Client as flow
+use Rattle.station.specs.declared.Station.{Station}
+use Rattle.station.specs.declared.Done.{Done}
+use Rattle.station.specs.declared.Client.{Client}
+use Rattle.station.specs.declared.Selected.{Selected}
+use Rattle.station.specs.declared.Told.{Told}
+use Rattle.station.specs.declared.Shown.{Shown}
+use Rattle.station.specs.Answers.{withFlow, doneBy, chosenOf, chosenBy}
+use Rattle.station.specs.Calls.{startFaults, freshOf}
+use Rattle.station.specs.Offers.{takenBy}
+use Rattle.station.specs.Hear.{toldBy}
+use Rattle.station.specs.Show.{readingOf, shownBy}
+use Rattle.layout.specs.Layout.{stationLength, stationBytes}
+use Rattle.layout.specs.Reading.{readingBytes}
+use Rattle.rpr.specs.Shape.{fromByte, numberOr, answerOf, oldOr, afterOf, otherLength}
+use Rattle.rpr.specs.Station.{settingsLength, selectedAnswer}
+use Rattle.rpr.proofs.Shape.{wrong-length, right-length, refused}
+
+-- the answer, and the lent bytes afterwards
+abbrev pub Gives : List Fault → ℕ → List ℕ → List ℕ → ℕ → List ℕ → Type 0
+Gives rows said old new r after = (r ≡ answerOf rows said) × (after ≡ afterOf rows old new)
+
+-- what is handed back by a number: that number alone and the old bytes, or what was said and the new bytes
+abbrev pub HandedBack : ℕ → ℕ → List ℕ → List ℕ → ℕ → List ℕ → Type 0
+HandedBack n said old new r after = (r ≡ numberOr n said) × (after ≡ oldOr n old new)
+
+-- ---- a slice of another length
+
+module _ (n : ℕ) (xs : List ℕ) (faults : List Fault) (said : ℕ) (old new : List ℕ) where
+  -- 2 before all else
+  pub not-whole : (length xs ≡ n → ⊥) → Gives (otherLength n xs ∷ faults) said old new 2 old
+  not-whole h = refused (otherLength n xs ∷ faults) said old new 1 (wrong-length n xs faults h)
+
+  -- also behind a slice of the right length
+  pub then-not-whole : (m : ℕ) (ys : List ℕ) → length ys ≡ m → (length xs ≡ n → ⊥) → Gives (otherLength m ys ∷ otherLength n xs ∷ faults) said old new 2 old
+  then-not-whole m ys e h =
+      refused (otherLength m ys ∷ otherLength n xs ∷ faults) said old new 1 (right-length m ys (otherLength n xs ∷ faults) e ∙ wrong-length n xs faults h)
+
+-- ---- slices of the right length: what the rows behind them say
+
+module _ (n : ℕ) (xs : List ℕ) (faults : List Fault) (e : length xs ≡ n) (said : ℕ) (old new : List ℕ) {r : ℕ} {after : List ℕ} where
+  pub whole-gives : HandedBack (firstOf faults) said old new r after → Gives (otherLength n xs ∷ faults) said old new r after
+  unfolding answerOf afterOf
+  whole-gives b = rw (right-length n xs faults e) b
+
+  pub then-whole-gives : (m : ℕ) (ys : List ℕ) → length ys ≡ m → HandedBack (firstOf faults) said old new r after → Gives (otherLength m ys ∷ otherLength n xs ∷ faults) said old new r after
+  unfolding answerOf afterOf
+  then-whole-gives m ys f b = rw (right-length m ys (otherLength n xs ∷ faults) f, right-length n xs faults e) b
+
+-- ---- what the station answered, by the number of its rows
+
+module _ (old : List ℕ) {r : ℕ} {after : List ℕ} where
+  pub done-back : (n : ℕ) (st next : Station) (d : Done) → d ≡ doneBy n st next
+      → HandedBack (d .number) 0 old (stationBytes (d .station)) r after → HandedBack n 0 old (stationBytes next) r after
+  unfolding numberOr oldOr doneBy
+  done-back zero st next d h b = rw h at b
+  done-back (suc n) st next d h b = rw h at b
+
+  pub taken-back : (n : ℕ) (st : Station) (c : flow.Client) (d : Client) → d ≡ takenBy n st c
+      → HandedBack (d .number) (fromByte 4 (d .mark)) old (stationBytes (d .station)) r after
+      → HandedBack n (fromByte 4 (c .mark)) old (stationBytes (withFlow st (c .flow))) r after
+  unfolding numberOr oldOr takenBy
+  taken-back zero st c d h b = rw h at b
+  taken-back (suc n) st c d h b = rw h at b
+
+  pub chosen-back : (n : ℕ) (st : Station) (d : Selected) → d ≡ chosenBy n st
+      → HandedBack (d .number) (selectedAnswer (d .origin) (d .frame)) old (stationBytes (d .station)) r after
+      → HandedBack n (selectedAnswer (chosenOf st .origin) (chosenOf st .frame)) old (stationBytes (chosenOf st .station)) r after
+  unfolding numberOr oldOr chosenBy
+  chosen-back zero st d h b = rw h at b
+  chosen-back (suc n) st d h b = rw h at b
+
+  pub told-back : (n : ℕ) (a : Advert) (d : Told) → d ≡ toldBy n a
+      → HandedBack (d .number) 0 old (advertBytes (d .advert)) r after → HandedBack n 0 old (advertBytes a) r after
+  unfolding numberOr oldOr toldBy
+  told-back zero a d h b = rw h at b
+  told-back (suc n) a d h b = rw h at b
+
+  pub shown-back : (n : ℕ) (st : Station) (d : Shown) → d ≡ shownBy n st
+      → HandedBack (d .number) 0 old (readingBytes (d .reading)) r after → HandedBack n 0 old (readingBytes (readingOf st)) r after
+  unfolding numberOr oldOr shownBy
+  shown-back zero st d h b = rw h at b
+  shown-back (suc n) st d h b = rw h at b
+
+-- ---- start
+
+module _ (settings xs : List ℕ) (e : length settings ≡ settingsLength) (f : length xs ≡ stationLength) (s : Settings) where
+  -- 1 where a setting is outside its range; else the station is fresh
+  pub start-refused : test (settingsOk s) ≡ false
+      → Gives (otherLength settingsLength settings ∷ otherLength stationLength xs ∷ startFaults s) 0 xs (stationBytes (freshOf s)) 1 xs
+  unfolding numberOr oldOr
+  start-refused o = then-whole-gives _ xs _ f _ _ _ _ settings e (rw (in-order (startFaults s) refl, o) (refl, refl))
+
+  pub start-done : test (settingsOk s) ≡ true
+      → Gives (otherLength settingsLength settings ∷ otherLength stationLength xs ∷ startFaults s) 0 xs (stationBytes (freshOf s)) 0 (stationBytes (freshOf s))
+  unfolding numberOr oldOr
+  start-done o = then-whole-gives _ xs _ f _ _ _ _ settings e (rw (in-order (startFaults s) refl, o) (refl, refl))

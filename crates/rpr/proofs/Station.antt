@@ -1,0 +1,183 @@
+-- What a host may rely on of the calls on a station: which number is answered and when, that a refusal leaves all, and what the answer's bytes say where the
+-- call was carried out. Assumes nothing.
+use Prim.Native.Nat.{ℕ, zero, suc, _%_, _<_, _≤_}
+use mathlib.Core.Bool.{true, true≢false}
+use mathlib.Core.List.{List, [], _∷_, _++_}
+use mathlib.Core.Logic.{inl, inr}
+use mathlib.Core.Path.{_≡_, refl, sym, ap, _∙_}
+use native.Mathlib.Omega.{arith}
+use borrow.Author.Tests.{not-false}
+use Rattle.decide.specs.Test.{test}
+use Rattle.decide.specs.Refusal.{Fault, firstOf}
+use Rattle.decide.proofs.Refusal.{RefusedExactly, refused-exactly, free-carried}
+use Rattle.wire.specs.Wire.{digits}
+use Rattle.settings.specs.declared.Settings.{Settings}
+use Rattle.queue.specs.declared.Frame.{Frame}
+use Rattle.flow.specs.declared.Flow.{Flow}
+use Rattle.flow.specs.declared.Line.{Line}
+use Rattle.flow.specs.declared.Way.{Way}
+use Rattle.flow.specs.Offer.{markOf, clientFrame, clientBy}
+use Rattle.flow.proofs.Offer.{mark-most}
+use Rattle.station.specs.Range.{stationOk}
+use Rattle.station.specs.Answers.{chosenOf}
+use Rattle.station.specs.Offers.{wayFor}
+use Rattle.station.proofs.Range.{in-range-facts}
+use Rattle.layout.specs.Layout.{stationAt}
+use Rattle.rpr.specs.Shape.{fromByte, numberOr, answerOf, afterOf}
+use Rattle.rpr.specs.Station.{startRows, startAnswer, startAfter, tickRows, tickAnswer, tickAfter, ageRows, ageAnswer, ageAfter}
+use Rattle.rpr.specs.Station.{offerClientRows, offerClientAnswer, offerClientAfter, offerRows, offerAnswer, offerAfter}
+use Rattle.rpr.specs.Station.{Small, selectedAnswer, selectRows, selectAnswer, selectAfter, readFrameRows, readFrameAnswer, readFrameAfter}
+use Rattle.rpr.specs.Station.{writeFrameRows, writeFrameAnswer, writeFrameAfter, showRows, showAnswer, showAfter}
+use Rattle.rpr.proofs.Shape.{numbered, first-most, free, Bears, refused-leaves, digits-laid}
+use Rattle.rpr.proofs.Chosen.{chosen-small}
+
+-- byte 0 of the answer is the number of the row that counts, alone where it is not 0; and then the lent bytes are as they were
+abbrev pub Leaves : List Fault → ℕ → List ℕ → List ℕ → Type 0
+Leaves rows answer old after = Bears (firstOf rows) answer × (0 < firstOf rows → after ≡ old)
+
+leaves : (rows : List Fault) (said : ℕ) (old new : List ℕ) → numbered rows ≡ true → said % 256 ≡ 0 → Leaves rows (answerOf rows said) old (afterOf rows old new)
+leaves rows said old new h b = refused-leaves rows said old new (first-most rows h) b
+
+-- ---- rpr_start
+
+module _ (settings xs : List ℕ) where
+  pub start-leaves : Leaves (startRows settings xs) (startAnswer settings xs) xs (startAfter settings xs)
+  unfolding startAnswer startAfter
+  start-leaves = leaves (startRows settings xs) 0 xs _ refl refl
+
+  -- a number is given exactly when its row applies and none before it does
+  pub start-refused-exactly : RefusedExactly (startAnswer settings xs % 256) (startRows settings xs)
+  start-refused-exactly = refused-exactly (startRows settings xs) refl _ (start-leaves .0 .byte-0)
+
+module _ (xs : List ℕ) where
+  -- ---- rpr_tick
+
+  module _ (a b c : ℕ) where
+    pub tick-leaves : Leaves (tickRows xs a b c) (tickAnswer xs a b c) xs (tickAfter xs a b c)
+    unfolding tickAnswer tickAfter
+    tick-leaves = leaves (tickRows xs a b c) 0 xs _ refl refl
+
+    pub tick-refused-exactly : RefusedExactly (tickAnswer xs a b c % 256) (tickRows xs a b c)
+    tick-refused-exactly = refused-exactly (tickRows xs a b c) refl _ (tick-leaves .0 .byte-0)
+
+  -- ---- rpr_offer_client
+
+  module _ (class size hops : ℕ) where
+    pub offer-client-leaves : Leaves (offerClientRows xs class size hops) (offerClientAnswer xs class size hops) xs (offerClientAfter xs class size hops)
+    unfolding offerClientAnswer offerClientAfter
+    offer-client-leaves = leaves (offerClientRows xs class size hops) _ xs _ refl (omega arith)
+
+    pub offer-client-refused-exactly : RefusedExactly (offerClientAnswer xs class size hops % 256) (offerClientRows xs class size hops)
+    offer-client-refused-exactly = refused-exactly (offerClientRows xs class size hops) refl _ (offer-client-leaves .0 .byte-0)
+
+  -- ---- rpr_offer_transit, rpr_offer_control
+
+  module _ (l : Line) (x : Frame) where
+    pub offer-leaves : Leaves (offerRows xs l x) (offerAnswer xs l x) xs (offerAfter xs l x)
+    offer-leaves = leaves (offerRows xs l x) 0 xs _ refl refl
+
+    pub offer-refused-exactly : RefusedExactly (offerAnswer xs l x % 256) (offerRows xs l x)
+    offer-refused-exactly = refused-exactly (offerRows xs l x) refl _ (offer-leaves .0 .byte-0)
+
+  -- ---- rpr_select
+
+  pub select-leaves : Leaves (selectRows xs) (selectAnswer xs) xs (selectAfter xs)
+  unfolding selectAnswer selectAfter
+  select-leaves = leaves (selectRows xs) _ xs _ refl (omega arith)
+
+  pub select-refused-exactly : RefusedExactly (selectAnswer xs % 256) (selectRows xs)
+  select-refused-exactly = refused-exactly (selectRows xs) refl _ (select-leaves .0 .byte-0)
+
+  -- ---- rpr_age
+
+  pub age-leaves : Leaves (ageRows xs) (ageAnswer xs) xs (ageAfter xs)
+  unfolding ageAnswer ageAfter
+  age-leaves = leaves (ageRows xs) 0 xs _ refl refl
+
+  pub age-refused-exactly : RefusedExactly (ageAnswer xs % 256) (ageRows xs)
+  age-refused-exactly = refused-exactly (ageRows xs) refl _ (age-leaves .0 .byte-0)
+
+  -- ---- rpr_read_frame
+
+  module _ (frame : List ℕ) where
+    pub read-frame-leaves : Leaves (readFrameRows xs frame) (readFrameAnswer xs frame) xs (readFrameAfter xs frame)
+    unfolding readFrameAnswer readFrameAfter
+    read-frame-leaves = leaves (readFrameRows xs frame) 0 xs _ refl refl
+
+    pub read-frame-refused-exactly : RefusedExactly (readFrameAnswer xs frame % 256) (readFrameRows xs frame)
+    read-frame-refused-exactly = refused-exactly (readFrameRows xs frame) refl _ (read-frame-leaves .0 .byte-0)
+
+  module _ (room : List ℕ) where
+    -- ---- rpr_write_frame
+
+    pub write-frame-leaves : Leaves (writeFrameRows xs room) (writeFrameAnswer xs room) room (writeFrameAfter xs room)
+    unfolding writeFrameAnswer writeFrameAfter
+    write-frame-leaves = leaves (writeFrameRows xs room) 0 room _ refl refl
+
+    pub write-frame-refused-exactly : RefusedExactly (writeFrameAnswer xs room % 256) (writeFrameRows xs room)
+    write-frame-refused-exactly = refused-exactly (writeFrameRows xs room) refl _ (write-frame-leaves .0 .byte-0)
+
+    -- ---- rpr_show
+
+    pub show-leaves : Leaves (showRows xs room) (showAnswer xs room) room (showAfter xs room)
+    unfolding showAnswer showAfter
+    show-leaves = leaves (showRows xs room) 0 room _ refl refl
+
+    pub show-refused-exactly : RefusedExactly (showAnswer xs room % 256) (showRows xs room)
+    show-refused-exactly = refused-exactly (showRows xs room) refl _ (show-leaves .0 .byte-0)
+
+-- ---- what the bytes of an answer say, where the call was carried out
+
+-- byte 0 of the answer is 0
+abbrev pub Carried : ℕ → Type 0
+Carried answer = answer % 256 ≡ 0
+
+-- then no row counts, and the answer is what the call said
+carried-said : (rows : List Fault) (answer said : ℕ) → Bears (firstOf rows) answer → answer ≡ answerOf rows said → Carried answer → (firstOf rows ≡ 0) × (answer ≡ said)
+unfolding numberOr answerOf
+carried-said rows answer said b e z =
+    let none : firstOf rows ≡ 0 = sym (b .byte-0) ∙ z in
+    (none, e ∙ ap (λ n. numberOr n said) none)
+
+-- rows without their first, which does not apply
+without : (f : Fault) (fs : List Fault) → numbered (f ∷ fs) ≡ true → firstOf (f ∷ fs) ≡ 0 → firstOf fs ≡ 0
+without f fs h e = free-carried fs (λ g m a. true≢false (sym a ∙ free (f ∷ fs) h e g (inr m)))
+
+selected-digits : (origin : ℕ) (x : Frame) → Small origin x
+    → digits 8 (selectedAnswer origin x) ≡ (0 ∷ origin ∷ x .class ∷ x .hops ∷ x .mark ∷ 0 ∷ []) ++ digits 2 (x .size)
+selected-digits origin x h =
+    ap (λ (n : ℕ). digits 8 n) (omega arith)
+    ∙ digits-laid (0 ∷ origin ∷ x .class ∷ x .hops ∷ x .mark ∷ 0 ∷ []) 2 (x .size) (omega arith)
+
+-- a frame that was taken lies in the stage with the mark of the way that it went
+taken-mark : (n : ℕ) (s : Settings) (f : Flow) (w : Way) (x : Frame) → n ≡ 0 → clientBy n s f w x .mark ≡ x .mark
+unfolding clientBy
+taken-mark zero s f w x e = refl
+taken-mark (suc n) s f w x e = absurd (omega arith)
+
+marked-digits : (m : ℕ) → m ≤ 1 → digits 8 (fromByte 4 m) ≡ 0 ∷ 0 ∷ 0 ∷ 0 ∷ m ∷ 0 ∷ 0 ∷ 0 ∷ []
+unfolding digits
+marked-digits m h = ap (λ (n : ℕ). digits 8 n) (omega arith) ∙ digits-laid (0 ∷ 0 ∷ 0 ∷ 0 ∷ m ∷ []) 3 0 (omega arith)
+
+module _ (xs : List ℕ) where
+  -- rpr_select: byte 1 is where the frame comes from, 2 its class, 3 its hops, 4 its mark, 5 is 0, 6 and 7 are its size
+  pub select-bytes : Carried (selectAnswer xs)
+      → let r = chosenOf (stationAt xs) in
+      digits 8 (selectAnswer xs) ≡ (0 ∷ r .origin ∷ r .frame .class ∷ r .frame .hops ∷ r .frame .mark ∷ 0 ∷ []) ++ digits 2 (r .frame .size)
+  unfolding selectAnswer
+  select-bytes z =
+      let c = carried-said (selectRows xs) (selectAnswer xs) _ (select-leaves xs .0) refl z in
+      let ok = not-false (test (stationOk (stationAt xs))) (free (selectRows xs) refl (c .0) _ (inr (inl refl))) in
+      ap (λ (n : ℕ). digits 8 n) (c .1) ∙ selected-digits _ _ (chosen-small (in-range-facts (stationAt xs) ok))
+
+  -- rpr_offer_client: byte 4 is the mark, which excess B and C get
+  pub offer-client-bytes : (class size hops : ℕ) → Carried (offerClientAnswer xs class size hops)
+      → digits 8 (offerClientAnswer xs class size hops) ≡ 0 ∷ 0 ∷ 0 ∷ 0 ∷ markOf (wayFor (stationAt xs) class) ∷ 0 ∷ 0 ∷ 0 ∷ []
+  unfolding offerClientAnswer
+  offer-client-bytes class size hops z =
+      let st = stationAt xs in
+      let w = wayFor st class in
+      let c = carried-said (offerClientRows xs class size hops) (offerClientAnswer xs class size hops) _ (offer-client-leaves xs class size hops .0) refl z in
+      let own = without _ _ refl (without _ _ refl (without _ _ refl (c .0))) in
+      ap (λ (n : ℕ). digits 8 n) (c .1 ∙ ap (λ (m : ℕ). fromByte 4 m) (taken-mark _ (st .settings) (st .flow) w (clientFrame w class size hops) own))
+      ∙ marked-digits (markOf w) (mark-most w)

@@ -1,0 +1,198 @@
+-- What a call writes of a lent station is all that it changes of it: the bytes afterwards are those of the station that it leaves.
+-- Assumes nothing.
+use Prim.Native.Nat.{ℕ, zero, suc, _≤_}
+use mathlib.Core.Bool.{Bool}
+use mathlib.Core.List.{List}
+use mathlib.Core.Logic.{inl, inr}
+use mathlib.Core.Path.{_≡_, refl, sym, ap, _∙_}
+use native.Mathlib.Omega.{arith}
+use borrow.Author.Tests.{eq-eqb, ne-eqb, ltb-false}
+use lib.ListN.{length, length-set}
+use Rattle.decide.specs.Refusal.{Fault, firstOf}
+use Rattle.wire.specs.Wire.{digits, put, Bytes}
+use Rattle.queue.specs.declared.Frame.{Frame}
+use Rattle.queue.specs.declared.Queue.{Queue}
+use Rattle.queue.specs.Queue.{pushed, taken, spaceOf}
+use Rattle.flow.specs.declared.Client as flow
+use Rattle.flow.specs.declared.Selected as selection
+use Rattle.flow.specs.declared.Credits.{Credits}
+use Rattle.flow.specs.declared.Flow.{Flow}
+use Rattle.flow.specs.declared.Line.{Line}
+use Rattle.flow.specs.declared.Line.the-variants.{Control, Primary, Secondary}
+use Rattle.flow.specs.declared.Way.{Way}
+use Rattle.flow.specs.Parts.{queueOf, capacityOf, withCredits, withStage, withQueue}
+use Rattle.flow.specs.Tick.{tickOf}
+use Rattle.flow.specs.Offer.{enterOf, queueFor, clientBy}
+use Rattle.flow.proofs.Offer.{enter-taken}
+use Rattle.flow.proofs.Select.{Goes, control, primary, pressed, staged, secondary, nothing, goes}
+use Rattle.fair.specs.declared.Fair.{Fair}
+use Rattle.station.specs.declared.Station.{Station}
+use Rattle.station.specs.declared.Done.{Done}
+use Rattle.station.specs.declared.Client.{Client}
+use Rattle.station.specs.declared.Selected.{Selected}
+use Rattle.station.specs.Answers.{withFlow, withFair, doneBy, chosenOf, chosenBy}
+use Rattle.station.specs.Calls.{tickedOf}
+use Rattle.station.specs.Offers.{offerFaults, takenBy}
+use Rattle.slots.specs.Slots.{wordsBytes, queueBytes, queueAt}
+use Rattle.layout.specs.Layout.{stationLength, creditsWords, fairWords, stationAt, stationBytes, placeOf, pushedAt, takenAt, takenFrom}
+use Rattle.layout.proofs.Round.{Slotted, fits-slotted, station-fits, bytes-of-state}
+use Rattle.layout.proofs.Anew.{credits-put, queue-put, stage-put, fair-put, queue-slotted}
+use Rattle.rpr.specs.Shape.{fromByte, numberOr, answerOf, oldOr}
+use Rattle.rpr.specs.Station.{selectedAnswer}
+use Rattle.rpr.proofs.Shape.{carried}
+use Rattle.rpr.proofs.Given.{HandedBack}
+
+-- ---- a call that is carried out: its rows give 0, and the station that it answers is the one that it leaves
+
+never : (n : ℕ) → suc n ≡ 0 → ⊥
+never n e = omega arith
+
+module _ (old : List ℕ) where
+  pub done-left : (n : ℕ) (st next : Station) (d : Done) → d ≡ doneBy n st next → d .number ≡ 0
+      → (left : Station → List ℕ) → (n ≡ 0 → left next ≡ stationBytes next) → HandedBack n 0 old (stationBytes next) 0 (left (d .station))
+  unfolding numberOr oldOr doneBy
+  done-left zero st next d h z left e = rw h (refl, e refl)
+  done-left (suc n) st next d h z left e = absurd (never n (rw h at z))
+
+  pub taken-left : (n : ℕ) (st : Station) (c : flow.Client) (d : Client) → d ≡ takenBy n st c → d .number ≡ 0
+      → (left : Flow → List ℕ) → left (c .flow) ≡ stationBytes (withFlow st (c .flow))
+      → HandedBack n (fromByte 4 (c .mark)) old (stationBytes (withFlow st (c .flow))) (fromByte 4 (d .mark)) (left (d .station .flow))
+  unfolding numberOr oldOr takenBy
+  taken-left zero st c d h z left e = rw h (refl, e)
+  taken-left (suc n) st c d h z left e = absurd (never n (rw h at z))
+
+  pub chosen-left : (n : ℕ) (st : Station) (d : Selected) → d ≡ chosenBy n st → d .number ≡ 0
+      → (left : Selected → List ℕ) → left (chosenOf st) ≡ stationBytes (chosenOf st .station)
+      → HandedBack n (selectedAnswer (chosenOf st .origin) (chosenOf st .frame)) old (stationBytes (chosenOf st .station)) (selectedAnswer (d .origin) (d .frame)) (left d)
+  unfolding numberOr oldOr chosenBy
+  chosen-left zero st d h z left e = rw h (refl, e)
+  chosen-left (suc n) st d h z left e = absurd (never n (rw h at z))
+
+-- ---- bytes, some part of a station in them written anew
+
+-- the credits, the stage's word, the fairness state
+abbrev pub creditsIn : List ℕ → Flow → List ℕ
+creditsIn xs f = put xs 0 (wordsBytes (creditsWords (f .credits)))
+
+abbrev pub stageIn : List ℕ → Flow → List ℕ
+stageIn xs f = put xs 1574 (digits 4 (f .stage))
+
+abbrev pub fairIn : List ℕ → Fair → List ℕ
+fairIn xs f = put xs 1578 (wordsBytes (fairWords f))
+
+-- what selection writes
+abbrev pub selectedIn : List ℕ → Selected → List ℕ
+selectedIn xs r = fairIn (stageIn (creditsIn (takenFrom (r .origin) xs) (r .station .flow)) (r .station .flow)) (r .station .fair)
+
+-- in the bytes of a station: the credits and the stage's word, and the fairness state too
+module _ (ys : List ℕ) (st : Station) (s : Slotted st) (y : ys ≡ stationBytes st) (c : Credits) (w : ℕ) where
+  abbrev two : List ℕ
+  two = put (put ys 0 (wordsBytes (creditsWords c))) 1574 (digits 4 w)
+
+  two-written : two ≡ stationBytes (withFlow st (withStage (withCredits (st .flow) c) w))
+  two-written =
+      ap (λ (l : List ℕ). put (put l 0 (wordsBytes (creditsWords c))) 1574 (digits 4 w)) y
+      ∙ ap (λ (l : List ℕ). put l 1574 (digits 4 w)) (credits-put st s c)
+      ∙ stage-put (withFlow st (withCredits (st .flow) c)) s w
+
+  three-written : (f : Fair) → fairIn two f ≡ stationBytes (record { settings = st .settings; flow = withStage (withCredits (st .flow) c) w; fair = f })
+  three-written f =
+      ap (λ (l : List ℕ). fairIn l f) two-written ∙ fair-put (withFlow st (withStage (withCredits (st .flow) c) w)) s f
+
+-- ---- the calls
+
+-- a queue that was offered a frame has taken it where no row applies
+entered : (st : Station) (l : Line) (x : Frame) → firstOf (offerFaults st l x) ≡ 0
+    → enterOf (st .settings) (st .flow) l x .flow ≡ withQueue (st .flow) l (pushed (queueOf (st .flow) l) x)
+unfolding numberOr answerOf
+entered st l x z =
+    let free = carried (offerFaults st l x) refl (rw z) _ (inr (inr (inl refl))) in
+    let fits : x .size ≤ spaceOf (queueOf (st .flow) l) (capacityOf (st .settings) l) = ltb-false _ _ free in
+    rw (enter-taken (st .settings) (st .flow) l x fits)
+
+-- Transit A goes to the primary queue, B and C to the secondary.
+pub to-primary : (class : ℕ) → class ≡ 0 → Primary ≡ queueFor class
+unfolding queueFor
+to-primary class e = rw (eq-eqb class 0 e)
+
+pub to-secondary : (class : ℕ) → (class ≡ 0 → ⊥) → Secondary ≡ queueFor class
+unfolding queueFor
+to-secondary class h = rw (ne-eqb class 0 h)
+
+module _ (xs : List ℕ) (b : Bytes xs) (e : length xs ≡ stationLength) where
+  -- bytes of a station's length are those of the station that they hold
+  whole : xs ≡ stationBytes (stationAt xs)
+  whole = sym (bytes-of-state xs b e)
+
+  slotted : Slotted (stationAt xs)
+  slotted = fits-slotted (station-fits xs b)
+
+  -- an interval, and a frame that is heard, change the fairness state
+  pub fair-written : (f : Fair) → fairIn xs f ≡ stationBytes (withFair (stationAt xs) f)
+  fair-written f = ap (λ (l : List ℕ). fairIn l f) whole ∙ fair-put (stationAt xs) slotted f
+
+  -- a tick changes the credits
+  pub tick-written : (x y z : Bool) → creditsIn xs (tickedOf (stationAt xs) x y z .flow) ≡ stationBytes (tickedOf (stationAt xs) x y z)
+  unfolding tickOf
+  tick-written x y z =
+      ap (λ (l : List ℕ). put l 0 (wordsBytes (creditsWords (tickedOf (stationAt xs) x y z .flow .credits)))) whole
+      ∙ credits-put (stationAt xs) slotted (tickedOf (stationAt xs) x y z .flow .credits)
+
+  -- a client's frame changes the credits and the stage
+  pub client-written : (n : ℕ) (w : Way) (x : Frame) →
+      let f : Flow = clientBy n (stationAt xs .settings) (stationAt xs .flow) w x .flow in
+      stageIn (creditsIn xs f) f ≡ stationBytes (withFlow (stationAt xs) f)
+  unfolding clientBy
+  client-written zero w x = two-written xs (stationAt xs) slotted whole _ _
+  client-written (suc n) w x = two-written xs (stationAt xs) slotted whole _ _
+
+  -- a queue stands at its place, and has 128 slots
+  queue-here : (l : Line) → queueAt xs (placeOf l) ≡ queueOf (stationAt xs .flow) l
+  unfolding stationAt
+  queue-here Control = refl
+  queue-here Primary = refl
+  queue-here Secondary = refl
+
+  many : (l : Line) → length (queueOf (stationAt xs .flow) l .slots) ≡ 128
+  many Control = slotted .0
+  many Primary = slotted .1
+  many Secondary = slotted .2
+
+  queue-written : (l : Line) (q : Queue) → length (q .slots) ≡ 128 → put xs (placeOf l) (queueBytes q) ≡ stationBytes (withFlow (stationAt xs) (withQueue (stationAt xs .flow) l q))
+  queue-written l q n = ap (λ (r : List ℕ). put r (placeOf l) (queueBytes q)) whole ∙ queue-put (stationAt xs) slotted l q n
+
+  pushed-slots : (l : Line) (x : Frame) → length (pushed (queueOf (stationAt xs .flow) l) x .slots) ≡ 128
+  unfolding pushed
+  pushed-slots l x = simp length-set (many l)
+
+  taken-slots : (l : Line) → length (taken (queueOf (stationAt xs .flow) l) .slots) ≡ 128
+  unfolding taken
+  taken-slots l = simp length-set (many l)
+
+  -- an offer changes a queue
+  pub offer-written : (l : Line) (x : Frame) → firstOf (offerFaults (stationAt xs) l x) ≡ 0
+      → pushedAt xs l x ≡ stationBytes (withFlow (stationAt xs) (enterOf (stationAt xs .settings) (stationAt xs .flow) l x .flow))
+  offer-written l x z =
+      rw (queue-here l, entered (stationAt xs) l x z)
+      (queue-written l (pushed (queueOf (stationAt xs .flow) l) x) (pushed-slots l x))
+
+  from-queue : (l : Line) (c : Credits) (w : ℕ) (f : Fair) →
+      fairIn (put (put (takenAt xs l) 0 (wordsBytes (creditsWords c))) 1574 (digits 4 w)) f
+      ≡ stationBytes (record { settings = stationAt xs .settings; flow = withStage (withCredits (withQueue (stationAt xs .flow) l (taken (queueOf (stationAt xs .flow) l))) c) w; fair = f })
+  from-queue l c w f =
+      three-written (takenAt xs l) (withFlow (stationAt xs) (withQueue (stationAt xs .flow) l (taken (queueOf (stationAt xs .flow) l))))
+      (queue-slotted (stationAt xs) slotted l (taken (queueOf (stationAt xs .flow) l)) (taken-slots l))
+      (rw (queue-here l) (queue-written l (taken (queueOf (stationAt xs .flow) l)) (taken-slots l))) c w f
+
+  -- a selection changes a queue or the stage, the credits, and the fairness state
+  row-written : (r : selection.Selected) → Goes (stationAt xs .settings) (stationAt xs .flow) r → (f : Fair)
+      → fairIn (stageIn (creditsIn (takenFrom (r .origin) xs) (r .flow)) (r .flow)) f ≡ stationBytes (record { settings = stationAt xs .settings; flow = r .flow; fair = f })
+  row-written r (control a) f = from-queue Control _ _ f
+  row-written r (primary a c) f = from-queue Primary _ _ f
+  row-written r (pressed a c d) f = from-queue Secondary _ _ f
+  row-written r (staged a c d g) f = three-written xs (stationAt xs) slotted whole _ _ f
+  row-written r (secondary a c d g h) f = from-queue Secondary _ _ f
+  row-written r (nothing a c d g h) f = three-written xs (stationAt xs) slotted whole _ _ f
+
+  pub select-written : selectedIn xs (chosenOf (stationAt xs)) ≡ stationBytes (chosenOf (stationAt xs) .station)
+  select-written = row-written _ (goes (stationAt xs .settings) (stationAt xs .flow)) _

@@ -1,0 +1,105 @@
+-- A slice of another length is 2; else what the station said is handed back: a refusal alone, or the queue of the class written.
+-- Assumes nothing.
+use mathlib.Core.Path.{ap, _∙_}
+use Rattle.flow.specs.declared.Line.{Line}
+use Rattle.flow.specs.Offer.{queueFor}
+use Rattle.station.specs.declared.Station.{Station}
+use Rattle.station.specs.Offers.{givenFrame}
+use Rattle.layout.specs.Layout.{pushedAt}
+use Rattle.rpr.specs.Station.{offerTransitAnswer, offerTransitAfter}
+use Rattle.rpr.proofs.Shape.{turned-down}
+use Rattle.rpr.proofs.Given.{not-whole, whole-gives, done-back}
+use Rattle.rpr.proofs.Written.{done-left, to-primary, to-secondary, offer-written}
+use borrow.Author.Needs.{needs}
+use Rattle.rpr.proofs.lending.rpr_offer_transit.Statement.{statement}
+use Rattle.rpr.proofs.lending.rpr_offer_transit.Tie as tie
+
+returns : tie.Need-returns
+unfolding offerTransitAnswer offerTransitAfter
+returns c = let xs = c .before .before .args .station .now in not-whole _ xs _ _ _ _ (c .if1 .taken)
+
+read-requires : tie.Need-read-requires
+read-requires c κs = search needs
+
+offer-transit-requires : tie.Need-offer-transit-requires
+offer-transit-requires c κs = search needs
+
+cast-result : tie.Need-cast-result
+cast-result c = search needs
+
+same-length : tie.Need-same-length
+same-length c = search needs
+
+returns-2 : tie.Need-returns-2
+unfolding offerTransitAnswer offerTransitAfter
+returns-2 c =
+    let called : _ = c .before .before .before in
+    let tested : _ = called .before .before .before in
+    let said = rw (called .before .read .ensures) at (called .offer-transit .ensures) in
+    whole-gives _ (tested .before .before .args .station .now) _ (tested .if1 .left) _ _ _
+    (done-back _ _ _ _ _ said (turned-down _ _ _ _ (c .before .if2 .taken)))
+
+push-frame-requires : tie.Need-push-frame-requires
+push-frame-requires c κs = search needs
+
+same-length-2 : tie.Need-same-length-2
+same-length-2 c = search needs
+
+returns-3 : tie.Need-returns-3
+unfolding offerTransitAnswer offerTransitAfter
+returns-3 c =
+    let pushed : _ = c .before .before in
+    let chosen : _ = pushed .before .before in
+    let left : _ = chosen .before in
+    let called : _ = left .before .before in
+    let tested : _ = called .before .before .before in
+    let a : _ = tested .before .before .args in
+    let xs : _ = a .station .now in
+    let x : _ = givenFrame (a .class) (a .size) (a .hops) (a .eligible) in
+    let said = rw (called .before .read .ensures) at (called .offer-transit .ensures) in
+    let b =
+    done-left xs _ _ _ _ said (left .if2 .left) (λ (st : Station). pushedAt xs (queueFor (a .class)) x)
+    (offer-written xs (λ j. tested .before .slice-known .given j .fits) (tested .if1 .left) (queueFor (a .class)) x) in
+    let there = pushed .push-frame .ensures ∙ ap (λ (l : Line). pushedAt xs l x) (to-primary (a .class) (chosen .if3 .taken)) in
+    whole-gives _ xs _ (tested .if1 .left) _ _ _ (b .0, there ∙ b .1)
+
+push-frame-requires-2 : tie.Need-push-frame-requires-2
+push-frame-requires-2 c κs = search needs
+
+same-length-3 : tie.Need-same-length-3
+same-length-3 c = search needs
+
+returns-4 : tie.Need-returns-4
+unfolding offerTransitAnswer offerTransitAfter
+returns-4 c =
+    let pushed : _ = c .before .before in
+    let chosen : _ = pushed .before .before in
+    let left : _ = chosen .before in
+    let called : _ = left .before .before in
+    let tested : _ = called .before .before .before in
+    let a : _ = tested .before .before .args in
+    let xs : _ = a .station .now in
+    let x : _ = givenFrame (a .class) (a .size) (a .hops) (a .eligible) in
+    let said = rw (called .before .read .ensures) at (called .offer-transit .ensures) in
+    let b =
+    done-left xs _ _ _ _ said (left .if2 .left) (λ (st : Station). pushedAt xs (queueFor (a .class)) x)
+    (offer-written xs (λ j. tested .before .slice-known .given j .fits) (tested .if1 .left) (queueFor (a .class)) x) in
+    let there = pushed .push-frame2 .ensures ∙ ap (λ (l : Line). pushedAt xs l x) (to-secondary (a .class) (chosen .if3 .left)) in
+    whole-gives _ xs _ (tested .if1 .left) _ _ _ (b .0, there ∙ b .1)
+
+pub rpr-offer-transit-spec : {M : Type 1} → statement M
+rpr-offer-transit-spec =
+    tie.close
+    (tie.spec
+    returns
+    read-requires
+    offer-transit-requires
+    cast-result
+    same-length
+    returns-2
+    push-frame-requires
+    same-length-2
+    returns-3
+    push-frame-requires-2
+    same-length-3
+    returns-4)

@@ -1,0 +1,101 @@
+// A queue as 518 bytes, in which a host keeps it: its slots, the bytes held, the head and the count.
+ghost use mathlib.Core.Path.{_≡_};
+ghost use Prim.Native.Nat.{_+_, _≤_, _<_};
+ghost use lib.ListN.{length};
+ghost use Rattle.wire.specs.Wire.{put};
+ghost use Rattle.queue.specs.Queue.{pushed, taken};
+ghost use Rattle.slots.specs.Slots.{wordsBytes, queueBytes, wordsAt, queueAt, slotAnew};
+use queue::Frame;
+use queue::Queue;
+
+// How many bytes a queue takes.
+pub const LENGTH: usize = 518;
+
+// The queue whose bytes stand in `s` from `at` on, in range or not.
+pub fn read(s: &[u8], at: usize) -> Queue
+    requires { ⌜ at + 518 ≤ length (now s) ⌝ }
+    ensures { λ r. ⌜ r ≡ queueAt (now (s .entry)) at ⌝ }
+{
+    let slots = read_words(s, at);
+    Queue {
+        slots: slots,
+        head: s[at + 516],
+        count: s[at + 517],
+        held: wire::get32(s, at + 512),
+    }
+}
+
+// Writes a queue to the 518 bytes of `s` from `at` on.
+pub fn write(q: Queue, s: &mut [u8], at: usize)
+    requires { ⌜ at + 518 ≤ length (now s) ⌝ }
+    ensures { λ _. ⌜ (now (s .exit) ≡ put (now (s .entry)) at (queueBytes q)) × (length (q .slots) ≡ 128) ⌝ }
+{
+    let slots = q.slots;
+    write_words(slots, s, at);
+    wire::put32(s, at + 512, q.held);
+    s[at + 516] = q.head;
+    s[at + 517] = q.count;
+}
+
+// Pushes a frame to the queue whose bytes stand in `s` from `at` on. One slot is written, and what stands behind the slots.
+pub fn push(f: Frame, s: &mut [u8], at: usize)
+    requires { ⌜ at + 518 ≤ length (now s) ⌝ }
+    ensures { λ _. ⌜ now (s .exit) ≡ put (now (s .entry)) at (queueBytes (pushed (queueAt (now (s .entry)) at) f)) ⌝ }
+{
+    let q = read(s, at);
+    let i = (q.head as usize + q.count as usize) % 128;
+    let held = ((q.held as u64 + f.size as u64) % 4294967296) as u32;
+    let count = ((q.count as u32 + 1) % 256) as u8;
+    write_slot(i, f.word(), held, q.head, count, s, at);
+}
+
+// Takes the first frame from the queue whose bytes stand in `s` from `at` on. One slot is written, and what stands behind the slots.
+pub fn take(s: &mut [u8], at: usize)
+    requires { ⌜ at + 518 ≤ length (now s) ⌝ }
+    ensures { λ _. ⌜ now (s .exit) ≡ put (now (s .entry)) at (queueBytes (taken (queueAt (now (s .entry)) at))) ⌝ }
+{
+    let q = read(s, at);
+    let i = q.head as usize % 128;
+    let first = Frame::of(wire::get32(s, at + 4 * i));
+    let held = decide::less(q.held as u64, first.size as u64) as u32;
+    let head = ((q.head as u32 + 1) % 128) as u8;
+    let count = decide::less(q.count as u64, 1) as u8;
+    write_slot(i, queue::EMPTY, held, head, count, s, at);
+}
+
+// Writes one slot of the queue whose bytes stand in `s` from `at` on, and what stands behind the slots.
+fn write_slot(i: usize, word: u32, held: u32, head: u8, count: u8, s: &mut [u8], at: usize)
+    requires { ⌜ (at + 518 ≤ length (now s)) × (i < 128) ⌝ }
+    ensures { λ _. ⌜ now (s .exit) ≡ put (now (s .entry)) at (queueBytes (slotAnew (queueAt (now (s .entry)) at) i word held head count)) ⌝ }
+{
+    wire::put32(s, at + 4 * i, word);
+    wire::put32(s, at + 512, held);
+    s[at + 516] = head;
+    s[at + 517] = count;
+}
+
+// The 128 words that stand in `s` from `at` on.
+fn read_words(s: &[u8], at: usize) -> [u32; 128]
+    requires { ⌜ at + 512 ≤ length (now s) ⌝ }
+    ensures { λ r. ⌜ r ≡ wordsAt 128 (now (s .entry)) at ⌝ }
+{
+    let mut words: [u32; 128] = [0; 128];
+    let mut i: usize = 0;
+    while i < 128 {
+        words[i] = wire::get32(s, at + 4 * i);
+        i += 1;
+    }
+    words
+}
+
+// Writes 128 words to `s` from `at` on.
+fn write_words(words: [u32; 128], s: &mut [u8], at: usize)
+    requires { ⌜ at + 512 ≤ length (now s) ⌝ }
+    ensures { λ _. ⌜ (now (s .exit) ≡ put (now (s .entry)) at (wordsBytes words)) × (length words ≡ 128) ⌝ }
+{
+    let mut i: usize = 0;
+    while i < 128 {
+        wire::put32(s, at + 4 * i, words[i]);
+        i += 1;
+    }
+}

@@ -1,0 +1,92 @@
+-- A few stations, their numbers worked out by hand from document 01 and here computed. Assumes nothing.
+use Prim.Native.Nat.{ℕ}
+use mathlib.Core.List.{List, [], _∷_, _++_}
+use mathlib.Core.Path.{_≡_, refl}
+use Rattle.decide.specs.Refusal.{first, firstOf}
+use Rattle.decide.specs.Test.{test}
+use Rattle.wire.specs.Wire.{be}
+use Rattle.rates.specs.Rates.{partOf, smoothedOf, shownOf, agedOf, rampedOf, allowanceOf, ownRateOf, countedOf, shareOf}
+use Rattle.queue.specs.Queue.{emptyQueue, framesFrom, sizes, spaceOf}
+use Rattle.queue.specs.Queue as queue
+use Rattle.queue.specs.Range.{occupied, slotOk, slotsOk, queueOk}
+use Rattle.settings.specs.declared.Bucket.{Bucket}
+use Rattle.settings.specs.declared.Settings.{Settings}
+use Rattle.settings.specs.Range.{settingsOk}
+use Rattle.shaper.specs.declared.Event.the-variants.{Waiting, Send}
+use Rattle.flow.specs.declared.Which.the-variants.{C, D}
+use Rattle.flow.specs.Range.{flowOk}
+use Rattle.flow.specs.Tick as flow
+use Rattle.flow.specs.Offer.{wayOf, clientBy}
+use Rattle.flow.specs.Select as selection
+use Rattle.fair.specs.Range.{fairOk}
+use Rattle.fair.specs.Count.{raisedOf}
+use Rattle.fair.specs.Age.{adjustOf, allowedOf, allowedcOf}
+use Rattle.fair.specs.Advertise.{heardOf, toldOf}
+use Rattle.station.specs.declared.Station.{Station}
+use Rattle.station.specs.Range.{stationOk}
+use Rattle.station.specs.Answers.{doneBy, chosenBy}
+use Rattle.station.specs.Calls.{freshOf}
+use Rattle.station.specs.Offers.{takenBy}
+use Rattle.station.specs.Hear.{hearOf, toldBy, tellOf}
+use Rattle.station.specs.History.{Call, tick, offerClient, select, age, step, after, recordOf}
+
+-- mtu 64; each shaper loLimit 100, hiLimit 300, amount 50; 10 ticks per interval, unreservedRate 1,999, default coefficients
+abbrev pub settings : Settings
+settings =
+    let b : Bucket = record { lo = 100; hi = 300; amount = 50 } in
+    record {
+      address = record { high = 1; low = 2 };
+      ringlet = 0;
+      mtu = 64;
+      shapers = record { m = b; a = b; b = b; c = b; d = b };
+      queues = record { control = 100; primary = 100; secondary = 128; threshold = 64 };
+      fairness = record { weight = 1; unit = 1; ticks = 10; unreserved = 1999; age = 4; lp = 64; ramp = 64 };
+    }
+
+-- C traffic waits, a client gives a frame of class C of 64 bytes with so many hops to go, and a frame goes
+abbrev pub sent : ℕ → List Call
+sent hops = tick 0 0 1 ∷ offerClient 2 64 hops ∷ select ∷ []
+
+-- an interval ends before that, and C traffic waits again
+abbrev pub busy : List Call
+busy = age ∷ sent 7 ++ (tick 0 0 1 ∷ [])
+
+-- the fairness frame of 00-03-00-00-00-04 on the other ringlet, with this ttl and rate 125, and a fresh station that heard it
+abbrev pub choke : ℕ → List ℕ
+choke ttl = ttl ∷ 160 ∷ 0 ∷ 3 ∷ 0 ∷ 0 ∷ 0 ∷ 4 ∷ 0 ∷ 0 ∷ 0 ∷ 125 ∷ []
+
+abbrev pub choked : ℕ → Station
+choked ttl = hearOf (freshOf settings) (choke ttl) .station
+
+pub record Examples : Type 0 where
+  -- Shares are floor(1,999 / (4 × 10)) = 49, less than C's setting: 100 + 49 − 64 = 85; D has 100 + 50 − 64 = 86. The others wait for nothing: 150 is cut to 100.
+  pub sent-credits : after (freshOf settings) (sent 7) .flow .credits ≡ record { m = 100; a = 100; b = 100; c = 85; d = 86 }
+  pub sent-c : recordOf C (freshOf settings) (sent 7) ≡ Waiting 49 ∷ Send 64 ∷ []
+  pub sent-d : recordOf D (freshOf settings) (sent 7) ≡ Waiting 50 ∷ Send 64 ∷ []
+  -- A tick in which only the stage's frame waits: D has 86 + 50; C's 85 + 49 is cut to loLimit.
+  pub stage-waits : after (freshOf settings) (tick 0 0 1 ∷ offerClient 2 64 7 ∷ tick 0 0 0 ∷ []) .flow .credits ≡ record { m = 100; a = 100; b = 100; c = 100; d = 136 }
+  -- ttl 250: hopsToCongestion is 256 − 250 = 6. A frame with 6 hops counts for addRate alone, one with 7 for the Congested twin too.
+  pub hops-6 : after (choked 250) (sent 6) .fair .counters ≡ record { add = 64; fw = 0; addc = 0; fwc = 0 }
+  pub hops-7 : after (choked 250) (sent 7) .fair .counters ≡ record { add = 64; fw = 0; addc = 64; fwc = 0 }
+  -- After an interval allowedRateCongested is 125 × 1 × 1, and that frame went. One more of 61 bytes makes 64 + 61 = 125, which is not passed; one of 62 does.
+  pub size-61 : step (offerClient 2 61 7) (after (choked 250) busy) .answer .number ≡ 0
+  pub size-62 : step (offerClient 2 62 7) (after (choked 250) busy) .answer .number ≡ 7
+  -- A received frame is passed on with its ttl less 1, but for ttl 193: then FULL_RATE, with own address and ttl 255.
+  pub told-194 : tellOf (choked 194) .advert ≡ record { ringlet = 1; ttl = 193; high = 3; low = 4; rate = 125 }
+  pub told-193 : tellOf (choked 193) .advert ≡ record { ringlet = 1; ttl = 255; high = 1; low = 2; rate = 65535 }
+
+pub examples : Examples
+unfolding test stationOk settingsOk flowOk fairOk queueOk slotsOk slotOk occupied framesFrom sizes firstOf first doneBy takenBy chosenBy toldBy flow.startOf flow.tickOf wayOf clientBy selection.selectOf emptyQueue spaceOf queue.firstOf queue.taken ownRateOf shareOf countedOf raisedOf be heardOf toldOf adjustOf allowedOf allowedcOf partOf smoothedOf shownOf agedOf rampedOf allowanceOf
+examples =
+    record {
+      sent-credits = refl;
+      sent-c = refl;
+      sent-d = refl;
+      stage-waits = refl;
+      hops-6 = refl;
+      hops-7 = refl;
+      size-61 = refl;
+      size-62 = refl;
+      told-194 = refl;
+      told-193 = refl;
+    }

@@ -1,0 +1,107 @@
+-- The low words of addresses stay numbers of 32 bits: a fresh station has received none, a frame has four bytes for them, and no other call touches them.
+-- So the frame that a station tells is read back at any place of a history.
+-- Assumes nothing.
+use Prim.Native.Nat.{ℕ, zero, suc, _<_}
+use mathlib.Core.Bool.{false}
+use mathlib.Core.List.{List, [], _∷_}
+use mathlib.Core.Path.{_≡_, sym, subst}
+use native.Mathlib.Omega.{arith}
+use Rattle.decide.specs.Test.{test, _≡?_}
+use Rattle.decide.proofs.Cases.{of-each}
+use Rattle.wire.specs.Wire.{Bytes}
+use Rattle.advert.specs.Frame.{advertBytes, advertIn}
+use Rattle.advert.proofs.ReadBack.{parsed-fits}
+use Rattle.settings.specs.declared.Settings.{Settings}
+use Rattle.settings.specs.Range.{SettingsOk}
+use Rattle.flow.specs.declared.Client as flow
+use Rattle.fair.specs.declared.Fair.{Fair}
+use Rattle.fair.specs.Advertise.{heardOf, ownAddress}
+use Rattle.fair.proofs.ReadBack.{ReadBack, frame-read-back}
+use Rattle.station.specs.declared.Station.{Station}
+use Rattle.station.specs.Range.{StationOk}
+use Rattle.station.specs.Narrow.{NarrowOwn, Narrow}
+use Rattle.station.specs.Answers.{doneOf, doneBy, chosenBy}
+use Rattle.station.specs.Calls.{freshOf, startOf}
+use Rattle.station.specs.Offers.{takenBy}
+use Rattle.station.specs.Hear.{changedOf, hearOf, tellOf}
+use Rattle.station.specs.History.{Call, tick, offerClient, offerTransit, offerControl, select, age, hear, tell, show, step, after}
+use Rattle.station.proofs.History.{reached-in-range, after-settings}
+use Rattle.station.proofs.Range.{fresh-ok}
+use Rattle.station.proofs.ReadBack.{told-heard}
+
+-- ---- a call leaves the station, or what it makes of it
+
+done-narrow : (n : ℕ) {st next : Station} → Narrow st → Narrow next → Narrow (doneBy n st next .station)
+unfolding doneBy
+done-narrow zero old new = new
+done-narrow (suc n) old new = old
+
+taken-narrow : (n : ℕ) {st : Station} (r : flow.Client) → Narrow st → Narrow (takenBy n st r .station)
+unfolding takenBy
+taken-narrow zero r old = record { own-low = old .own-low; low = old .low }
+taken-narrow (suc n) r old = old
+
+chosen-narrow : (n : ℕ) {st : Station} → Narrow st → Narrow (chosenBy n st .station)
+unfolding chosenBy
+chosen-narrow zero old = record { own-low = old .own-low; low = old .low }
+chosen-narrow (suc n) old = old
+
+-- what a frame's bytes say of an address has four of them for the low word
+heard-narrow : {st : Station} (xs : List ℕ) → Bytes xs → Narrow st → Narrow (changedOf st (advertIn xs))
+unfolding heardOf
+heard-narrow {st} xs bytes old =
+    record {
+      own-low = old .own-low;
+      low =
+          of-each (λ (f : Fair). f .low < 4294967296) (test (advertIn xs .rate ≡? 65535)) _ _
+          (λ e. omega arith)
+          (λ e. parsed-fits xs bytes .low-fits);
+    }
+
+-- ---- every call keeps it
+
+pub narrow-kept : {st : Station} → Narrow st → (c : Call) → Narrow (step c st .station)
+narrow-kept old (tick a b c) = done-narrow _ old (record { own-low = old .own-low; low = old .low })
+narrow-kept old (offerClient class size hops) = taken-narrow _ _ old
+narrow-kept old (offerTransit class size hops eligible) = done-narrow _ old (record { own-low = old .own-low; low = old .low })
+narrow-kept old (offerControl size) = done-narrow _ old (record { own-low = old .own-low; low = old .low })
+narrow-kept old select = chosen-narrow _ old
+narrow-kept old age = done-narrow _ old (record { own-low = old .own-low; low = old .low })
+narrow-kept old (hear xs bytes) = done-narrow _ old (heard-narrow xs bytes old)
+narrow-kept old tell = old
+narrow-kept old show = old
+
+-- a fresh station has received address 0
+pub fresh-narrow : (s : Settings) → NarrowOwn s → Narrow (freshOf s)
+fresh-narrow s own = record { own-low = own; low = omega arith }
+
+-- start too: a fresh station, or the old one
+pub start-narrow : {st : Station} → Narrow st → (s : Settings) → NarrowOwn s → Narrow (startOf st s .station)
+start-narrow old s own = done-narrow _ old (fresh-narrow s own)
+
+-- ---- over any calls
+
+pub after-narrow : {st : Station} → Narrow st → (cs : List Call) → Narrow (after st cs)
+after-narrow old [] = old
+after-narrow old (c ∷ cs) = after-narrow (narrow-kept old c) cs
+
+module _ (s : Settings) (good : SettingsOk s) (own : NarrowOwn s) (cs : List Call) where
+  reached : Narrow (after (freshOf s) cs)
+  reached = after-narrow (fresh-narrow s own) cs
+
+  -- Reading a written frame, with the same settings but an address it doesn't bear, gives back its ringlet bit, ttl, address and rate: whatever calls led there.
+  pub reached-read-back : ReadBack s (after (freshOf s) cs .fair)
+  reached-read-back =
+      let st = after (freshOf s) cs in
+      let ok = reached-in-range s good cs in
+      subst (λ (t : Settings). ReadBack t (st .fair)) (after-settings (fresh-ok good) cs)
+      (frame-read-back (st .settings) (st .fair) (ok .settings) (ok .fair) (reached .own-low) (reached .low))
+
+  -- and a station that hears it takes what was told
+  pub reached-heard : {t : Station} → StationOk t → t .settings .ringlet ≡ s .ringlet
+      → test (ownAddress (t .settings) (tellOf (after (freshOf s) cs) .advert)) ≡ false
+      → hearOf t (advertBytes (tellOf (after (freshOf s) cs) .advert)) ≡ doneOf (changedOf t (tellOf (after (freshOf s) cs) .advert))
+  reached-heard {t} ok same other =
+      told-heard (reached-in-range s good cs) (reached .own-low) (reached .low) ok
+      (subst (λ (u : Settings). t .settings .ringlet ≡ u .ringlet) (sym (after-settings (fresh-ok good) cs)) same)
+      other

@@ -1,0 +1,81 @@
+-- The place grows by an event's bytes and stays within the record, so what is left of the record falls.
+-- Assumes nothing.
+use Prim.Native.Nat.{_-_}
+use mathlib.Core.Path.{sym, _∙_}
+use native.Mathlib.Omega.{arith}
+use borrow.Author.Needs.{needs}
+use lib.ListN.{length}
+use Rattle.reader.proofs.Rows.{next-stands}
+use Rattle.vectors_reader.proofs.walk.Statement.{statement}
+use Rattle.vectors_reader.proofs.walk.Tie as tie
+
+abbrev Inv-loop : tie.InvT-loop
+Inv-loop bytes at₀ t7 t8 at = Unit {0}
+
+abbrev μ-loop : tie.MeasureT-loop
+μ-loop bytes at₀ t7 t8 at = length bytes - at
+
+loop-holds : tie.Need-loop-holds Inv-loop μ-loop
+loop-holds c = search needs
+
+read-at-requires : tie.Need-read-at-requires Inv-loop μ-loop
+read-at-requires c κs = search needs
+
+enum-known-kind : tie.Need-enum-known-kind Inv-loop μ-loop
+enum-known-kind c = search needs
+
+event-requires : tie.Need-event-requires Inv-loop μ-loop
+event-requires c κs = search needs
+
+loop-less : tie.Need-loop-less Inv-loop μ-loop
+loop-less c =
+    let s = next-stands _ _ _ _ _ _ (sym (c .before .before .before .before .read-at .ensures) ∙ c .before .before .kind .given .1) in
+    omega (arith, s .six, s .fits)
+
+loop-again : tie.Need-loop-again Inv-loop μ-loop
+loop-again c = search needs
+
+enum-told : tie.Need-enum-told Inv-loop μ-loop
+enum-told c = search needs
+
+slice-aggregate-text : tie.Need-slice-aggregate-text Inv-loop μ-loop
+slice-aggregate-text c = search needs
+
+text-requires : tie.Need-text-requires Inv-loop μ-loop
+text-requires c κs = search needs
+
+returns : tie.Need-returns Inv-loop μ-loop
+returns c = search needs
+
+enum-known-n : tie.Need-enum-known-n Inv-loop μ-loop
+enum-known-n c = search needs
+
+slice-aggregate-numbered : tie.Need-slice-aggregate-numbered Inv-loop μ-loop
+slice-aggregate-numbered c = search needs
+
+numbered-requires : tie.Need-numbered-requires Inv-loop μ-loop
+numbered-requires c κs = search needs
+
+returns-2 : tie.Need-returns-2 Inv-loop μ-loop
+returns-2 c = search needs
+
+pub walk-spec : {M : Type 1} → statement M
+walk-spec =
+    tie.close
+    (tie.spec
+    Inv-loop
+    μ-loop
+    loop-holds
+    read-at-requires
+    enum-known-kind
+    event-requires
+    loop-less
+    loop-again
+    enum-told
+    slice-aggregate-text
+    text-requires
+    returns
+    enum-known-n
+    slice-aggregate-numbered
+    numbered-requires
+    returns-2)

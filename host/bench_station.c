@@ -1,0 +1,139 @@
+/*
+ * ns per call of the station's calls. A call that takes or adds a frame leaves another station than it found, so each is made
+ * once on each of 16 stations with the same bytes, and these are copied anew before the next round, while no clock runs.
+ */
+#include "bench.h"
+
+#include <stdio.h>
+#include <string.h>
+
+enum { STATIONS = 16, REPEATS = 300, ROUNDS = 15, N = RPR_STATION_LENGTH };
+
+static uint8_t stations[STATIONS][N], theirs[STATIONS][N];
+static uint8_t room[RPR_READING_LENGTH], their_room[RPR_READING_LENGTH], settings[RPR_SETTINGS_LENGTH];
+
+/* The stations that are measured: fresh with credit, and with 120 frames in each transit queue and congestion downstream. */
+static uint8_t empty[N], full[N];
+
+static const uint8_t heard[RPR_FRAME_LENGTH] = {250, 0xa0, 2, 0, 0, 0, 0, 9, 0, 0, 3, 232};
+
+typedef uint64_t batch(const struct calls *);
+
+/* One call on each station; s is the station. The answers are added up. */
+#define BATCH(name, call)                                        \
+    static uint64_t name(const struct calls *side) {             \
+        uint64_t all = 0;                                        \
+        for (unsigned i = 0; i < STATIONS; i++) {                \
+            uint8_t *s = stations[i];                            \
+            all += (call);                                       \
+        }                                                        \
+        return all;                                              \
+    }
+
+BATCH(start, side->start(settings, RPR_SETTINGS_LENGTH, s, N))
+BATCH(tick, side->tick(s, N, 1, 1, 1))
+BATCH(client_a, side->offer_client(s, N, RPR_CLASS_A, 1000, 3))
+BATCH(client_b, side->offer_client(s, N, RPR_CLASS_B, 1000, 3))
+BATCH(client_c, side->offer_client(s, N, RPR_CLASS_C, 1000, 30))
+BATCH(transit_a, side->offer_transit(s, N, RPR_CLASS_A, 1000, 3, 0))
+BATCH(transit_c, side->offer_transit(s, N, RPR_CLASS_C, 1000, 3, 1))
+BATCH(control, side->offer_control(s, N, 100))
+BATCH(choice, side->select(s, N))
+BATCH(age, side->age(s, N))
+BATCH(read_frame, side->read_frame(s, N, heard, RPR_FRAME_LENGTH))
+BATCH(write_frame, side->write_frame(s, N, room, RPR_FRAME_LENGTH))
+BATCH(show, side->show(s, N, room, RPR_READING_LENGTH))
+
+static const struct {
+    const char *name;
+    batch *run;
+} measured[] = {
+    {"rpr_start", start},
+    {"rpr_tick", tick},
+    {"rpr_offer_client, class A", client_a},
+    {"rpr_offer_client, class B", client_b},
+    {"rpr_offer_client, class C", client_c},
+    {"rpr_offer_transit, class A", transit_a},
+    {"rpr_offer_transit, class C", transit_c},
+    {"rpr_offer_control", control},
+    {"rpr_select", choice},
+    {"rpr_age", age},
+    {"rpr_read_frame", read_frame},
+    {"rpr_write_frame", write_frame},
+    {"rpr_show", show},
+};
+
+static void restore(const uint8_t *image) {
+    for (unsigned i = 0; i < STATIONS; i++) memcpy(stations[i], image, N);
+}
+
+/* Both sides carry the call out, answer the same and leave the same bytes. */
+static void compare(batch *run, const uint8_t *image, const char *name) {
+    restore(image);
+    uint64_t answer = run(&plain);
+    memcpy(theirs, stations, sizeof stations);
+    memcpy(their_room, room, sizeof room);
+    restore(image);
+    if (run(&library) != answer || memcmp(stations, theirs, sizeof stations) != 0 || memcmp(room, their_room, sizeof room) != 0) {
+        printf("%s: ", name);
+        give_up("the library and plain C differ");
+    }
+    if ((answer & 0xff) != 0) { /* 16 times a refusal's number is less than 256 */
+        printf("%s: ", name);
+        give_up("a call is refused");
+    }
+}
+
+/* ns per call: some batches are timed one by one, the copying between them is not. */
+static double round_of(const struct calls *side, batch *run, const uint8_t *image) {
+    double ns = 0;
+    for (int i = 0; i < REPEATS; i++) {
+        restore(image);
+        double from = now();
+        run(side);
+        ns += now() - from;
+    }
+    return ns / (REPEATS * STATIONS);
+}
+
+static struct times measure(batch *run, const uint8_t *image) {
+    struct times t = {1e12, 1e12};
+    for (int i = 0; i < ROUNDS; i++) {
+        keep_least(&t.library, round_of(&library, run, image));
+        keep_least(&t.plain, round_of(&plain, run, image));
+    }
+    return t;
+}
+
+static void set_up(void) {
+    static const struct rpr_shaper shaper = {.lo_limit = 2000, .hi_limit = 1000000, .amount = 5000};
+    struct rpr_settings s = {.own_address_high = 0x0200, .own_address_low = 0x5e000001, .own_ringlet = 0, .mtu = 1500,
+                             .m = shaper, .a = shaper, .b = shaper, .c = shaper, .d = shaper,
+                             .control_queue = 1000000, .primary_queue = 1000000, .secondary_queue = 1000000, .low_threshold = 50000,
+                             .weight = 2, .rate_unit = 4, .ticks_per_interval = 10, .unreserved_rate = 2000000000,
+                             .age_coef = RPR_DEFAULT_AGE_COEF, .lp_coef = RPR_DEFAULT_LP_COEF, .ramp_up = RPR_DEFAULT_RAMP_UP};
+    uint64_t refused = 0;
+    memcpy(settings, &s, sizeof s);
+    refused |= rpr_start(settings, sizeof settings, empty, N);
+    for (int i = 0; i < 10; i++) refused |= rpr_tick(empty, N, 1, 1, 1);
+    memcpy(full, empty, N);
+    for (unsigned i = 0; i < 120; i++) {
+        refused |= rpr_offer_transit(full, N, RPR_CLASS_A, 16 + 37 * i % 1400, 1 + i % 63, 0);
+        refused |= rpr_offer_transit(full, N, RPR_CLASS_B + i % 2, 16 + 41 * i % 1400, 1 + i % 63, 1);
+    }
+    refused |= rpr_read_frame(full, N, heard, sizeof heard);
+    if (refused != 0 || rpr_station_length() != N) give_up("the stations to measure are refused");
+}
+
+void bench_station(void) {
+    set_up();
+    puts("\nthe station's calls, ns per call       empty station                   240 frames held");
+    puts("                              library   plain C   library / C   library   plain C   library / C");
+    for (size_t i = 0; i < sizeof measured / sizeof measured[0]; i++) {
+        compare(measured[i].run, empty, measured[i].name);
+        compare(measured[i].run, full, measured[i].name);
+        struct times e = measure(measured[i].run, empty), f = measure(measured[i].run, full);
+        printf("%-28s %8.1f  %8.1f   %11.2f  %8.1f  %8.1f   %11.2f\n", measured[i].name, e.library, e.plain, e.library / e.plain,
+               f.library, f.plain, f.library / f.plain);
+    }
+}

@@ -1,0 +1,365 @@
+//! Damage to a station's bytes: changes at the ends of every range and anywhere. What
+//! comes out may be in range or not.
+
+use crate::make_fit;
+use crate::make_station;
+use crate::random::Random;
+use crate::station::layout::{
+    self, parts, put_word, setting, slot_at, word, Slot, COUNT, CREDITS, FAIRNESS, HEAD, HELD,
+    QUEUES, SETTINGS, STAGE,
+};
+use crate::station::queue::SLOTS;
+use crate::station::range::{self, bounds, BOUNDS};
+use crate::station::settings::WORDS;
+
+/// One change, and which of its kind.
+#[derive(Clone, Copy, Debug, PartialEq, Eq)]
+pub enum Step {
+    /// A word of the state, at an end of its range, past it, or anywhere.
+    Bound(usize, usize),
+    /// A word of the settings, at an end of its range or past it.
+    Setting(usize, usize),
+    /// The same, and the rest of the station made to fit it.
+    Fitted(usize, usize),
+    /// A frame of a queue, or with 3 that of the stage.
+    Frame(usize, usize),
+    /// Slots, bytes held, head, count and capacity of a queue.
+    Queue(usize, usize),
+}
+
+const BOUND_STEPS: usize = 6;
+const FRAME_STEPS: usize = 15;
+const QUEUE_STEPS: usize = 20;
+
+/// Every single change. A station in range of the plain settings tells how many ends a
+/// word of the settings has.
+pub fn every_step() -> Vec<Step> {
+    let plain = layout::write(&make_station::station(&[]));
+    let mut steps = Vec::new();
+    let mut push = |step: fn(usize, usize) -> Step, at: usize, count: usize| {
+        steps.extend((0..count).map(|which| step(at, which)));
+    };
+    for at in 0..BOUNDS {
+        push(Step::Bound, at, BOUND_STEPS);
+    }
+    for at in 0..WORDS {
+        let ends = setting_ends(&plain, at).len();
+        push(Step::Setting, at, 2 * ends);
+        push(Step::Fitted, at, 2 * ends);
+    }
+    for holder in 0..=QUEUES.len() {
+        push(Step::Frame, holder, FRAME_STEPS);
+    }
+    for queue in 0..QUEUES.len() {
+        push(Step::Queue, queue, QUEUE_STEPS);
+    }
+    steps
+}
+
+pub fn take(random: &mut Random, bytes: &mut [u8], step: Step) {
+    match step {
+        Step::Bound(at, which) => change_bound(random, bytes, at, which),
+        Step::Setting(at, which) => change_setting(bytes, at, which),
+        Step::Fitted(at, which) => {
+            change_setting(bytes, at, which);
+            make_fit::fit(bytes, at);
+        }
+        Step::Frame(3, which) => {
+            let slot = match word(bytes, STAGE) {
+                0 => frame(random, bytes),
+                word => Slot::of_word(word),
+            };
+            let changed = change_frame(random, slot, which, setting(bytes, 3));
+            put_word(bytes, STAGE, changed.word());
+        }
+        Step::Frame(queue, which) => change_held(random, bytes, QUEUES[queue], which),
+        Step::Queue(queue, which) => change_queue(random, bytes, queue, which),
+    }
+}
+
+/// Each end of the range, one below and one above, between them, anywhere.
+fn change_bound(random: &mut Random, bytes: &mut [u8], at: usize, which: usize) {
+    let bound = bounds(bytes)[at];
+    let any = random.word();
+    let value = match which {
+        0 => bound.least,
+        1 => bound.least.wrapping_sub(1),
+        2 => bound.most,
+        3 => bound.most + 1,
+        4 => random.between(i128::from(bound.least), i128::from(bound.most)) as u64,
+        _ => any >> random.below(32),
+    };
+    put_word(bytes, bound.at, value);
+}
+
+fn change_setting(bytes: &mut [u8], at: usize, which: usize) {
+    let end = setting_ends(bytes, at)[which / 2][which % 2];
+    put_word(bytes, SETTINGS + 4 * at, u64::from(end));
+}
+
+/// The ends of a setting's range, and the least that the state still fits.
+fn setting_ends(bytes: &[u8], at: usize) -> Vec<[u32; 2]> {
+    let words = std::array::from_fn(|at| setting(bytes, at) as u32);
+    let mut ends = make_station::ends(&words, at);
+    let fitting = match at {
+        3 => vec![largest_frame(bytes)],
+        5 | 8 | 11 | 14 | 17 => vec![word(bytes, CREDITS + 4 * (at / 3 - 1))],
+        19..=21 => vec![word(bytes, QUEUES[at - 19] + HELD)],
+        26 => vec![word(bytes, FAIRNESS + 36), word(bytes, FAIRNESS + 40)],
+        _ => Vec::new(),
+    };
+    ends.extend(
+        fitting
+            .iter()
+            .map(|least| [*least as u32, least.wrapping_sub(1) as u32]),
+    );
+    ends
+}
+
+fn largest_frame(bytes: &[u8]) -> u64 {
+    let size = |at: usize| Slot::of_word(word(bytes, at)).size;
+    let slots = |queue: usize| (0..SLOTS).map(move |slot| size(slot_at(queue, slot)));
+    QUEUES
+        .into_iter()
+        .flat_map(slots)
+        .fold(size(STAGE), u64::max)
+}
+
+/// A frame in range, wherever its class belongs.
+fn frame(random: &mut Random, bytes: &[u8]) -> Slot {
+    let mtu = i128::from(setting(bytes, 3).clamp(16, 16_383));
+    let class = random.below(3) as u64;
+    Slot {
+        size: random.often_extreme(16, mtu) as u64,
+        hops: random.often_extreme(1, 63) as u64,
+        class,
+        mark: if class == 0 {
+            0
+        } else {
+            random.below(2) as u64
+        },
+        rest: 0,
+    }
+}
+
+/// A field at an end of its range or past it.
+fn change_frame(random: &mut Random, slot: Slot, which: usize, mtu: u64) -> Slot {
+    let sized = |size: u64| Slot {
+        size: size & 0x3fff,
+        ..slot
+    };
+    let far = |hops: usize| Slot {
+        hops: hops as u64,
+        ..slot
+    };
+    let coded = |class, mark| Slot {
+        class,
+        mark,
+        ..slot
+    };
+    match which {
+        0 => sized(15),
+        1 => sized(16),
+        2 => sized(mtu),
+        3 => sized(mtu.wrapping_add(1)),
+        4 => far(0),
+        5 => far(1),
+        6 => far(63),
+        7 => far(1 + random.below(63)),
+        8 => coded(0, 0),
+        9 => coded(0, 1),
+        10 => coded(1, 1),
+        11 => coded(2, 0),
+        12 => coded(3, random.below(2) as u64),
+        13 => Slot {
+            rest: 1 << random.below(9),
+            ..slot
+        },
+        _ => Slot {
+            mark: 1 - slot.mark,
+            ..slot
+        },
+    }
+}
+
+/// Head and count, or what of them makes sense.
+fn ends_of(bytes: &[u8], at: usize) -> (usize, usize) {
+    let (head, count) = (bytes[at + HEAD] as usize, bytes[at + COUNT] as usize);
+    (head % SLOTS, count.min(SLOTS))
+}
+
+/// A frame of the queue changed, the bytes held with it. Where there is none one comes.
+fn change_held(random: &mut Random, bytes: &mut [u8], at: usize, which: usize) {
+    if bytes[at + COUNT] == 0 {
+        refill(random, bytes, at, 1);
+    }
+    let (head, count) = ends_of(bytes, at);
+    let place = slot_at(at, head + random.below(count));
+    let slot = Slot::of_word(word(bytes, place));
+    let changed = change_frame(random, slot, which, setting(bytes, 3));
+    put_word(bytes, place, changed.word());
+    let held = word(bytes, at + HELD) + changed.size;
+    put_word(bytes, at + HELD, held.wrapping_sub(slot.size));
+}
+
+/// So many frames from any slot on, and the bytes that they hold.
+fn refill(random: &mut Random, bytes: &mut [u8], at: usize, count: usize) -> u64 {
+    bytes[at..at + HELD].fill(0);
+    let head = random.below(SLOTS);
+    let mut sum = 0;
+    for behind in 0..count {
+        let slot = frame(random, bytes);
+        sum += slot.size;
+        put_word(bytes, slot_at(at, head + behind), slot.word());
+    }
+    put_word(bytes, at + HELD, sum);
+    bytes[at + HEAD] = head as u8;
+    bytes[at + COUNT] = count as u8;
+    sum
+}
+
+/// All slots moved on, the head with them: the same queue elsewhere.
+fn turn(random: &mut Random, bytes: &mut [u8], at: usize) {
+    let by = 1 + random.below(SLOTS - 1);
+    let (head, _) = ends_of(bytes, at);
+    bytes[at..at + HELD].rotate_right(4 * by);
+    bytes[at + HEAD] = ((head + by) % SLOTS) as u8;
+}
+
+fn change_queue(random: &mut Random, bytes: &mut [u8], queue: usize, which: usize) {
+    let at = QUEUES[queue];
+    match which {
+        0..=8 => change_count(random, bytes, queue, which),
+        9..=11 => change_empty_slot(random, bytes, at, which),
+        12 => bytes[at + HEAD] = bytes[at + HEAD].wrapping_add(1),
+        13 => bytes[at + HEAD] = random.below(SLOTS) as u8,
+        14 => bytes[at + HEAD] = random.pick(&[128, 129, 255]),
+        15 => turn(random, bytes, at),
+        _ => {
+            let most = random.pick(&[1, 8, SLOTS]);
+            let count = match which {
+                16 => SLOTS,
+                17 => random.below(most + 1),
+                _ => random.between(1, SLOTS as i128) as usize,
+            };
+            let sum = refill(random, bytes, at, count);
+            // The capacity is what is held, or one less.
+            if which >= 18 {
+                let capacity = sum - u64::from(which == 19);
+                put_word(bytes, SETTINGS + 4 * (19 + queue), capacity);
+            }
+        }
+    }
+}
+
+/// Bytes held or count changed, the slots not.
+fn change_count(random: &mut Random, bytes: &mut [u8], queue: usize, which: usize) {
+    let at = QUEUES[queue];
+    let (held, count) = (word(bytes, at + HELD), bytes[at + COUNT]);
+    let capacity = setting(bytes, 19 + queue);
+    match which {
+        0 => put_word(bytes, at + HELD, held.wrapping_add(1)),
+        1 => put_word(bytes, at + HELD, held.wrapping_sub(1)),
+        2 => put_word(bytes, at + HELD, capacity),
+        3 => put_word(bytes, at + HELD, capacity + 1),
+        4 => bytes[at + COUNT] = count.wrapping_add(1),
+        5 => bytes[at + COUNT] = count.wrapping_sub(1),
+        6 => bytes[at + COUNT] = 128,
+        7 => bytes[at + COUNT] = random.pick(&[129, 255]),
+        _ => bytes[at + COUNT] = random.below(SLOTS + 1) as u8,
+    }
+}
+
+/// A slot outside the queue's frames made non-zero.
+fn change_empty_slot(random: &mut Random, bytes: &mut [u8], at: usize, which: usize) {
+    let (head, count) = ends_of(bytes, at);
+    if count == SLOTS {
+        return;
+    }
+    let any = count + random.below(SLOTS - count);
+    let behind = random.pick(&[count, SLOTS - 1, any]);
+    let slot = match which {
+        9 => 1,
+        10 => 1 << random.below(32),
+        _ => frame(random, bytes).word(),
+    };
+    put_word(bytes, slot_at(at, head + behind), slot);
+}
+
+/// Two stations mixed: cut in two anywhere or between parts, or part by part.
+fn mix(random: &mut Random, bytes: &mut [u8], other: &[u8]) {
+    let parts = parts();
+    let cut = match random.below(3) {
+        0 => random.below(bytes.len()),
+        1 => parts[random.below(parts.len())].at,
+        _ => {
+            let rarely = random.pick(&[2, 8, 30]);
+            for part in parts.iter().filter(|_| random.one_in(rarely)) {
+                let place = part.at..part.at + part.length;
+                bytes[place.clone()].copy_from_slice(&other[place]);
+            }
+            return;
+        }
+    };
+    match random.one_in(2) {
+        true => bytes[..cut].copy_from_slice(&other[..cut]),
+        false => bytes[cut..].copy_from_slice(&other[cut..]),
+    }
+}
+
+/// A bit or a byte.
+fn change_byte(random: &mut Random, bytes: &mut [u8]) {
+    let at = match random.one_in(2) {
+        true => random.below(bytes.len()),
+        // Slots are most of the bytes; the rest is as much worth.
+        false => STAGE + random.below(bytes.len() - STAGE),
+    };
+    bytes[at] = match random.below(4) {
+        0 => 0xff,
+        1 => random.word() as u8,
+        _ => bytes[at] ^ 1 << random.below(8),
+    };
+}
+
+/// The head of a queue without frames, or full of them, may be any slot.
+fn move_head(random: &mut Random, bytes: &mut [u8]) {
+    let free = |queue: &usize| [0, SLOTS].contains(&(bytes[queue + COUNT] as usize));
+    let free: Vec<usize> = QUEUES.into_iter().filter(free).collect();
+    if !free.is_empty() {
+        bytes[random.pick(&free) + HEAD] = random.below(SLOTS) as u8;
+    }
+}
+
+/// Any damage to a station; `other` is one to mix it with.
+pub fn damage(random: &mut Random, bytes: &mut [u8], other: &[u8], steps: &[Step]) {
+    let times = random.pick(&[1, 1, 1, 2, 3]);
+    match random.below(24) {
+        0..=3 => mix(random, bytes, other),
+        4 => {
+            let whole = random.bytes(bytes.len());
+            bytes.copy_from_slice(&whole);
+        }
+        5 => bytes.fill(random.pick(&[0, 1, 0xff])),
+        6 | 7 => move_head(random, bytes),
+        8..=12 => (0..times).for_each(|_| change_byte(random, bytes)),
+        _ => (0..times).for_each(|_| {
+            let step = random.pick(steps);
+            take(random, bytes, step);
+        }),
+    }
+}
+
+/// A station far from where calls lead: many single changes, each kept where it leaves
+/// the station in range.
+pub fn wild(random: &mut Random, station: &[u8], steps: &[Step]) -> Vec<u8> {
+    let mut bytes = station.to_vec();
+    for _ in 0..random.pick(&[5, 20, 60]) {
+        let mut changed = bytes.clone();
+        let step = random.pick(steps);
+        take(random, &mut changed, step);
+        if range::in_range(&changed) {
+            bytes = changed;
+        }
+    }
+    bytes
+}

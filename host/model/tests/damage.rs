@@ -1,0 +1,170 @@
+//! Damage, and calls on stations out of range: the order of the refusals.
+
+use model::lent_call::{apply, After};
+use model::make_damage::{self, damage, take};
+use model::make_station;
+use model::random::Random;
+use model::station::layout::{put_word, write, STATION_LENGTH};
+use model::station::range::{every_fault, faults, in_range};
+use model::station_call::Call;
+
+fn plain() -> Vec<u8> {
+    write(&make_station::station(&[]))
+}
+
+/// The plain station with a received ttl of 192.
+fn bad() -> Vec<u8> {
+    let mut bytes = plain();
+    put_word(&mut bytes, 1_634, 192);
+    bytes
+}
+
+fn calls() -> Vec<Call> {
+    vec![
+        Call::Tick([1, 0, 1]),
+        Call::Client([2, 20, 1]),
+        Call::Transit([1, 20, 1, 1]),
+        Call::Control(20),
+        Call::Select,
+        Call::Age,
+        Call::Hear(vec![200, 0xa0, 0, 0, 0, 0, 0, 9, 0, 0, 0, 5]),
+        Call::Tell(12),
+        Call::Show(124),
+    ]
+}
+
+/// The answer of a call that must leave everything as it was.
+fn refused(call: &Call, station: &[u8]) -> u64 {
+    let other = call.other_slice(7);
+    let after = apply(call, station, &other);
+    assert_eq!((&after.station[..], &after.other), (station, &other));
+    after.answer
+}
+
+#[test]
+fn a_station_out_of_range_is_1_for_each_call() {
+    for call in calls() {
+        assert_eq!(refused(&call, &bad()), 1, "{call}");
+        assert_ne!(apply(&call, &plain(), &call.other_slice(7)).answer, 1);
+    }
+}
+
+/// "the order is 2, 1, 3, 11"
+#[test]
+fn one_comes_before_the_later_ones() {
+    let own = vec![200, 0xa0, 2, 0, 0x5e, 0, 0, 1, 0, 0, 0, 5];
+    let far = vec![192, 0xa0, 0, 0, 0, 0, 0, 9, 0, 0, 0, 5];
+    let calls = [
+        (Call::Tick([2, 0, 0]), 3),
+        (Call::Client([3, 20, 1]), 3),
+        (Call::Client([0, 20, 1]), 6),
+        (Call::Transit([0, 20, 1, 1]), 3),
+        (Call::Control(15), 3),
+        (Call::Hear(far), 3),
+        (Call::Hear(own), 11),
+    ];
+    for (call, later) in calls {
+        assert_eq!(refused(&call, &plain()), later, "{call}");
+        assert_eq!(refused(&call, &bad()), 1, "{call}");
+    }
+}
+
+#[test]
+fn two_comes_before_one() {
+    for call in calls() {
+        for length in [0, 1_769, 1_771] {
+            let mut bytes = bad();
+            bytes.resize(length, 0);
+            assert_eq!(refused(&call, &bytes), 2, "{call}");
+        }
+    }
+    let frame = |at: usize, byte: u8| {
+        let mut frame = vec![200, 0xa0, 0, 0, 0, 0, 0, 9, 0, 0, 0, 5];
+        frame[at] = byte;
+        Call::Hear(frame)
+    };
+    let calls = [
+        Call::Tell(11),
+        Call::Show(125),
+        Call::Hear(vec![0; 11]),
+        frame(1, 0x80),
+        frame(1, 0x20),
+        frame(8, 0x20),
+    ];
+    for call in calls {
+        assert_eq!(refused(&call, &bad()), 2, "{call}");
+        assert_eq!(refused(&call, &plain()), 2, "{call}");
+    }
+}
+
+/// "a ringlet bit equal to the station's own: 2": the number that stands there, in range
+/// or not.
+#[test]
+fn the_ringlet_of_a_station_out_of_range() {
+    for (ringlet, answers) in [(0, [2, 1]), (1, [1, 2]), (2, [1, 1]), (257, [1, 1])] {
+        let mut bytes = bad();
+        put_word(&mut bytes, 1_658, ringlet);
+        for (bit, answer) in [0x20, 0xa0].into_iter().zip(answers) {
+            let frame = vec![200, bit, 0, 0, 0, 0, 0, 9, 0, 0, 0, 5];
+            assert_eq!(refused(&Call::Hear(frame), &bytes), answer);
+        }
+    }
+}
+
+#[test]
+fn carried_out_the_bytes_are_the_new_ones() {
+    let mut model = make_station::station(&[]);
+    for call in calls() {
+        let other = call.other_slice(7);
+        let before = write(&model);
+        let (answer, other_after) = call.apply(&mut model, &other);
+        let expected = After {
+            answer,
+            station: write(&model),
+            other: other_after,
+        };
+        assert_eq!(apply(&call, &before, &other), expected, "{call}");
+    }
+}
+
+/// Each step changes the plain station, but those that set what is there already.
+#[test]
+fn every_step() {
+    let mut random = Random::new(4);
+    let (mut same, mut inside, mut outside) = (0, 0, 0);
+    let steps = make_damage::every_step();
+    for step in &steps {
+        let mut bytes = plain();
+        take(&mut random, &mut bytes, *step);
+        match (bytes == plain(), in_range(&bytes)) {
+            (true, _) => same += 1,
+            (_, true) => inside += 1,
+            (_, false) => outside += 1,
+        }
+    }
+    assert_eq!(same + inside + outside, steps.len());
+    assert!(
+        same < 90 && inside > 100 && outside > 100,
+        "{same} {inside} {outside}"
+    );
+}
+
+#[test]
+fn damage_is_in_range_and_out() {
+    let mut random = Random::new(5);
+    let steps = make_damage::every_step();
+    let names = every_fault();
+    let mut in_range = 0;
+    for _ in 0..4_000 {
+        let words = make_station::settings(&mut random);
+        let changes: Vec<(usize, u32)> = words.into_iter().enumerate().collect();
+        let other = write(&make_station::station(&changes));
+        let mut bytes = plain();
+        damage(&mut random, &mut bytes, &other, &steps);
+        assert_eq!(bytes.len(), STATION_LENGTH);
+        let faults = faults(&bytes);
+        assert!(faults.iter().all(|fault| names.contains(fault)));
+        in_range += u32::from(faults.is_empty());
+    }
+    assert!((800..3_000).contains(&in_range), "{in_range}");
+}

@@ -1,0 +1,134 @@
+/* Calls what a station has for fairness, as a host would, and says what differs from document 01. */
+#include "smoke_station.h"
+
+/* A station that has sent two eligible frames, 60 and 64 bytes. C has 236 - 124 left, D 248 - 124. */
+static void busy(void) {
+    start(&plain);
+    tick(0, 0, 1, 0);
+    tick(0, 0, 1, 0);
+    client("60", C, 60, 20, MARKED);
+    selects("60", RPR_FROM_STAGE, C, 20, 1, 60);
+    client("64", C, 64, 20, MARKED);
+    selects("64", RPR_FROM_STAGE, C, 20, 1, 64);
+    rates("counted", show().counted, (struct rpr_rates){124, 0, 0, 0});
+}
+
+/* A frame from 02005e000002, two hops downstream: 256 - 254. */
+static void downstream(void) {
+    hear("13, two hops away", BYTES(254, 0xa0, 2, 0, 0x5e, 0, 0, 2, 0, 0, 0, 13), 0);
+    age();
+    struct rpr_reading r = show();
+    rates("aged: floor(124 x 3 / 4)", r.counted, (struct rpr_rates){93, 0, 0, 0});
+    rates("smoothed: floor(124 / 16)", r.smoothed, (struct rpr_rates){7, 0, 0, 0});
+    expect("localFairRate", r.local_fair_rate, 10000);
+    expect("allowedRate", r.allowed_rate, 10000);
+    expect("allowedRateCongested: 13 x 3", r.allowed_rate_congested, 39);
+    expect("own rate: floor(10,000 / 3)", r.own_rate, 3333);
+    expect("locally congested", r.locally_congested, 0);
+    expect("downstream congested", r.downstream_congested, 1);
+    expect("received ttl", r.received_ttl, 254);
+    expect("received address", (uint64_t)r.received_address_high << 32 | r.received_address_low, 0x02005e000002);
+    expect("received rate", r.received_rate, 13);
+    tells("passed on, ttl less 1", BYTES(253, 0xa0, 2, 0, 0x5e, 0, 0, 2, 0, 0, 0, 13));
+}
+
+/* Goes on from downstream: what goes beyond the congested station is held to 39 bytes. */
+static void beyond(void) {
+    tick(0, 0, 1, 0);
+    tick(0, 0, 1, 0); /* C 218, D 232 */
+    client("40 are too many", C, 40, 3, RPR_FAIR_RATE);
+    client("39 are not", C, 39, 3, MARKED);
+    selects("39", RPR_FROM_STAGE, C, 3, 1, 39);
+    client("16 more are", C, 16, 3, RPR_FAIR_RATE);
+    client("16 that stay before it", C, 16, 2, MARKED);
+    selects("16", RPR_FROM_STAGE, C, 2, 1, 16);
+    rates("added, and beyond", show().counted, (struct rpr_rates){148, 0, 39, 0});
+    transit("forwarded beyond", C, 30, 3, 1, 0);
+    transit("forwarded before it", B, 31, 2, 1, 0);
+    selects("as D permits", RPR_FROM_SECONDARY, C, 3, 1, 30); /* D 177 */
+    selects("as D permits", RPR_FROM_SECONDARY, B, 2, 1, 31); /* D 147 */
+    rates("forwarded, and beyond", show().counted, (struct rpr_rates){148, 61, 39, 30});
+}
+
+/* Goes on from busy. lpAddRate becomes floor(124 / 16) = 7, then floor((15 x 7 + 93) / 16) = 12. */
+static void local(void) {
+    transit("B", B, 64, 5, 0, 0);
+    transit("C", C, 34, 5, 1, 0);
+    age();
+    expect("98 bytes are not over 98", show().locally_congested, 0);
+    transit("B", B, 16, 5, 0, 0);
+    age();
+    struct rpr_reading r = show();
+    expect("114 bytes are", r.locally_congested, 1);
+    expect("localFairRate: lpAddRate", r.local_fair_rate, 12);
+    expect("allowedRate", r.allowed_rate, 12);
+    expect("own rate: floor(12 / 3)", r.own_rate, 4);
+    rates("aged: floor(93 x 3 / 4)", r.counted, (struct rpr_rates){69, 0, 0, 0});
+    tells("own rate", BYTES(255, 0xa0, 2, 0, 0x5e, 0, 0, 1, 0, 0, 0, 4));
+    hear("as much as the own rate", BYTES(254, 0xa0, 2, 0, 0x5e, 0, 0, 2, 0, 0, 0, 4), 0);
+    tells("both: the own rate", BYTES(255, 0xa0, 2, 0, 0x5e, 0, 0, 1, 0, 0, 0, 4));
+    hear("less than the own rate", BYTES(194, 0xa0, 2, 0, 0x5e, 0, 0, 2, 0, 0, 0, 1), 0);
+    tells("both: the received rate", BYTES(193, 0xa0, 2, 0, 0x5e, 0, 0, 2, 0, 0, 0, 1));
+    hear("ttl 193", BYTES(193, 0xa0, 2, 0, 0x5e, 0, 0, 2, 0, 0, 0, 1), 0);
+    tells("no further", BYTES(255, 0xa0, 2, 0, 0x5e, 0, 0, 1, 0, 0, 255, 255));
+}
+
+/* Goes on from local. Other bits of a frame are not looked at; allowed rates rise by a part in 64 of what lacks. */
+static void cleared(void) {
+    age();
+    expect("lpAddRate: floor((15 x 12 + 69) / 16)", show().smoothed.add_rate, 15);
+    expect("allowedRateCongested: 1 x 3", show().allowed_rate_congested, 3);
+    hear("FULL_RATE", BYTES(200, 0xef, 2, 0, 0x5e, 0, 0, 2, 0x1f, 0xff, 255, 255), 0);
+    struct rpr_reading r = show();
+    expect("downstream congested", r.downstream_congested, 0);
+    expect("received ttl", r.received_ttl, 255);
+    expect("received address", r.received_address_high | r.received_address_low, 0);
+    expect("received rate", r.received_rate, 0);
+    age();
+    expect("3 + floor(9,997 / 64)", show().allowed_rate_congested, 159);
+}
+
+static void wrong_frames(void) {
+    static const uint8_t good[] = {254, 0xa0, 2, 0, 0x5e, 0, 0, 2, 0, 0, 0, 13, 0};
+    start(&plain);
+    hear("no bytes", good, 0, RPR_BYTES);
+    hear("11 bytes", good, 11, RPR_BYTES);
+    hear("13 bytes", good, 13, RPR_BYTES);
+    hear("the own ringlet's bit", BYTES(254, 0x20, 2, 0, 0x5e, 0, 0, 2, 0, 0, 0, 13), RPR_BYTES);
+    hear("frame type 3", BYTES(254, 0xb0, 2, 0, 0x5e, 0, 0, 2, 0, 0, 0, 13), RPR_BYTES);
+    hear("frame type 0", BYTES(254, 0x80, 2, 0, 0x5e, 0, 0, 2, 0, 0, 0, 13), RPR_BYTES);
+    hear("another header kind", BYTES(254, 0xa0, 2, 0, 0x5e, 0, 0, 2, 0x20, 0, 0, 13), RPR_BYTES);
+    hear("ttl 192 is 3, before 11", BYTES(192, 0xa0, 2, 0, 0x5e, 0, 0, 1, 0, 0, 0, 13), RPR_RANGE);
+    hear("the own address", BYTES(193, 0xa0, 2, 0, 0x5e, 0, 0, 1, 0, 0, 0, 13), RPR_OWN_ADDRESS);
+    hear("the own address, FULL_RATE", BYTES(255, 0xa0, 2, 0, 0x5e, 0, 0, 1, 0, 0, 255, 255), RPR_OWN_ADDRESS);
+    expect("not congested", show().downstream_congested, 0);
+    lend_filled(STATION, 0, RPR_STATION_LENGTH);
+    hear("zeros have ringlet 0: 2, before 1", BYTES(0, 0x20, 2, 0, 0x5e, 0, 0, 1, 0, 0, 0, 13), RPR_BYTES);
+}
+
+/* What one station tells another one reads: the same settings, another address. */
+static void neighbours(void) {
+    struct rpr_settings other = plain;
+    start(&plain);
+    tells("not congested", BYTES(255, 0xa0, 2, 0, 0x5e, 0, 0, 1, 0, 0, 255, 255));
+    other.own_address_low++;
+    start(&other);
+    hear("the neighbour's", BYTES(255, 0xa0, 2, 0, 0x5e, 0, 0, 1, 0, 0, 255, 255), 0);
+    other.own_ringlet = 1;
+    start(&other);
+    tells("on ringlet 1", BYTES(255, 0x20, 2, 0, 0x5e, 0, 0, 2, 0, 0, 255, 255));
+    hear("on ringlet 1", BYTES(255, 0x20, 2, 0, 0x5e, 0, 0, 1, 0, 0, 255, 254), 0);
+    expect("congested", show().downstream_congested, 1);
+}
+
+int main(void) {
+    busy();
+    downstream();
+    beyond();
+    busy();
+    local();
+    cleared();
+    wrong_frames();
+    neighbours();
+    return told("fairness: the library answers as document 01 says");
+}
