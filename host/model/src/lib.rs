@@ -16,7 +16,6 @@ pub mod line;
 pub mod make;
 pub mod make_call;
 pub mod make_damage;
-pub mod make_fit;
 pub mod make_station;
 pub mod random;
 pub mod record;

@@ -1,12 +1,14 @@
 //! Damage, and calls on stations out of range: the order of the refusals.
 
 use model::lent_call::{apply, After};
-use model::make_damage::{self, damage, take};
+use model::make_damage::{self, damage, take, Step};
 use model::make_station;
 use model::random::Random;
 use model::station::layout::{put_word, write, STATION_LENGTH};
 use model::station::range::{every_fault, faults, in_range};
+use model::station::settings;
 use model::station_call::Call;
+use std::collections::BTreeSet;
 
 fn plain() -> Vec<u8> {
     write(&make_station::station(&[]))
@@ -147,6 +149,22 @@ fn every_step() {
         same < 90 && inside > 100 && outside > 100,
         "{same} {inside} {outside}"
     );
+}
+
+/// With the rest made to fit, each rule about the settings is broken alone.
+#[test]
+fn settings_alone_out_of_range() {
+    let mut random = Random::new(6);
+    let mut alone = BTreeSet::new();
+    for step in make_damage::every_step() {
+        let mut bytes = plain();
+        take(&mut random, &mut bytes, step);
+        if let (Step::Fitted(..), [fault]) = (step, &faults(&bytes)[..]) {
+            alone.insert(fault.clone());
+        }
+    }
+    let all: BTreeSet<String> = settings::every_fault().into_iter().collect();
+    assert_eq!(alone, all);
 }
 
 #[test]

@@ -134,7 +134,7 @@ pub fn faults(words: &[u64; WORDS]) -> Vec<String> {
 /// Every name that `faults` may give.
 pub fn every_fault() -> Vec<String> {
     let mut names = Vec::new();
-    // With these words no range is empty.
+    // With 1 in each word the ends that another word sets are above 0 too.
     let ranges = ranges(&[1; WORDS]);
     for (name, (least, most)) in NAMES.iter().zip(ranges) {
         if least > 0 {

@@ -151,12 +151,10 @@ fn alone_changed(part: &str, in_range: bool) -> String {
 
 /// The first reason for 2.
 fn reason(call: &Call, bytes: &[u8]) -> &'static str {
-    let Call::Hear(frame) = call else {
-        return if matches!(call, Call::Tell(_)) {
-            "tell"
-        } else {
-            "show"
-        };
+    let frame = match call {
+        Call::Hear(frame) => frame,
+        Call::Tell(_) => return "tell",
+        _ => return "show",
     };
     if frame.len() != fairness::FRAME_LENGTH {
         return "length";

@@ -18,6 +18,8 @@ pub struct Life {
     pub model: Station,
     /// The calls so far, as a script.
     pub script: Vec<String>,
+    /// It began with a start, so calls alone led to its state.
+    pub started: bool,
 }
 
 /// Makes the call on lent bytes and compares its answer and every byte with what the
@@ -60,6 +62,7 @@ impl Life {
             memory: bytes.to_vec(),
             model: layout::read(bytes).ok()?,
             script: vec![format!("a station of the bytes {}", text::encode(bytes))],
+            started: false,
         })
     }
 

@@ -6,6 +6,7 @@ mod difference;
 mod harm;
 mod library;
 mod life;
+mod scenes;
 mod sights;
 
 use self::difference::part_by_part;
@@ -21,6 +22,7 @@ use model::random::Random;
 use model::report::Outcome;
 use model::station::settings::{to_bytes, SETTINGS_LENGTH};
 use model::station::{calls, layout, range};
+use model::station_call::Call;
 use model::tally::{self, Tally};
 use model::text;
 
@@ -64,6 +66,7 @@ impl Trial {
             memory: after,
             model,
             script: vec![line],
+            started: true,
         }))
     }
 
@@ -86,18 +89,21 @@ impl Trial {
         Ok(())
     }
 
-    /// So many random calls, one after the other.
-    fn calls(&mut self, life: &mut Life, habit: &Habit, count: usize) -> Outcome<()> {
-        for _ in 0..count {
-            let call = make_call::call(&mut self.random, &life.model, habit);
-            let answer = life.make(&mut self.random, &call)?;
-            self.tally.count(call.function(), answer, false);
-            self.sights.look(&life.model, &call, answer);
-            if answer as u8 == 0 {
-                life.compare(&mut self.random)?;
-            }
+    fn call(&mut self, life: &mut Life, call: &Call) -> Outcome<()> {
+        let answer = life.make(&mut self.random, call)?;
+        self.tally.count(call.function(), answer, false);
+        if life.started {
+            self.sights.look(&life.model, call, answer);
+        }
+        if answer as u8 == 0 {
+            life.compare(&mut self.random)?;
         }
         Ok(())
+    }
+
+    fn random_call(&mut self, life: &mut Life, habit: &Habit) -> Outcome<()> {
+        let call = make_call::call(&mut self.random, &life.model, habit);
+        self.call(life, &call)
     }
 
     fn another_length(&mut self, life: &Life, habit: &Habit) -> Outcome<()> {
@@ -129,8 +135,8 @@ impl Trial {
             format!("{what}\n  changed: {changed}\n  out of range: {faults}\n  station: {bytes}")
         })?;
         if let Some(mut other) = Life::of_bytes(&bytes) {
-            if self.random.one_in(2) {
-                self.calls(&mut other, habit, 12)?;
+            for _ in 0..self.random.pick(&[0, 12]) {
+                self.random_call(&mut other, habit)?;
             }
         }
         Ok(())
@@ -173,10 +179,10 @@ impl Trial {
             if self.random.one_in(60) {
                 self.another_length(&life, &habit)?;
             }
-            if self.random.one_in(15) {
+            if self.random.one_in(12) {
                 self.damage(&life, &habit)?;
             }
-            self.calls(&mut life, &habit, 1)?;
+            self.random_call(&mut life, &habit)?;
         }
         Ok(())
     }
@@ -188,6 +194,7 @@ impl Trial {
             return Err("a station has another length than the layout says".to_string());
         }
         println!("{} calls until counters stop", counters::stopping()?);
+        scenes::play(self)?;
         while self.tally.calls() < calls {
             self.life()?;
             let words = make_station::settings_near(&mut self.random);

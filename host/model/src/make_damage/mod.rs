@@ -1,12 +1,14 @@
 //! Damage to a station's bytes: changes at the ends of every range and anywhere. What
 //! comes out may be in range or not.
 
-use crate::make_fit;
+mod fit;
+mod queue;
+
 use crate::make_station;
 use crate::random::Random;
 use crate::station::layout::{
-    self, parts, put_word, setting, slot_at, word, Slot, COUNT, CREDITS, FAIRNESS, HEAD, HELD,
-    QUEUES, SETTINGS, STAGE,
+    self, parts, put_word, setting, slot_at, word, Slot, CREDITS, FAIRNESS, HELD, QUEUES, SETTINGS,
+    STAGE,
 };
 use crate::station::queue::SLOTS;
 use crate::station::range::{self, bounds, BOUNDS};
@@ -21,6 +23,8 @@ pub enum Step {
     Setting(usize, usize),
     /// The same, and the rest of the station made to fit it.
     Fitted(usize, usize),
+    /// A word of the state or then of the settings, with a higher bit changed.
+    Bit(usize, usize),
     /// A frame of a queue, or with 3 that of the stage.
     Frame(usize, usize),
     /// Slots, bytes held, head, count and capacity of a queue.
@@ -29,7 +33,9 @@ pub enum Step {
 
 const BOUND_STEPS: usize = 6;
 const FRAME_STEPS: usize = 15;
-const QUEUE_STEPS: usize = 20;
+
+/// Bits that a number cut on its way in would lose.
+const HIGHER: [usize; 4] = [8, 16, 24, 31];
 
 /// Every single change. A station in range of the plain settings tells how many ends a
 /// word of the settings has.
@@ -47,11 +53,14 @@ pub fn every_step() -> Vec<Step> {
         push(Step::Setting, at, 2 * ends);
         push(Step::Fitted, at, 2 * ends);
     }
+    for at in 0..BOUNDS + WORDS {
+        push(Step::Bit, at, HIGHER.len());
+    }
     for holder in 0..=QUEUES.len() {
         push(Step::Frame, holder, FRAME_STEPS);
     }
     for queue in 0..QUEUES.len() {
-        push(Step::Queue, queue, QUEUE_STEPS);
+        push(Step::Queue, queue, queue::STEPS);
     }
     steps
 }
@@ -62,7 +71,15 @@ pub fn take(random: &mut Random, bytes: &mut [u8], step: Step) {
         Step::Setting(at, which) => change_setting(bytes, at, which),
         Step::Fitted(at, which) => {
             change_setting(bytes, at, which);
-            make_fit::fit(bytes, at);
+            fit::fit(bytes, at);
+        }
+        Step::Bit(at, which) => {
+            let place = match at < BOUNDS {
+                true => bounds(bytes)[at].at,
+                false => SETTINGS + 4 * (at - BOUNDS),
+            };
+            let changed = word(bytes, place) ^ 1 << HIGHER[which];
+            put_word(bytes, place, changed);
         }
         Step::Frame(3, which) => {
             let slot = match word(bytes, STAGE) {
@@ -72,8 +89,8 @@ pub fn take(random: &mut Random, bytes: &mut [u8], step: Step) {
             let changed = change_frame(random, slot, which, setting(bytes, 3));
             put_word(bytes, STAGE, changed.word());
         }
-        Step::Frame(queue, which) => change_held(random, bytes, QUEUES[queue], which),
-        Step::Queue(queue, which) => change_queue(random, bytes, queue, which),
+        Step::Frame(queue, which) => queue::change_held(random, bytes, QUEUES[queue], which),
+        Step::Queue(queue, which) => queue::change(random, bytes, queue, which),
     }
 }
 
@@ -182,110 +199,6 @@ fn change_frame(random: &mut Random, slot: Slot, which: usize, mtu: u64) -> Slot
     }
 }
 
-/// Head and count, or what of them makes sense.
-fn ends_of(bytes: &[u8], at: usize) -> (usize, usize) {
-    let (head, count) = (bytes[at + HEAD] as usize, bytes[at + COUNT] as usize);
-    (head % SLOTS, count.min(SLOTS))
-}
-
-/// A frame of the queue changed, the bytes held with it. Where there is none one comes.
-fn change_held(random: &mut Random, bytes: &mut [u8], at: usize, which: usize) {
-    if bytes[at + COUNT] == 0 {
-        refill(random, bytes, at, 1);
-    }
-    let (head, count) = ends_of(bytes, at);
-    let place = slot_at(at, head + random.below(count));
-    let slot = Slot::of_word(word(bytes, place));
-    let changed = change_frame(random, slot, which, setting(bytes, 3));
-    put_word(bytes, place, changed.word());
-    let held = word(bytes, at + HELD) + changed.size;
-    put_word(bytes, at + HELD, held.wrapping_sub(slot.size));
-}
-
-/// So many frames from any slot on, and the bytes that they hold.
-fn refill(random: &mut Random, bytes: &mut [u8], at: usize, count: usize) -> u64 {
-    bytes[at..at + HELD].fill(0);
-    let head = random.below(SLOTS);
-    let mut sum = 0;
-    for behind in 0..count {
-        let slot = frame(random, bytes);
-        sum += slot.size;
-        put_word(bytes, slot_at(at, head + behind), slot.word());
-    }
-    put_word(bytes, at + HELD, sum);
-    bytes[at + HEAD] = head as u8;
-    bytes[at + COUNT] = count as u8;
-    sum
-}
-
-/// All slots moved on, the head with them: the same queue elsewhere.
-fn turn(random: &mut Random, bytes: &mut [u8], at: usize) {
-    let by = 1 + random.below(SLOTS - 1);
-    let (head, _) = ends_of(bytes, at);
-    bytes[at..at + HELD].rotate_right(4 * by);
-    bytes[at + HEAD] = ((head + by) % SLOTS) as u8;
-}
-
-fn change_queue(random: &mut Random, bytes: &mut [u8], queue: usize, which: usize) {
-    let at = QUEUES[queue];
-    match which {
-        0..=8 => change_count(random, bytes, queue, which),
-        9..=11 => change_empty_slot(random, bytes, at, which),
-        12 => bytes[at + HEAD] = bytes[at + HEAD].wrapping_add(1),
-        13 => bytes[at + HEAD] = random.below(SLOTS) as u8,
-        14 => bytes[at + HEAD] = random.pick(&[128, 129, 255]),
-        15 => turn(random, bytes, at),
-        _ => {
-            let most = random.pick(&[1, 8, SLOTS]);
-            let count = match which {
-                16 => SLOTS,
-                17 => random.below(most + 1),
-                _ => random.between(1, SLOTS as i128) as usize,
-            };
-            let sum = refill(random, bytes, at, count);
-            // The capacity is what is held, or one less.
-            if which >= 18 {
-                let capacity = sum - u64::from(which == 19);
-                put_word(bytes, SETTINGS + 4 * (19 + queue), capacity);
-            }
-        }
-    }
-}
-
-/// Bytes held or count changed, the slots not.
-fn change_count(random: &mut Random, bytes: &mut [u8], queue: usize, which: usize) {
-    let at = QUEUES[queue];
-    let (held, count) = (word(bytes, at + HELD), bytes[at + COUNT]);
-    let capacity = setting(bytes, 19 + queue);
-    match which {
-        0 => put_word(bytes, at + HELD, held.wrapping_add(1)),
-        1 => put_word(bytes, at + HELD, held.wrapping_sub(1)),
-        2 => put_word(bytes, at + HELD, capacity),
-        3 => put_word(bytes, at + HELD, capacity + 1),
-        4 => bytes[at + COUNT] = count.wrapping_add(1),
-        5 => bytes[at + COUNT] = count.wrapping_sub(1),
-        6 => bytes[at + COUNT] = 128,
-        7 => bytes[at + COUNT] = random.pick(&[129, 255]),
-        _ => bytes[at + COUNT] = random.below(SLOTS + 1) as u8,
-    }
-}
-
-/// A slot outside the queue's frames made non-zero.
-fn change_empty_slot(random: &mut Random, bytes: &mut [u8], at: usize, which: usize) {
-    let (head, count) = ends_of(bytes, at);
-    if count == SLOTS {
-        return;
-    }
-    let any = count + random.below(SLOTS - count);
-    let behind = random.pick(&[count, SLOTS - 1, any]);
-    let slot = match which {
-        9 => 1,
-        10 => 1 << random.below(32),
-        _ => frame(random, bytes).word(),
-    };
-    put_word(bytes, slot_at(at, head + behind), slot);
-}
-
 /// Two stations mixed: cut in two anywhere or between parts, or part by part.
 fn mix(random: &mut Random, bytes: &mut [u8], other: &[u8]) {
     let parts = parts();
@@ -321,15 +234,6 @@ fn change_byte(random: &mut Random, bytes: &mut [u8]) {
     };
 }
 
-/// The head of a queue without frames, or full of them, may be any slot.
-fn move_head(random: &mut Random, bytes: &mut [u8]) {
-    let free = |queue: &usize| [0, SLOTS].contains(&(bytes[queue + COUNT] as usize));
-    let free: Vec<usize> = QUEUES.into_iter().filter(free).collect();
-    if !free.is_empty() {
-        bytes[random.pick(&free) + HEAD] = random.below(SLOTS) as u8;
-    }
-}
-
 /// Any damage to a station; `other` is one to mix it with.
 pub fn damage(random: &mut Random, bytes: &mut [u8], other: &[u8], steps: &[Step]) {
     let times = random.pick(&[1, 1, 1, 2, 3]);
@@ -340,7 +244,7 @@ pub fn damage(random: &mut Random, bytes: &mut [u8], other: &[u8], steps: &[Step
             bytes.copy_from_slice(&whole);
         }
         5 => bytes.fill(random.pick(&[0, 1, 0xff])),
-        6 | 7 => move_head(random, bytes),
+        6 | 7 => queue::move_head(random, bytes),
         8..=12 => (0..times).for_each(|_| change_byte(random, bytes)),
         _ => (0..times).for_each(|_| {
             let step = random.pick(steps);
