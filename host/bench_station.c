@@ -12,8 +12,12 @@ enum { STATIONS = 16, REPEATS = 300, ROUNDS = 15, N = RPR_STATION_LENGTH };
 static uint8_t stations[STATIONS][N], theirs[STATIONS][N];
 static uint8_t room[RPR_READING_LENGTH], their_room[RPR_READING_LENGTH], settings[RPR_SETTINGS_LENGTH];
 
-/* The stations that are measured: fresh with credit, and with 120 frames in each transit queue and congestion downstream. */
-static uint8_t empty[N], full[N];
+/* The stations that are measured: fresh with credit; with one frame in each transit queue; and with 120 frames in each and
+ * congestion downstream. */
+static uint8_t empty[N], few[N], full[N];
+static const uint8_t *const images[] = {empty, few, full};
+
+enum { IMAGES = sizeof images / sizeof images[0] };
 
 static const uint8_t heard[RPR_FRAME_LENGTH] = {250, 0xa0, 2, 0, 0, 0, 0, 9, 0, 0, 3, 232};
 
@@ -116,6 +120,9 @@ static void set_up(void) {
     memcpy(settings, &s, sizeof s);
     refused |= rpr_start(settings, sizeof settings, empty, N);
     for (int i = 0; i < 10; i++) refused |= rpr_tick(empty, N, 1, 1, 1);
+    memcpy(few, empty, N);
+    refused |= rpr_offer_transit(few, N, RPR_CLASS_A, 1000, 3, 0);
+    refused |= rpr_offer_transit(few, N, RPR_CLASS_C, 1000, 3, 1);
     memcpy(full, empty, N);
     for (unsigned i = 0; i < 120; i++) {
         refused |= rpr_offer_transit(full, N, RPR_CLASS_A, 16 + 37 * i % 1400, 1 + i % 63, 0);
@@ -127,13 +134,15 @@ static void set_up(void) {
 
 void bench_station(void) {
     set_up();
-    puts("\nthe station's calls, ns per call       empty station                   240 frames held");
-    puts("                              library   plain C   library / C   library   plain C   library / C");
+    puts("\nthe station's calls, ns per call   empty station              2 frames held              240 frames held");
+    puts("                            library  plain C     / C   library  plain C     / C   library  plain C     / C");
     for (size_t i = 0; i < sizeof measured / sizeof measured[0]; i++) {
-        compare(measured[i].run, empty, measured[i].name);
-        compare(measured[i].run, full, measured[i].name);
-        struct times e = measure(measured[i].run, empty), f = measure(measured[i].run, full);
-        printf("%-28s %8.1f  %8.1f   %11.2f  %8.1f  %8.1f   %11.2f\n", measured[i].name, e.library, e.plain, e.library / e.plain,
-               f.library, f.plain, f.library / f.plain);
+        printf("%-26s", measured[i].name);
+        for (int k = 0; k < IMAGES; k++) {
+            compare(measured[i].run, images[k], measured[i].name);
+            struct times t = measure(measured[i].run, images[k]);
+            printf(" %8.1f %8.1f %7.2f ", t.library, t.plain, t.library / t.plain);
+        }
+        putchar('\n');
     }
 }

@@ -57,7 +57,7 @@ enum rpr_refusal {
     RPR_RANGE = 3,   /* a frame, station index, summary (its settings too), starting credit or coded choice is outside
                         its range */
 
-    /* Not now: the same call may be carried out after a tick, a selection or an aging interval. */
+    /* Not now: the same call may be carried out after a tick, a selection, an aging interval or a fairness frame. */
     RPR_NO_ROOM = 4,    /* a frame's size exceeds the queue's space */
     RPR_STAGE_FULL = 5, /* the stage already holds a frame */
     RPR_NO_PERMIT = 6,  /* a needed shaper doesn't permit */
@@ -76,7 +76,7 @@ enum rpr_refusal {
 enum rpr_class {
     RPR_CLASS_A = 0, /* reserved; never fairness eligible */
     RPR_CLASS_B = 1, /* reserved up to its share, fairness eligible beyond it */
-    RPR_CLASS_C = 2  /* what is left over: fairness eligible */
+    RPR_CLASS_C = 2  /* what is left over: a client's is fairness eligible, a passing one where it is marked */
 };
 
 /* Yes or no: whether traffic waits, a frame is fairness eligible, a send was permitted and the like. */
@@ -179,8 +179,9 @@ RPR_ANSWERS uint64_t rpr_station_length(void);
  * length), 1 (a setting outside its range). */
 RPR_LENT uint64_t rpr_start(const void *settings, size_t settings_length, void *station, size_t station_length);
 
-/* One tick of the host's clock: adds to each shaper's credit. RPR_YES or RPR_NO says whether client traffic of class A,
- * B and C waits. Refuses 2, 1, 3 (neither yes nor no). */
+/* One tick of the host's clock: adds to each shaper's credit, and cuts the sum to hi_limit where its traffic waits,
+ * else to lo_limit. RPR_YES or RPR_NO says whether client traffic of class A, B and C waits. Refuses 2, 1, 3 (neither
+ * yes nor no). */
 RPR_LENT uint64_t rpr_tick(void *station, size_t station_length, uint64_t a_waits, uint64_t b_waits, uint64_t c_waits);
 
 /* Offers a client frame: class (enum rpr_class), size (16 to mtu) and hops to its destination (1 to 63). Its shapers

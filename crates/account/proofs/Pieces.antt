@@ -1,10 +1,10 @@
 -- Joining the pieces of a cut record gives the summary of the whole, in any grouping.
 -- Assumes nothing.
-use Prim.Native.Nat.{ℕ, _+_, _≤_}
+use Prim.Native.Nat.{ℕ, _+_}
 use mathlib.Core.List.{List, [], _∷_, _++_}
-use mathlib.Core.Path.{_≡_, refl, sym, ap, _∙_}
+use mathlib.Core.Path.{_≡_, sym, ap, _∙_}
 use native.Mathlib.Omega.{arith}
-use lib.ListN.{length, length-append}
+use lib.ListN.{length-append}
 use Rattle.shaper.specs.declared.Limits.{Limits}
 use Rattle.shaper.specs.declared.Event.{Event}
 use Rattle.shaper.specs.Credit.{AllValid}
@@ -12,7 +12,7 @@ use Rattle.wire.specs.Wire.{Bytes}
 use Rattle.summary.specs.declared.Answer.{Answer}
 use Rattle.summary.specs.Summary.{summaryOf}
 use Rattle.summary.proofs.Promises.{join-append}
-use Rattle.record.specs.Record.{written, WellFormed}
+use Rattle.record.specs.Record.{WellFormed}
 use Rattle.record.specs.Read.{whole, readRecord}
 use Rattle.record.proofs.Written.{read-written}
 use Rattle.account.specs.Account.{summarized, summarizeOf}

@@ -1,7 +1,7 @@
 -- What is left of a record has the answer of the whole: at the start, after each event, at a fault and at the end.
 -- Assumes nothing.
-use Prim.Native.Nat.{ℕ, zero, suc, _+_, _-_, _≤_, _<_}
-use mathlib.Core.List.{List, [], _∷_}
+use Prim.Native.Nat.{ℕ, suc, _+_, _-_, _≤_, _<_}
+use mathlib.Core.List.{List, []}
 use mathlib.Core.Path.{_≡_, refl, sym, ap, _∙_}
 use native.Mathlib.Omega.{arith}
 use lib.ListN.{length, drop}
@@ -9,27 +9,25 @@ use Rattle.decide.specs.Test.{Holds}
 use Rattle.shaper.specs.declared.Limits.{Limits}
 use Rattle.shaper.specs.declared.Event.{Event}
 use Rattle.shaper.specs.Limits.{limitsOk}
-use Rattle.shaper.specs.Credit.{AllValid}
-use Rattle.shaper.specs.Kind.{eventOf}
+use Rattle.shaper.specs.Credit.{Valid, AllValid}
+use Rattle.shaper.specs.Kind.{kindOf, numberOf, eventOf}
 use Rattle.wire.specs.Wire.{le, Bytes}
 use Rattle.wire.proofs.Places.{bytes-drop}
 use Rattle.wire.proofs.Numbers.{le-bound}
-use Rattle.plain.specs.Plain.{plainJoined, plainOf}
 use Rattle.tally.specs.declared.Tally.{Tally}
-use Rattle.tally.specs.Tally.{AnEvent, startOf, stepOf, plainAt, Ready}
-use Rattle.tally.proofs.Laws.{step-rest, step-ready, start-rest, start-ready, end-rest}
+use Rattle.tally.specs.Tally.{startOf, stepOf, plainAt, Ready}
+use Rattle.tally.proofs.Laws.{step-rest, step-ready, start-rest, end-rest}
 use Rattle.summary.specs.declared.Answer.{Answer}
-use Rattle.summary.specs.Summary.{summaryOf}
 use Rattle.summary.specs.Plain.{signedFrom}
 use Rattle.summary.proofs.Promises.{summary-signed}
 use Rattle.record.specs.declared.Header.{Header}
 use Rattle.record.specs.declared.Header.the-variants.{Settings, Unreadable}
 use Rattle.record.specs.declared.Step.{Step}
 use Rattle.record.specs.declared.Step.the-variants.{Stands, Faulty}
-use Rattle.record.specs.Read.{Events, faulty, events, onward, readFrom, under, readRecord}
+use Rattle.record.specs.Read.{Events, faulty, events, onward, readFrom, under}
 use Rattle.record.specs.Step.{headerOf, stepAt}
-use Rattle.record.proofs.Fields.{Good, valid-good}
-use Rattle.record.proofs.Steps.{Headed, header-stands, header-faulty, read-end, read-over, GoodAt, read-good, Stood, step-stands, Failed, step-faulty}
+use Rattle.record.proofs.Fields.{event-good, valid-good}
+use Rattle.record.proofs.Steps.{Headed, header-stands, header-faulty, read-end, read-over, GoodAt, read-good, Stood, Failed, step-faulty}
 use Rattle.record.proofs.Written.{Wrote, events-written}
 use Rattle.account.specs.Account.{summarized, summarizeOf}
 use Rattle.account.specs.Rest.{rested, restOf}
@@ -67,15 +65,20 @@ rest-unreadable xs n e = ap summarized (header-faulty xs n e .1)
 
 -- ---- on the way
 
--- good fields at a place of bytes are a valid event's
-good-event-at : (xs : List ℕ) (at : ℕ) (l : Limits) → Bytes xs → GoodAt (l .mtu) xs at → AnEvent l (le 2 xs (at + 2)) (le 2 xs (at + 4))
-good-event-at xs at l b g =
-    let bound = le-bound 2 xs (at + 4) b in
-    record {
-      kind-min = g .first;
-      kind-max = g .last;
-      valid = valid-good (l .mtu) (le 2 xs at) (le 2 xs (at + 2)) (le 2 xs (at + 4)) g l refl (omega arith);
-    }
+-- the event whose kind and number stand at a place
+abbrev eventAt : List ℕ → ℕ → Event
+eventAt xs at = eventOf (le 2 xs (at + 2)) (le 2 xs (at + 4))
+
+module _ (xs : List ℕ) (at : ℕ) (l : Limits) (g : GoodAt (l .mtu) xs at) where
+  -- good fields of bytes are those of a valid event,
+  valid-at : Bytes xs → Valid l (eventAt xs at)
+  valid-at b =
+      let bound = le-bound 2 xs (at + 4) b in
+      valid-good (l .mtu) (le 2 xs at) (le 2 xs (at + 2)) (le 2 xs (at + 4)) g l refl (omega arith)
+
+  -- whose kind and number they are
+  fields-at : (kindOf (eventAt xs at) ≡ le 2 xs (at + 2)) × (numberOf (eventAt xs at) ≡ le 2 xs (at + 4))
+  fields-at = event-good (l .mtu) (le 2 xs at) (le 2 xs (at + 2)) (le 2 xs (at + 4)) g
 
 module _ (l : Limits) (n : ℕ) (t : Tally) (p : Ready l n t) where
   -- at the end the tally is the summary
@@ -83,9 +86,10 @@ module _ (l : Limits) (n : ℕ) (t : Tally) (p : Ready l n t) where
   unfolding restOf
   rest-end xs at h = rw (read-end (l .mtu) (1000000 - n) xs at h) (ap (λ q. Answer.Summed (signedFrom q)) (end-rest l n t p))
 
-  step-by : (k v : ℕ) → AnEvent l k v → (r : Events) → ValidEvents l r → rested l (plainAt l n t) (onward 0 (eventOf k v) r) ≡ rested l (plainAt l (n + 1) (stepOf (l .hi - l .lo) k v t)) r
-  step-by k v e (faulty m) w = refl
-  step-by k v e (events es) w = ap (λ q. Answer.Summed (signedFrom q)) (step-rest l n t p k v e es w)
+  step-by : (e : Event) → Valid l e → (r : Events) → ValidEvents l r →
+      rested l (plainAt l n t) (onward 0 e r) ≡ rested l (plainAt l (n + 1) (stepOf (l .hi - l .lo) (kindOf e) (numberOf e) t)) r
+  step-by e v (faulty m) w = refl
+  step-by e v (events es) w = ap (λ q. Answer.Summed (signedFrom q)) (step-rest l n t p e v es w)
 
   module _ (xs : List ℕ) (at : ℕ) (few : n < 1000000) where
     left-is : 1000000 - n ≡ suc (1000000 - (n + 1))
@@ -95,11 +99,15 @@ module _ (l : Limits) (n : ℕ) (t : Tally) (p : Ready l n t) where
     pub rest-good : Bytes xs → at + 6 ≤ length xs → GoodAt (l .mtu) xs at → restOf l n t (drop at xs) ≡ restOf l (n + 1) (stepOf (l .hi - l .lo) (le 2 xs (at + 2)) (le 2 xs (at + 4)) t) (drop (at + 6) xs)
     unfolding restOf
     rest-good b h g =
-        rw (left-is, read-good (l .mtu) xs at (1000000 - (n + 1)) h g)
-        (step-by (le 2 xs (at + 2)) (le 2 xs (at + 4)) (good-event-at xs at l b g) (readFrom (l .mtu) (1000000 - (n + 1)) (drop (at + 6) xs)) (valid-read l (1000000 - (n + 1)) (drop (at + 6) xs) (bytes-drop (at + 6) xs b)))
+        let f = fields-at xs at l g in
+        let left = 1000000 - (n + 1) in
+        rw (left-is, read-good (l .mtu) xs at left h g)
+        (rw (f .0, f .1) at (step-by (eventAt xs at) (valid-at xs at l g b) (readFrom (l .mtu) left (drop (at + 6) xs)) (valid-read l left (drop (at + 6) xs) (bytes-drop (at + 6) xs b))))
 
     pub rest-good-ready : Bytes xs → GoodAt (l .mtu) xs at → Ready l (n + 1) (stepOf (l .hi - l .lo) (le 2 xs (at + 2)) (le 2 xs (at + 4)) t)
-    rest-good-ready b g = step-ready l n t p (le 2 xs (at + 2)) (le 2 xs (at + 4)) (good-event-at xs at l b g) few
+    rest-good-ready b g =
+        let f = fields-at xs at l g in
+        rw (f .0, f .1) at (step-ready l n t p (eventAt xs at) (valid-at xs at l g b) few)
 
     -- a fault at a place
     pub rest-faulty : (f : ℕ) → stepAt (l .mtu) xs at ≡ Faulty f → restOf l n t (drop at xs) ≡ Answer.Refused f

@@ -12,11 +12,11 @@ use Rattle.wire.proofs.Numbers.{be-bound}
 use Rattle.wire.proofs.Laid.{be-part}
 use Rattle.advert.specs.declared.Advert.{Advert}
 use Rattle.advert.specs.declared.Parsed.the-variants.{Frame}
-use Rattle.advert.specs.Frame.{baseOf, addressOf, partsOf, advertBytes, Fits}
+use Rattle.advert.specs.Frame.{advertLength, baseOf, addressOf, partsOf, advertBytes, AdvertFits}
 use Rattle.advert.specs.Frame.{ttlIn, baseIn, addressIn, headerIn, rateIn, ringletIn, whole, advertIn, parsedOf}
 use Rattle.advert.proofs.Parsing.{parsed-whole}
 
-pub written-length : (a : Advert) → length (advertBytes a) ≡ 12
+pub written-length : (a : Advert) → length (advertBytes a) ≡ advertLength
 unfolding advertBytes
 written-length a = length-laidOut (partsOf a)
 
@@ -47,7 +47,7 @@ written-whole a =
     let h = written-header a in
     parsed-whole (advertBytes a) (passes (whole (advertBytes a)) (written-length a, (omega arith, omega arith)))
 
-module _ (a : Advert) (f : Fits a) where
+module _ (a : Advert) (f : AdvertFits a) where
   address-back : addressIn (advertBytes a) ≡ addressOf a
   address-back = back a 2 6 (addressOf a) refl (omega arith)
 
@@ -67,7 +67,7 @@ module _ (a : Advert) (f : Fits a) where
   parse-written = written-whole a ∙ ap Frame said
 
 -- what bytes say fits a frame
-pub parsed-fits : (xs : List ℕ) → Bytes xs → Fits (advertIn xs)
+pub parsed-fits : (xs : List ℕ) → Bytes xs → AdvertFits (advertIn xs)
 parsed-fits xs b =
     let base : be 1 xs 1 < 256 = be-bound 1 xs 1 b in
     let address : be 6 xs 2 < 281474976710656 = be-bound 6 xs 2 b in

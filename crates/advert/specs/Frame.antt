@@ -12,6 +12,10 @@ use Rattle.advert.specs.declared.Advert.{Advert}
 use Rattle.advert.specs.declared.Parsed.{Parsed}
 use Rattle.advert.specs.declared.Parsed.the-variants.{Frame, Refused}
 
+-- how many bytes a frame has
+abbrev pub advertLength : ℕ
+advertLength = 12
+
 -- ---- written
 
 -- bit 7 ringlet, bits 5 to 4 frame type, 2 = fairness. Other bits are written 0.
@@ -37,7 +41,7 @@ unfoldable pub advertBytes : Advert → List ℕ
 advertBytes a = laidOut (partsOf a)
 
 -- what a frame can hold
-pub record Fits (a : Advert) : Type 0 where
+pub record AdvertFits (a : Advert) : Type 0 where
   pub ringlet-fits : a .ringlet < 2
   pub ttl-fits : a .ttl < 256
   pub high-fits : a .high < 65536
@@ -73,7 +77,7 @@ kindIn xs = headerIn xs / 8192
 
 -- Another length, type, header kind: 2. This is none of these.
 abbrev pub whole : List ℕ → Test
-whole xs = (length xs ≡? 12) ∧? (typeIn xs ≡? 2) ∧? (kindIn xs ≡? 0)
+whole xs = (length xs ≡? advertLength) ∧? (typeIn xs ≡? 2) ∧? (kindIn xs ≡? 0)
 
 -- what a whole frame says
 abbrev pub advertIn : List ℕ → Advert

@@ -4,7 +4,7 @@ ghost use Prim.Native.Nat.{_<_};
 ghost use lib.ListN.{length};
 ghost use Rattle.decide.specs.Test.{test};
 ghost use Rattle.wire.specs.Wire.{be, digitsBe, put};
-ghost use Rattle.advert.specs.Frame.{advertBytes, whole, advertIn, parsedOf};
+ghost use Rattle.advert.specs.Frame.{advertLength, advertBytes, whole, advertIn, parsedOf};
 
 // How many bytes a fairness frame has.
 pub const LENGTH: usize = 12;
@@ -31,7 +31,7 @@ pub enum Parsed {
 
 // Writes the frame to `room`. Of the ringlet the lowest bit is written, and of the high part of the address the low 16 bits.
 pub fn write(advert: Advert, room: &mut [u8])
-    requires { ⌜ length (now room) ≡ 12 ⌝ }
+    requires { ⌜ length (now room) ≡ advertLength ⌝ }
     ensures { λ _. ⌜ now (room .exit) ≡ advertBytes advert ⌝ }
 {
     let address = advert.high as u64 * 4294967296 + advert.low as u64;
@@ -70,7 +70,7 @@ pub fn is_whole(frame: &[u8]) -> bool
 
 // What a whole frame says.
 fn read(frame: &[u8]) -> Advert
-    requires { ⌜ length (now frame) ≡ 12 ⌝ }
+    requires { ⌜ length (now frame) ≡ advertLength ⌝ }
     ensures { λ r. ⌜ r ≡ advertIn (now (frame .entry)) ⌝ }
 {
     let ttl = get8(frame, 0);

@@ -9,7 +9,7 @@ use Rattle.decide.specs.Refusal.{firstOf}
 use Rattle.decide.proofs.Refusal.{in-order}
 use Rattle.advert.specs.declared.Advert.{Advert}
 use Rattle.advert.specs.declared.Parsed.the-variants.{Frame}
-use Rattle.advert.specs.Frame.{advertBytes, parsedOf, Fits}
+use Rattle.advert.specs.Frame.{advertBytes, parsedOf, AdvertFits}
 use Rattle.advert.proofs.ReadBack.{parse-written}
 use Rattle.settings.specs.declared.Settings.{Settings}
 use Rattle.settings.specs.Range.{SettingsOk}
@@ -20,7 +20,7 @@ use Rattle.fair.proofs.Told.{told-each}
 
 -- a frame that fits, has a ttl in range and bears the other ringlet's bit
 pub record Sound (s : Settings) (a : Advert) : Type 0 where
-  pub fits : Fits a
+  pub fits : AdvertFits a
   pub ttl-least : 193 ≤ a .ttl
   pub ttl-most : a .ttl ≤ 255
   pub bit : a .ringlet ≡ otherRinglet s

@@ -37,7 +37,7 @@ use Rattle.account.proofs.Rest.{rest-unreadable}
 use Rattle.feed.specs.declared.Stage.{Stage}
 use Rattle.feed.specs.declared.Stage.the-variants.{Heading, Summing, Stopped}
 use Rattle.feed.specs.declared.Feed.{Feed}
-use Rattle.feed.specs.Feed.{stageOf, countedOf, openedBy, passedBy, nextStage, heldOn, fedByte, startOf, fedOf, finishOf}
+use Rattle.feed.specs.Feed.{stageOf, countedOf, openedBy, passedBy, nextStage, heldByte, fedByte, startOf, fedOf, finishOf}
 use Rattle.feed.proofs.Rows.{hold-more, hold-whole, byte-heading, byte-over, byte-event, byte-stopped, finish-heading, finish-whole, finish-cut, finish-stopped}
 use Rattle.feed.proofs.More.{counted-more}
 use Rattle.feed.proofs.Fronts.{header-front, event-front}
@@ -167,13 +167,13 @@ module _ (f : Feed) (xs : List ℕ) (b : ℕ) (r : Reached f xs) (small : b < 25
       one (suc j) = omega arith
 
   -- it is held,
-  held-more : (last : ℕ) → f .held < last → last ≤ 13 → Told (f .stage) (heldOf f ++ (b ∷ [])) (xs ++ (b ∷ [])) → fedByte f b ≡ heldOn last f b → Reached (fedByte f b) (xs ++ (b ∷ []))
+  held-more : (last : ℕ) → f .held < last → last ≤ 13 → Told (f .stage) (heldOf f ++ (b ∷ [])) (xs ++ (b ∷ [])) → fedByte f b ≡ heldByte last f b → Reached (fedByte f b) (xs ++ (b ∷ []))
   held-more last h k t e =
       rw (e, hold-more last f b h)
       (record { full = kept; place = omega arith; bytes = rw grown all-bytes; told = rw grown t })
 
   -- or makes a header or an event whole
-  held-whole : (last : ℕ) → last ≤ f .held → Told (nextStage (f .stage) (set (f .pending) (f .held) b)) [] (xs ++ (b ∷ [])) → fedByte f b ≡ heldOn last f b → Reached (fedByte f b) (xs ++ (b ∷ []))
+  held-whole : (last : ℕ) → last ≤ f .held → Told (nextStage (f .stage) (set (f .pending) (f .held) b)) [] (xs ++ (b ∷ [])) → fedByte f b ≡ heldByte last f b → Reached (fedByte f b) (xs ++ (b ∷ []))
   held-whole last h t e = rw (e, hold-whole last f b h) (record { full = kept; place = omega arith; bytes = λ j. omega arith; told = t })
 
   -- in the header,

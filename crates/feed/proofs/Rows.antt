@@ -21,7 +21,7 @@ use Rattle.record.specs.Step.{headerOf, stepAt}
 use Rattle.feed.specs.declared.Stage.{Stage}
 use Rattle.feed.specs.declared.Stage.the-variants.{Heading, Summing, Stopped}
 use Rattle.feed.specs.declared.Feed.{Feed}
-use Rattle.feed.specs.Feed.{stageOf, countedOf, nextStage, heldOn, stoppedAt, fedByte, fedOf, finishOf}
+use Rattle.feed.specs.Feed.{stageOf, countedOf, nextStage, heldByte, stoppedAt, fedByte, fedOf, finishOf}
 
 -- ---- one event more
 
@@ -61,18 +61,18 @@ module _ (g : Stage) (xs : List ℕ) where
 -- ---- a byte more
 
 module _ (last : ℕ) (f : Feed) (b : ℕ) where
-  pub hold-more : f .held < last → heldOn last f b ≡ record { stage = f .stage; pending = set (f .pending) (f .held) b; held = f .held + 1 }
-  unfolding heldOn
+  pub hold-more : f .held < last → heldByte last f b ≡ record { stage = f .stage; pending = set (f .pending) (f .held) b; held = f .held + 1 }
+  unfolding heldByte
   hold-more h = rw (lt-ltb (f .held) last h)
 
   pub hold-whole : last ≤ f .held →
-      heldOn last f b ≡ record { stage = nextStage (f .stage) (set (f .pending) (f .held) b); pending = set (f .pending) (f .held) b; held = 0 }
-  unfolding heldOn
+      heldByte last f b ≡ record { stage = nextStage (f .stage) (set (f .pending) (f .held) b); pending = set (f .pending) (f .held) b; held = 0 }
+  unfolding heldByte
   hold-whole h = rw (le-ltb (f .held) last h)
 
 module _ (f : Feed) (b : ℕ) where
   -- a header has 14 bytes
-  pub byte-heading : f .stage ≡ Heading → fedByte f b ≡ heldOn 13 f b
+  pub byte-heading : f .stage ≡ Heading → fedByte f b ≡ heldByte 13 f b
   unfolding fedByte
   byte-heading p = rw p
 
@@ -82,7 +82,7 @@ module _ (f : Feed) (b : ℕ) where
   byte-over s p h = rw (p, le-leb 1000000 (s .events) h)
 
   -- an event has 6 bytes
-  pub byte-event : (s : Summary) → f .stage ≡ Summing s → s .events < 1000000 → fedByte f b ≡ heldOn 5 f b
+  pub byte-event : (s : Summary) → f .stage ≡ Summing s → s .events < 1000000 → fedByte f b ≡ heldByte 5 f b
   unfolding fedByte
   byte-event s p h = rw (p, lt-leb 1000000 (s .events) h)
 

@@ -50,8 +50,8 @@ nextStage (Stopped n) xs = Stopped n
 -- ---- a byte more
 
 -- before the last place the byte is held; at the last place what is held is whole
-unfoldable pub heldOn : ℕ → Feed → ℕ → Feed
-heldOn last f b =
+unfoldable pub heldByte : ℕ → Feed → ℕ → Feed
+heldByte last f b =
     cond (ltb (f .held) last)
     (record { stage = f .stage; pending = set (f .pending) (f .held) b; held = f .held + 1 })
     (record {
@@ -66,8 +66,8 @@ stoppedAt f n = record { stage = Stopped n; pending = f .pending; held = f .held
 
 -- A header has 14 bytes and an event 6. Within a record the earliest fault counts, and any byte after the millionth event gives 9.
 abbrev pub fedAt : Stage → Feed → ℕ → Feed
-fedAt Heading f b = heldOn 13 f b
-fedAt (Summing s) f b = cond (leb 1000000 (s .events)) (stoppedAt f 9) (heldOn 5 f b)
+fedAt Heading f b = heldByte 13 f b
+fedAt (Summing s) f b = cond (leb 1000000 (s .events)) (stoppedAt f 9) (heldByte 5 f b)
 fedAt (Stopped n) f b = f
 
 unfoldable pub fedByte : Feed → ℕ → Feed

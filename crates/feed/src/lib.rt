@@ -3,7 +3,7 @@ ghost use mathlib.Core.Path.{_≡_};
 ghost use lib.ListN.{set};
 ghost use Rattle.summary.specs.Answer.{singleAnswer};
 ghost use Rattle.shaper.specs.Kind.{eventOf};
-ghost use Rattle.feed.specs.Feed.{startOf, stageOf, countedOf, nextStage, heldOn, stoppedAt, fedByte, fedOf, finishOf};
+ghost use Rattle.feed.specs.Feed.{startOf, stageOf, countedOf, nextStage, heldByte, stoppedAt, fedByte, fedOf, finishOf};
 use record::Header;
 use record::Step;
 use shaper::Limits;
@@ -91,7 +91,7 @@ impl Feed {
 
     // The byte held; the one at the last place makes the header or the event whole.
     fn hold(self, last: u8, b: u8) -> Feed
-        ensures { λ r. ⌜ r ≡ heldOn last self b ⌝ }
+        ensures { λ r. ⌜ r ≡ heldByte last self b ⌝ }
     {
         let held = self.held;
         let before = self.pending;

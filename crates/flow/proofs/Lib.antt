@@ -4,6 +4,7 @@ pub mod Held
 pub mod Tick
 pub mod Offer
 pub mod Select
+pub mod Picking
 pub mod Ready
 pub mod Kept
 pub mod Events

@@ -4,4 +4,5 @@ pub mod Range
 pub mod Tick
 pub mod Offer
 pub mod Select
+pub mod Pick
 pub mod Events

@@ -17,6 +17,7 @@ mod offers;
 mod selection;
 
 use queue::Frame;
+use queue::Front;
 use queue::Queue;
 use settings::Bucket;
 use settings::Settings;
@@ -78,7 +79,24 @@ pub struct Client {
     pub flow: Flow,
 }
 
-// What goes next: where it comes from (0 nothing, 1 control, 2 primary, 3 secondary, 4 stage), the frame, and the flow afterwards.
+// What a selection looks at: the credits, the stage's word, and the front of each queue.
+pub struct Sight {
+    pub credits: Credits,
+    pub stage: u32,
+    pub control: Front,
+    pub primary: Front,
+    pub secondary: Front,
+}
+
+// What goes next: where it comes from (0 nothing, 1 control, 2 primary, 3 secondary, 4 stage), the frame, and the credits and the stage's word afterwards.
+pub struct Pick {
+    pub origin: u32,
+    pub frame: Frame,
+    pub credits: Credits,
+    pub stage: u32,
+}
+
+// What the table selects: where it comes from, the frame, and the whole flow afterwards. `pick` and `leave` are its two halves.
 pub struct Selected {
     pub origin: u32,
     pub frame: Frame,

@@ -15,19 +15,19 @@ use Rattle.wire.specs.Wire.{Bytes}
 use Rattle.account.specs.Account.{summarizeOf}
 use Rattle.hex.specs.declared.Glyph.{Glyph}
 use Rattle.hex.specs.declared.Glyph.the-variants.{Digit, Blank, Other}
-use Rattle.hex.specs.Hex.{isWithin, glyphOf, passes, allHex, digitsOf, pairs, textOf}
+use Rattle.hex.specs.Hex.{isWithin, glyphOf, unlessOther, allHex, digitsOf, pairs, textOf}
 use Rattle.hex.proofs.Rows.{glyph-decimal, glyph-upper, glyph-lower}
 
 -- ---- 2 before all else
 
-passes-false : (g : Glyph) → passes g false ≡ false
-passes-false (Digit d) = refl
-passes-false Blank = refl
-passes-false Other = refl
+unless-false : (g : Glyph) → unlessOther g false ≡ false
+unless-false (Digit d) = refl
+unless-false Blank = refl
+unless-false Other = refl
 
 not-all-hex : (xs ys : List ℕ) (c : ℕ) → glyphOf c ≡ Other → allHex (xs ++ (c ∷ ys)) ≡ false
 not-all-hex [] ys c g = rw g
-not-all-hex (x ∷ xs) ys c g = rw (not-all-hex xs ys c g) (passes-false (glyphOf x))
+not-all-hex (x ∷ xs) ys c g = rw (not-all-hex xs ys c g) (unless-false (glyphOf x))
 
 -- Other text, anywhere, is 2.
 pub text-other : (xs ys : List ℕ) (c : ℕ) → glyphOf c ≡ Other → textOf (xs ++ (c ∷ ys)) ≡ Answer.Refused 2

@@ -28,15 +28,16 @@ glyphOf c =
 
 -- ---- a text
 
--- whether no character is other text
-abbrev pub passes : Glyph → Bool → Bool
-passes (Digit d) b = b
-passes Blank b = b
-passes Other b = false
+-- what is said of the characters behind, unless this one is other text
+abbrev pub unlessOther : Glyph → Bool → Bool
+unlessOther (Digit d) b = b
+unlessOther Blank b = b
+unlessOther Other b = false
 
+-- whether no character is other text
 abbrev pub allHex : List ℕ → Bool
 allHex [] = true
-allHex (c ∷ cs) = passes (glyphOf c) (allHex cs)
+allHex (c ∷ cs) = unlessOther (glyphOf c) (allHex cs)
 
 -- its digits' values, in order; blanks are skipped, also between the two digits of a byte
 abbrev pub onto : Glyph → List ℕ → List ℕ

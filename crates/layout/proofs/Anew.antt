@@ -1,12 +1,13 @@
 -- A station's bytes, one part of them written anew: they are those of the station with that part anew. So a call writes what it changes, and no more.
 -- Assumes nothing.
 use Prim.Native.Nat.{ℕ, _+_, _%_, _≤_}
+use mathlib.Core.List.{[], _∷_, _++_}
 use mathlib.Core.Path.{_≡_, refl, sym, ap, _∙_}
 use native.Mathlib.Omega.{arith}
 use lib.ListN.{length}
 use Rattle.wire.specs.Wire.{digits, put}
 use Rattle.wire.proofs.Numbers.{digits-mod}
-use Rattle.settings.specs.Words.{word}
+use Rattle.settings.specs.Words.{word, settingsPart}
 use Rattle.queue.specs.declared.Queue.{Queue}
 use Rattle.queue.specs.Queue.{pushed}
 use Rattle.flow.specs.declared.Credits.{Credits}
@@ -14,12 +15,14 @@ use Rattle.flow.specs.declared.Line.{Line}
 use Rattle.flow.specs.declared.Line.the-variants.{Control, Primary, Secondary}
 use Rattle.flow.specs.Parts.{withCredits, withStage, withQueue}
 use Rattle.fair.specs.declared.Fair.{Fair}
+use Rattle.fair.specs.declared.Four.{Four}
+use Rattle.fair.specs.Count.{withCounters}
 use Rattle.station.specs.declared.Station.{Station}
 use Rattle.station.specs.Answers.{withFlow, withFair}
 use Rattle.station.specs.Offers.{givenFrame}
-use Rattle.slots.specs.Slots.{wordsBytes, queueBytes, queuePart}
+use Rattle.slots.specs.Slots.{queueLength, wordsBytes, queueBytes, queuePart}
 use Rattle.slots.proofs.Anew.{put-anew}
-use Rattle.layout.specs.Layout.{stationLength, wordsPart, creditsWords, fairWords, stationBytes, placeOf}
+use Rattle.layout.specs.Layout.{stationLength, wordsPart, creditsWords, fourWords, decidedWords, receivedWords, fairWords, stationBytes, placeOf}
 use Rattle.layout.proofs.Round.{Slotted, parts}
 
 module _ (st : Station) (e : Slotted st) where
@@ -41,6 +44,26 @@ module _ (st : Station) (e : Slotted st) where
   unfolding stationBytes
   fair-put f = put-anew (parts st e) 5 (wordsPart (fairWords f)) (omega arith) refl
 
+  -- the counters, which stand first in the fairness state
+  pub counters-put : (c : Four) → put (stationBytes st) 1578 (wordsBytes (fourWords c)) ≡ stationBytes (withFair st (withCounters c (st .fair)))
+  unfolding stationBytes digits wordsBytes
+  counters-put c =
+      let f : Fair = st .fair in
+      put-anew
+      (wordsPart (creditsWords (st .flow .credits))
+      ∷ queuePart (st .flow .control) (e .0)
+      ∷ queuePart (st .flow .primary) (e .1)
+      ∷ queuePart (st .flow .secondary) (e .2)
+      ∷ word (st .flow .stage)
+      ∷ wordsPart (fourWords (f .counters))
+      ∷ wordsPart (fourWords (f .smoothed) ++ decidedWords f ++ receivedWords f)
+      ∷ settingsPart (st .settings)
+      ∷ [])
+      5
+      (wordsPart (fourWords c))
+      (omega arith)
+      refl
+
   -- a queue of 128 slots for one of 128 slots
   pub queue-slotted : (l : Line) (q : Queue) → length (q .slots) ≡ 128 → Slotted (withFlow st (withQueue (st .flow) l q))
   queue-slotted Control q n = (n, e .1, e .2)
@@ -48,7 +71,7 @@ module _ (st : Station) (e : Slotted st) where
   queue-slotted Secondary q n = (e .0, e .1, n)
 
 -- a queue's place is within a station's bytes
-pub place-within : (l : Line) → placeOf l + 518 ≤ stationLength
+pub place-within : (l : Line) → placeOf l + queueLength ≤ stationLength
 place-within Control = omega arith
 place-within Primary = omega arith
 place-within Secondary = omega arith

@@ -8,7 +8,7 @@ use native.Mathlib.Omega.{arith}
 use lib.ListN.{length}
 use Rattle.decide.specs.Test.{split, _≡?_}
 use Rattle.wire.specs.Wire.{Bytes}
-use Rattle.wire.specs.Parts.{Part, nth, offset, length-laidOut}
+use Rattle.wire.specs.Parts.{Part, bytesPart, nth, offset, length-laidOut}
 use Rattle.wire.proofs.Places.{Stands, stands-whole}
 use Rattle.wire.proofs.Numbers.{digits-stand, digits-bytes, le-bound, le-stands}
 use Rattle.wire.proofs.Laid.{part-stands, whole-standing}
@@ -30,10 +30,10 @@ use Rattle.station.specs.Show.{heldOn, readingOf}
 use Rattle.station.proofs.Hear.{held-none, held-one}
 use Rattle.slots.specs.Slots.{queueBytes, queuePart, WordsFit}
 use Rattle.slots.proofs.Round as slots
-use Rattle.layout.specs.Layout.{stationLength, whole, creditsWords, creditsAt, fairWords, fairAt}
+use Rattle.layout.specs.Layout.{stationLength, creditsWords, creditsAt, fairWords, fairAt}
 use Rattle.layout.specs.Layout.{stationParts, stationBytes, stationAt, StationFits}
 use Rattle.layout.specs.Reading.{readingLength, heldWords, heldAt, readingParts, readingBytes, readingAt, ReadingFits}
-use Rattle.layout.proofs.Words.{words-bytes, words-stand, words-fit}
+use Rattle.layout.proofs.Words.{words-stand, words-fit}
 use Rattle.layout.proofs.Groups.{credits-back, held-back, fair-back, credits-read, held-read, fair-read}
 
 -- ---- a queue has its 128 slots
@@ -43,9 +43,6 @@ Slotted st = (length (st .flow .control .slots) ≡ 128) × (length (st .flow .p
 
 pub fits-slotted : {st : Station} → StationFits st → Slotted st
 fits-slotted f = (f .of-control .many, f .of-primary .many, f .of-secondary .many)
-
-pub in-range-slotted : {st : Station} → StationOk st → Slotted st
-in-range-slotted ok = (ok .flow .queues Control .slots, ok .flow .queues Primary .slots, ok .flow .queues Secondary .slots)
 
 -- a station's parts, with each queue 518 bytes
 abbrev pub parts : (st : Station) → Slotted st → List Part
@@ -82,15 +79,15 @@ pub station-bytes : (st : Station) → Bytes (stationBytes st)
 unfolding stationBytes
 station-bytes st =
     laidOut-bytes
-    (stationParts (whole (queueBytes (st .flow .control))) (whole (queueBytes (st .flow .primary))) (whole (queueBytes (st .flow .secondary))) st) (
-      words-bytes (creditsWords (st .flow .credits)),
+    (stationParts (bytesPart (queueBytes (st .flow .control))) (bytesPart (queueBytes (st .flow .primary))) (bytesPart (queueBytes (st .flow .secondary))) st) (
+      slots.words-bytes (creditsWords (st .flow .credits)),
       (
         slots.queue-bytes (st .flow .control),
         (
           slots.queue-bytes (st .flow .primary),
           (
             slots.queue-bytes (st .flow .secondary),
-            (digits-bytes 4 (st .flow .stage), (words-bytes (fairWords (st .fair)), (settings.settings-bytes (st .settings), tt))),
+            (digits-bytes 4 (st .flow .stage), (slots.words-bytes (fairWords (st .fair)), (settings.settings-bytes (st .settings), tt))),
           ),
         ),
       ),
@@ -140,16 +137,16 @@ module _ (xs : List ℕ) (b : Bytes xs) where
 -- ---- a station in range fits
 
 -- where the low words of addresses, of which the range says nothing, are numbers of 32 bits
-pub in-range-fits : (st : Station) → StationOk st → Narrow st → StationFits st
-in-range-fits st ok n =
+pub station-in-range-fits : (st : Station) → StationOk st → Narrow st → StationFits st
+station-in-range-fits st ok n =
     let s : SettingsOk (st .settings) = ok .settings in
     let f : FairOk (st .settings) (st .fair) = ok .fair in
     let w : FlowOk (st .settings) (st .flow) = ok .flow in
     record {
       of-credits = omega (arith, w .credits M, w .credits A, w .credits B, w .credits C, w .credits D);
-      of-control = slots.in-range-fits (st .settings .mtu) (st .settings .queues .control) (st .flow .control) (s .of-queues .control-most) (w .queues Control);
-      of-primary = slots.in-range-fits (st .settings .mtu) (st .settings .queues .primary) (st .flow .primary) (s .of-queues .primary-most) (w .queues Primary);
-      of-secondary = slots.in-range-fits (st .settings .mtu) (st .settings .queues .secondary) (st .flow .secondary) (s .of-queues .secondary-most) (w .queues Secondary);
+      of-control = slots.queue-in-range-fits (st .settings .mtu) (st .settings .queues .control) (st .flow .control) (s .of-queues .control-most) (w .queues Control);
+      of-primary = slots.queue-in-range-fits (st .settings .mtu) (st .settings .queues .primary) (st .flow .primary) (s .of-queues .primary-most) (w .queues Primary);
+      of-secondary = slots.queue-in-range-fits (st .settings .mtu) (st .settings .queues .secondary) (st .flow .secondary) (s .of-queues .secondary-most) (w .queues Secondary);
       of-stage = ⊎-elim (λ (e : st .flow .stage ≡ 0). omega arith) (λ h. omega (arith, h .mark)) (w .stage);
       of-fair = omega (arith, s .of-fairness .unreserved-most);
       of-settings = settings.in-range-fit (st .settings) s (n .own-low);
@@ -178,21 +175,6 @@ reading-back xs r f s =
 -- A reading whose numbers fit is read back as it was written.
 pub reading-of-bytes : (r : Reading) → ReadingFits r → readingAt (readingBytes r) ≡ r
 reading-of-bytes r f = reading-back (readingBytes r) r f (stands-whole (readingBytes r))
-
--- what is written are bytes
-pub reading-bytes : (r : Reading) → Bytes (readingBytes r)
-unfolding readingBytes
-reading-bytes r =
-    laidOut-bytes (readingParts r) (
-      words-bytes (creditsWords (r .credits)),
-      (
-        words-bytes (heldWords (r .control)),
-        (
-          words-bytes (heldWords (r .primary)),
-          (words-bytes (heldWords (r .secondary)), (words-bytes (heldWords (r .stage)), (words-bytes (fairWords (r .fair)), tt))),
-        ),
-      ),
-    )
 
 -- Every 124 bytes hold one reading, and it writes them again.
 pub bytes-of-reading : (xs : List ℕ) → Bytes xs → length xs ≡ readingLength → readingBytes (readingAt xs) ≡ xs

@@ -1,20 +1,19 @@
 -- Words that stand one behind the other: read where they stand, standing where they are read, each at its own offset.
 -- Assumes nothing.
-use Prim.Native.Nat.{ℕ, suc, _+_, _*_, _≤_}
+use Prim.Native.Nat.{ℕ, _+_, _*_, _≤_}
 use mathlib.Core.List.{List, [], _∷_, _++_, append-assoc}
-use mathlib.Core.Path.{_≡_, refl, sym, ap, subst, _∙_}
-use native.Mathlib.Nat.{add-zero, add-assoc}
+use mathlib.Core.Path.{_≡_, refl, ap, subst, _∙_}
+use native.Mathlib.Nat.{add-assoc}
 use native.Mathlib.Omega.{arith}
 use lib.ListN.{length}
 use Rattle.wire.specs.Wire.{le, digits, put, Bytes}
-use Rattle.wire.specs.Parts.{Part, laidOut, sizes, laid, nth, offset}
+use Rattle.wire.specs.Parts.{Part, laidOut, sizes, laid}
 use Rattle.wire.proofs.Places.{Stands}
-use Rattle.wire.proofs.Numbers.{digits-stand, digits-bytes, le-bound, le-stands}
-use Rattle.wire.proofs.Laid.{laid-put, part-stands}
+use Rattle.wire.proofs.Laid.{laid-put}
 use Rattle.settings.specs.Words.{word}
-use Rattle.wire.proofs.Placed.{Behind, Placed, placed-stand, AllBytes, laidOut-bytes}
 use Rattle.fair.specs.declared.Fair.{Fair}
-use Rattle.slots.specs.Slots.{wordsBytes, WordsFit}
+use Rattle.slots.specs.Slots.{wordsBytes, wordsAt, WordsFit}
+use Rattle.slots.proofs.Round as slots
 use Rattle.layout.specs.Layout.{wordsPart, fourWords, decidedWords, receivedWords, fairWords}
 
 -- each word as a part
@@ -42,13 +41,6 @@ pub fair-groups : (f : Fair) →
 unfolding wordsBytes
 fair-groups f = simp append-assoc
 
-pub words-bytes : (vs : List ℕ) → Bytes (wordsBytes vs)
-words-bytes vs = subst Bytes (laid-words vs) (laidOut-bytes (words vs) (each vs))
-  where
-    each : (vs : List ℕ) → AllBytes (words vs)
-    each [] = tt
-    each (v ∷ vs) = (digits-bytes 4 v, each vs)
-
 -- ---- what is read
 
 -- the words that are read k bytes and more behind at
@@ -62,39 +54,37 @@ Read xs at [] = Unit {0}
 Read xs at (v ∷ vs) = (le 4 xs at ≡ v) × ReadBehind xs at 4 vs
 
 module _ (xs : List ℕ) (at : ℕ) where
-  -- words are read where they stand
-  back-behind : (vs : List ℕ) (k : ℕ) → WordsFit vs → ((j : ℕ) → Stands xs (at + (k + offset (words vs) j)) (nth (words vs) j .bytes)) → ReadBehind xs at k vs
-  back-behind [] k f s = tt
-  back-behind (v ∷ vs) k f s = (
-    le-stands 4 v xs (at + k) (f .0) (rw add-zero at (s 0)),
-    back-behind vs (k + 4) (f .1) (λ j. subst (λ (i : ℕ). Stands xs (at + i) (nth (words vs) j .bytes)) (sym (add-assoc k 4 (offset (words vs) j))) (s (suc j))),
-  )
+  -- the list of words that is read says the same
+  behind-listed : (vs : List ℕ) (k : ℕ) → ReadBehind xs at k vs → wordsAt (length vs) xs (at + k) ≡ vs
+  unfolding wordsAt
+  behind-listed [] k r = refl
+  behind-listed (v ∷ vs) k r = rw (r .0, add-assoc at k 4, behind-listed vs (k + 4) (r .1))
 
+  listed : (vs : List ℕ) → Read xs at vs → wordsAt (length vs) xs at ≡ vs
+  unfolding wordsAt
+  listed [] r = refl
+  listed (v ∷ vs) r = rw (r .0, behind-listed vs 4 (r .1))
+
+  listed-behind : (vs : List ℕ) (k : ℕ) → wordsAt (length vs) xs (at + k) ≡ vs → ReadBehind xs at k vs
+  unfolding wordsAt
+  listed-behind [] k e = tt
+  listed-behind (v ∷ vs) k e =
+      let rest : wordsAt (length vs) xs (at + k + 4) ≡ vs = cc in
+      (cc, listed-behind vs (k + 4) (rw add-assoc at rest))
+
+  -- words are read where they stand
   pub words-back : (vs : List ℕ) → WordsFit vs → Stands xs at (wordsBytes vs) → Read xs at vs
+  unfolding wordsAt
   words-back [] f s = tt
   words-back (v ∷ vs) f s =
-      let p : (j : ℕ) → Stands xs (at + offset (words (v ∷ vs)) j) (nth (words (v ∷ vs)) j .bytes) =
-      λ j. part-stands (words (v ∷ vs)) j xs at (subst (Stands xs at) (sym (laid-words (v ∷ vs))) s) in
-      (le-stands 4 v xs at (f .0) (rw add-zero at (p 0)), back-behind vs 4 (f .1) (λ j. p (suc j)))
+      let e = slots.words-back xs (v ∷ vs) at f s in
+      (cc, listed-behind vs 4 (cc))
 
-  module _ (b : Bytes xs) where
+  module _ (b : Bytes xs) (vs : List ℕ) where
     -- words stand where they are read
-    behind : (vs : List ℕ) (k : ℕ) → ReadBehind xs at k vs → Behind xs at k (words vs)
-    behind [] k r = tt
-    behind (v ∷ vs) k r = (rw (r .0) at (digits-stand 4 xs (at + k) b), behind vs (k + 4) (r .1))
-
-    placed : (vs : List ℕ) → Read xs at vs → Placed xs at (words vs)
-    placed [] r = tt
-    placed (v ∷ vs) r = (rw (r .0) at (digits-stand 4 xs at b), behind vs 4 (r .1))
-
-    pub words-stand : (vs : List ℕ) → at + 4 * length vs ≤ length xs → Read xs at vs → Stands xs at (wordsBytes vs)
-    words-stand vs h r = subst (Stands xs at) (laid-words vs) (placed-stand (words vs) xs at (omega (arith, size-words vs)) (placed vs r))
+    pub words-stand : at + 4 * length vs ≤ length xs → Read xs at vs → Stands xs at (wordsBytes vs)
+    words-stand h r = subst (λ (ws : List ℕ). Stands xs at (wordsBytes ws)) (listed vs r) (slots.words-stand xs b (length vs) at h)
 
     -- and fit
-    fit-behind : (vs : List ℕ) (k : ℕ) → ReadBehind xs at k vs → WordsFit vs
-    fit-behind [] k r = tt
-    fit-behind (v ∷ vs) k r = (rw (r .0) at (le-bound 4 xs (at + k) b), fit-behind vs (k + 4) (r .1))
-
-    pub words-fit : (vs : List ℕ) → Read xs at vs → WordsFit vs
-    words-fit [] r = tt
-    words-fit (v ∷ vs) r = (rw (r .0) at (le-bound 4 xs at b), fit-behind vs 4 (r .1))
+    pub words-fit : Read xs at vs → WordsFit vs
+    words-fit r = subst WordsFit (listed vs r) (slots.words-fit (length vs) xs at b)

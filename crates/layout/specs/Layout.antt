@@ -3,11 +3,10 @@
 use Prim.Native.Nat.{ℕ, _+_, _*_}
 use mathlib.Core.Bool.{cond}
 use mathlib.Core.List.{List, [], _∷_, _++_}
-use mathlib.Core.Path.{refl}
 use lib.Dec.{eqb}
 use lib.ListN.{length}
 use Rattle.wire.specs.Wire.{le, put}
-use Rattle.wire.specs.Parts.{Part, laidOut}
+use Rattle.wire.specs.Parts.{Part, bytesPart, laidOut}
 use Rattle.settings.specs.Words.{word, settingsPart, settingsAt, Fits32, SettingsFit}
 use Rattle.queue.specs.declared.Frame.{Frame}
 use Rattle.queue.specs.Queue.{pushed, taken}
@@ -49,10 +48,6 @@ receivedWords f = f .ttl ∷ f .high ∷ f .low ∷ f .rate ∷ []
 abbrev pub fairWords : Fair → List ℕ
 fairWords f = fourWords (f .counters) ++ fourWords (f .smoothed) ++ decidedWords f ++ receivedWords f
 
--- bytes as one part, however many they are
-abbrev pub whole : List ℕ → Part
-whole bs = record { size = length bs; bytes = bs; sized = refl }
-
 -- credits; control, primary and secondary queue; the stage's word, 0 where empty; the fairness state; the settings
 abbrev pub stationParts : Part → Part → Part → Station → List Part
 stationParts control primary secondary st =
@@ -70,9 +65,9 @@ unfoldable pub stationBytes : Station → List ℕ
 stationBytes st =
     laidOut
     (stationParts
-    (whole (queueBytes (st .flow .control)))
-    (whole (queueBytes (st .flow .primary)))
-    (whole (queueBytes (st .flow .secondary)))
+    (bytesPart (queueBytes (st .flow .control)))
+    (bytesPart (queueBytes (st .flow .primary)))
+    (bytesPart (queueBytes (st .flow .secondary)))
     st)
 
 -- ---- what is read: each number at its place

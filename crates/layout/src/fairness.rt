@@ -54,7 +54,7 @@ fn read_four(s: &[u8], at: usize) -> Four
 }
 
 // Writes the words of four rates to `s` from `at` on.
-fn write_four(r: Four, s: &mut [u8], at: usize)
+pub fn write_four(r: Four, s: &mut [u8], at: usize)
     requires { ⌜ at + 16 ≤ length (now s) ⌝ }
     ensures { λ _. ⌜ now (s .exit) ≡ put (now (s .entry)) at (wordsBytes (fourWords r)) ⌝ }
 {

@@ -4,20 +4,25 @@ ghost use mathlib.Core.Path.{_≡_};
 ghost use Prim.Native.Nat.{_+_, _%_, _≤_};
 ghost use lib.ListN.{length};
 ghost use Rattle.wire.specs.Wire.{digits, put};
+ghost use Rattle.flow.specs.Pick.{sightOf};
+ghost use Rattle.station.specs.Pick.{pickOf};
 ghost use Rattle.station.specs.Offers.{givenFrame};
 ghost use Rattle.slots.specs.Slots.{wordsBytes};
-ghost use Rattle.layout.specs.Layout.{stationLength, stationAt, stationBytes, creditsAt, creditsWords, fairWords, placeOf, pushedAt, takenFrom};
+ghost use Rattle.layout.specs.Layout.{stationLength, stationAt, stationBytes, creditsAt, creditsWords, fourWords, fairWords, placeOf, pushedAt, takenFrom};
 ghost use Rattle.layout.specs.Reading.{readingLength, heldWords, readingBytes};
 
 mod fairness;
 
 use fair::Fair;
+use fair::Four;
 use flow::Credits;
 use flow::Flow;
 use flow::Line;
+use flow::Sight;
 use queue::Frame;
 use settings::Settings;
 use station::Held;
+use station::Pick;
 use station::Reading;
 use station::Station;
 
@@ -45,6 +50,18 @@ pub fn read(s: &[u8]) -> Station
     }
 }
 
+// What goes next in that station, in range or not. No queue is read as a whole.
+pub fn pick(s: &[u8]) -> Pick
+    requires { ⌜ length (now s) ≡ stationLength ⌝ }
+    ensures { λ r. ⌜ r ≡ pickOf (stationAt (now (s .entry))) ⌝ }
+{
+    let whole = read(s);
+    let settings = whole.settings;
+    let fair = whole.fair;
+    let seen = sight(s);
+    station::picked(settings, seen, fair)
+}
+
 // Writes a station to 1,770 bytes.
 pub fn write(st: Station, s: &mut [u8])
     requires { ⌜ length (now s) ≡ stationLength ⌝ }
@@ -68,7 +85,8 @@ pub fn write_credits(c: Credits, s: &mut [u8])
     put_credits(c, s, 0);
 }
 
-// Pushes a frame to a queue of a station, in its bytes, and leaves all others. The frame's numbers are those of any call: what does not fit is cut off.
+// Pushes a frame to a queue of a station, in its bytes, and leaves all others. The frame's numbers are a call's own. Whoever calls has tested them, so nothing is
+// ever cut to 32 bits here.
 pub fn push_frame(line: Line, class: u64, size: u64, hops: u64, mark: u64, s: &mut [u8])
     requires { ⌜ length (now s) ≡ stationLength ⌝ }
     ensures { λ _. ⌜ now (s .exit) ≡ pushedAt (now (s .entry)) line (givenFrame class size hops mark) ⌝ }
@@ -116,6 +134,14 @@ pub fn write_fair(f: Fair, s: &mut [u8])
     fairness::write(f, s, 1578);
 }
 
+// Writes the counters of a station to its bytes, and leaves all others.
+pub fn write_counters(c: Four, s: &mut [u8])
+    requires { ⌜ length (now s) ≡ stationLength ⌝ }
+    ensures { λ _. ⌜ now (s .exit) ≡ put (now (s .entry)) 1578 (wordsBytes (fourWords c)) ⌝ }
+{
+    fairness::write_four(c, s, 1578);
+}
+
 // Writes a reading to 124 bytes.
 pub fn write_reading(r: Reading, s: &mut [u8])
     requires { ⌜ length (now s) ≡ readingLength ⌝ }
@@ -127,6 +153,20 @@ pub fn write_reading(r: Reading, s: &mut [u8])
     write_held(r.secondary, s, 36);
     write_held(r.stage, s, 44);
     fairness::write(r.fair, s, 52);
+}
+
+// What a selection looks at of the station that 1,770 bytes hold. Of the queues' slots only the first frames' are read.
+fn sight(s: &[u8]) -> Sight
+    requires { ⌜ length (now s) ≡ stationLength ⌝ }
+    ensures { λ r. ⌜ r ≡ sightOf (stationAt (now (s .entry)) .flow) ⌝ }
+{
+    Sight {
+        credits: read_credits(s, 0),
+        stage: wire::get32(s, 1574),
+        control: slots::front(s, 20),
+        primary: slots::front(s, 538),
+        secondary: slots::front(s, 1056),
+    }
 }
 
 // Where the bytes of a queue stand.

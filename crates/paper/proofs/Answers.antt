@@ -24,6 +24,7 @@ use Rattle.paper.proofs.OfFlow as OfFlow
 use Rattle.paper.proofs.OfStation as OfStation
 use Rattle.paper.proofs.OfSlots as OfSlots
 use Rattle.paper.proofs.OfLayout as OfLayout
+use Rattle.paper.proofs.OfAnswer as OfAnswer
 use Rattle.paper.proofs.OfRpr as OfRpr
 use Rattle.paper.proofs.OfEntry as OfEntry
 
@@ -53,6 +54,7 @@ answers-determined =
       of-station = OfStation.functions;
       of-slots = OfSlots.functions;
       of-layout = OfLayout.functions;
+      of-answer = OfAnswer.functions;
       of-rpr = OfRpr.functions;
       of-entry = OfEntry.functions;
     }

@@ -8,13 +8,13 @@ use Rattle.summary.specs.Range.{inRange}
 use Rattle.summary.specs.Answer.{settleOf}
 use Rattle.rates.specs.Rates.{partOf, smoothedOf, agedOf, ownRateOf}
 use Rattle.ring.specs.Links.{usable, runOf}
-use Rattle.ring.specs.Choosing.{distanceOf, shorterOf, reachesOf, preferredOf, sentOf, noWay, chooseOf}
+use Rattle.ring.specs.Choosing.{distanceOf, shorterOf, reachesOf, preferredOf, alongOf, noWay, chooseOf}
 use Rattle.wrap.specs.Walking.{courseOf, pathOf}
 use Rattle.paper.specs.Examples.{Examples}
 
 pub examples : Examples
 unfolding summaryOf joined ceilingOf needℤ settleOf inRange smoothedOf agedOf partOf ownRateOf
-    chooseOf sentOf noWay preferredOf reachesOf shorterOf distanceOf runOf usable pathOf courseOf test first firstOf
+    chooseOf alongOf noWay preferredOf reachesOf shorterOf distanceOf runOf usable pathOf courseOf test first firstOf
 examples =
     record {
       p1-ceiling = refl;

@@ -3,18 +3,24 @@
 use Prim.Native.Nat.{ℕ, _%_, _<_}
 use mathlib.Core.List.{List}
 use mathlib.Core.Path.{_≡_}
+use Rattle.decide.specs.Test.{facts, passes}
 use Rattle.decide.specs.Refusal.{Fault, firstOf}
 use Rattle.decide.proofs.Refusal.{RefusedExactly}
 use Rattle.account.proofs.Promises.{summarize-refused-exactly}
+use Rattle.settings.proofs.Range as settings
+use Rattle.queue.specs.Frame.{frameOk}
+use Rattle.queue.proofs.Word.{frame-facts, frame-holds}
 use Rattle.flow.specs.declared.Line.the-variants.{Control}
 use Rattle.flow.specs.Offer.{queueFor, controlFrame}
+use Rattle.fair.specs.Range.{ttlOk}
 use Rattle.station.specs.Offers.{givenFrame}
+use Rattle.station.proofs.Range as range
 use Rattle.rpr.specs.Station.{offerRows, offerTransitAnswer, offerTransitAfter, offerControlAnswer, offerControlAfter}
 use Rattle.rpr.proofs.Shape.{Bears}
 use Rattle.rpr.proofs.Promises as records
 use Rattle.rpr.proofs.Ways as ways
 use Rattle.rpr.proofs.Station as station
-use Rattle.paper.specs.First.{Refuses, RefusesLent, Condition1}
+use Rattle.paper.specs.First.{Refuses, RefusesLent, Ranges, Condition1}
 
 refuses : {rows : List Fault} {answer : ℕ} → RefusedExactly (answer % 256) rows → Bears (firstOf rows) answer → Refuses rows answer
 refuses e b = record { exactly = e; alone = b }
@@ -34,9 +40,19 @@ control : (xs : List ℕ) (size : ℕ) → RefusesLent (offerRows xs Control (co
 unfolding offerControlAnswer offerControlAfter
 control xs size = lent (station.offer-refused-exactly xs Control (controlFrame size)) (station.offer-leaves xs Control (controlFrame size))
 
+in-ranges : Ranges
+in-ranges =
+    record {
+      settings = λ s. (settings.in-range-facts s, settings.facts-in-range s);
+      station = λ st. (range.in-range-facts st, range.facts-in-range st);
+      frame = λ mtu x. (λ e. frame-facts mtu x (facts (frameOk mtu x) e), λ ok. passes (frameOk mtu x) (frame-holds mtu x ok));
+      ttl = λ x. (facts (ttlOk x), passes (ttlOk x));
+    }
+
 pub first-condition : Condition1
 first-condition =
     record {
+      ranges = in-ranges;
       start = λ settings xs. lent (station.start-refused-exactly settings xs) (station.start-leaves settings xs);
       tick = λ xs a b c. lent (station.tick-refused-exactly xs a b c) (station.tick-leaves xs a b c);
       offer-client =

@@ -13,5 +13,7 @@ functions =
       flow-transit = λ self settings frame. by-equation;
       flow-control = λ self settings size. by-equation;
       flow-client = λ self settings class size hops over. by-equation;
-      flow-select = λ self settings. by-equation;
+      flow-sight = λ self. by-equation;
+      flow-leave = λ self origin credits stage. by-equation;
+      sight-pick = λ self settings. by-equation;
     }

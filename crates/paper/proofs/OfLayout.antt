@@ -8,12 +8,15 @@ functions =
     record {
       fairness-read = λ s at. by-equation;
       fairness-write = λ f s at. by-equation;
+      fairness-write-four = λ r s at. by-equation;
       read = λ s. by-equation;
+      pick = λ s. by-equation;
       write = λ st s. by-equation;
       write-credits = λ c s. by-equation;
       push-frame = λ line class size hops mark s. by-equation;
       take-frame = λ origin s. by-equation;
       write-stage = λ word s. by-equation;
       write-fair = λ f s. by-equation;
+      write-counters = λ c s. by-equation;
       write-reading = λ r s. by-equation;
     }

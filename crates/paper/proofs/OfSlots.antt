@@ -7,6 +7,7 @@ pub functions : Functions
 functions =
     record {
       read = λ s at. by-equation;
+      front = λ s at. by-equation;
       write = λ q s at. by-first;
       push = λ f s at. by-equation;
       take = λ s at. by-equation;

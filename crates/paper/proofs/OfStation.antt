@@ -17,5 +17,6 @@ functions =
       station-tick = λ self a b c. by-equation;
       station-select = λ self. by-equation;
       station-age = λ self. by-equation;
+      picked = λ settings sight fair. by-equation;
       station-show = λ self. by-equation;
     }

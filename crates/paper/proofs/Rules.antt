@@ -1,15 +1,26 @@
 -- These rules hold, by the laws beside each definition.
 -- Assumes nothing.
 use Prim.Native.Nat.{ℕ}
-use mathlib.Core.Path.{refl}
+use mathlib.Core.Bool.{Bool, cond}
+use mathlib.Core.List.{List, [], _∷_}
+use mathlib.Core.Path.{_≡_, refl, sym, ap, _∙_}
 use lib.Dec.{eqb}
-use Rattle.decide.specs.Test.{Holds}
+use native.Mathlib.Omega.{arith}
+use Rattle.decide.specs.Test.{Holds, facts, passes}
 use Rattle.settings.specs.declared.Settings.{Settings}
-use Rattle.flow.specs.Offer.{wayOf}
+use Rattle.shaper.specs.declared.Event.the-variants.{Send}
+use Rattle.shaper.specs.Credit.{endCredit}
+use Rattle.shaper.proofs.Credit.{permits-exactly}
+use Rattle.flow.specs.declared.Credits.{Credits}
+use Rattle.flow.specs.declared.Which.{Which}
+use Rattle.flow.specs.Which.{bucketOf, creditOf, limitsFor, member, sends, fed}
+use Rattle.flow.proofs.Range.{credit-fed}
 use Rattle.flow.proofs.Tick as waiting
 use Rattle.flow.proofs.Offer as offer
 use Rattle.fair.specs.declared.Fair.{Fair}
 use Rattle.advert.specs.declared.Advert.{Advert}
+use Rattle.advert.specs.Frame.{whole, advertBytes}
+use Rattle.advert.proofs.ReadBack.{parse-written, written-bare}
 use Rattle.rates.specs.Rates.{countedOf}
 use Rattle.fair.proofs.Count as count
 use Rattle.fair.proofs.Told as told
@@ -18,7 +29,8 @@ use Rattle.station.specs.declared.Station.{Station}
 use Rattle.station.specs.Range.{StationOk}
 use Rattle.station.specs.Calls.{flagsOk, shareFor}
 use Rattle.station.proofs.Tick as tick
-use Rattle.paper.specs.Rules.{Ticks, Enters, Counts, Tells, Hears}
+use Rattle.station.proofs.Hear.{frame-found}
+use Rattle.paper.specs.Rules.{Ticks, Charges, Enters, Counts, Tells, Reads, Writes, Hears}
 
 pub ticks : (st : Station) → StationOk st → (a b c : ℕ) → Holds (flagsOk a b c) → Ticks st a b c
 ticks st ok a b c flags =
@@ -34,6 +46,22 @@ ticks st ok a b c flags =
       idle = tick.tick-idle ok a b c flags;
     }
 
+pub charges : (s : Settings) (c : Credits) → Charges s c
+charges s c =
+    record {
+      permitted = λ w. permits-exactly (creditOf c w) (bucketOf s w .lo);
+      none-needed = refl;
+      needed = λ w ws. refl;
+      charged = charge;
+      spared = charge;
+    }
+  where
+    -- one send, or none
+    charge : {b : Bool} (ws : List Which) (size : ℕ) (w : Which) → member w ws ≡ b
+        → creditOf (fed s c (sends ws size)) w ≡ endCredit (limitsFor s w) (creditOf c w) (cond b (Send size ∷ []) [])
+    charge ws size w e =
+        credit-fed s c (sends ws size) w ∙ ap (λ (b : Bool). endCredit (limitsFor s w) (creditOf c w) (cond b (Send size ∷ []) [])) e
+
 pub enters : Enters
 enters =
     record {
@@ -48,8 +76,6 @@ enters =
       needs-b = refl;
       needs-excess = refl;
       marks = (refl, refl, refl);
-      taken = λ s f class size hops passing. offer.client-taken (wayOf s (f .credits) class) s f class size hops passing;
-      seven = count.over-exactly;
     }
 
 pub counts : (f : Fair) (hops size : ℕ) → Counts f hops size
@@ -72,9 +98,28 @@ tells f s =
       full = told.not-congested f s;
       own = told.only-locally f s;
       both = told.both-own f s;
+      own-frame = λ rate. refl;
+      passed-on = refl;
       received = told.else-received f s;
       last = told.else-last f s;
     }
 
 pub hears : (f : Fair) (a : Advert) → Hears f a
-hears f a = record { clears = heard.heard-clears f a; sets = heard.heard-sets f a }
+hears f a = record { clears = heard.heard-clears f a; sets = heard.heard-sets f a; keeps = λ downstream ttl high low rate. refl }
+
+pub reads : (xs : List ℕ) → Reads xs
+reads xs =
+    record {
+      whole-exactly = (facts (whole xs), passes (whole xs));
+      ttl = refl;
+      ringlet = refl;
+      address = omega arith;
+      rate = refl;
+    }
+
+pub writes : (a : Advert) → Writes a
+writes a =
+    record {
+      back = λ fits. let found = frame-found (advertBytes a) a (parse-written a fits) in (found .0, sym (found .1));
+      bare = written-bare a;
+    }

@@ -1,28 +1,61 @@
 -- The rules hold, by the laws beside each definition.
 -- Assumes nothing.
 use Prim.Native.Nat.{ℕ, _≤_}
+use mathlib.Core.Bool.{true, true≢false}
+use mathlib.Core.Logic.{_↔_}
+use mathlib.Core.Path.{_≡_, refl, sym, _∙_}
+use borrow.Author.Tests.{leb-true, le-leb}
+use Rattle.decide.specs.Test.{Test, test, Holds, facts, passes}
 use Rattle.settings.specs.declared.Settings.{Settings}
 use Rattle.flow.specs.declared.Flow.{Flow}
+use Rattle.flow.specs.Select.{controlReady, primaryReady, needy, stageReady, secondaryReady}
+use Rattle.flow.proofs.Ready as ready
 use Rattle.flow.proofs.Select as select
+use Rattle.flow.proofs.Frames.{select-moves}
 use Rattle.fair.specs.declared.Fair.{Fair}
 use Rattle.fair.proofs.Age as interval
 use Rattle.fair.proofs.ReadBack.{frame-read-back}
-use Rattle.ring.specs.Choosing.{Placed}
+use Rattle.ring.specs.declared.Way.{Way}
+use Rattle.ring.specs.Choosing.{reachesOf, Between, Placed}
+use Rattle.ring.proofs.Hops.{arrives, not-before, run-on, run-ends}
+use Rattle.ring.proofs.Links.{joins-next, last-joins, both-ends}
 use Rattle.ring.proofs.Rows as ring
+use Rattle.wrap.proofs.Courses as course
 use Rattle.wrap.proofs.Answers.{path-length}
-use Rattle.rpr.proofs.Lent.{credit-of-lent}
-use Rattle.paper.specs.Second.{Selects, Ages, Chooses, Sends, Condition2}
-use Rattle.paper.proofs.Rules.{ticks, enters, counts, tells, hears}
+use Rattle.rpr.proofs.Lent.{credit-of-lent, lent-in-range}
+use Rattle.paper.specs.Second.{Ready, Selects, Ages, Joins, Reaches, Walks, Chooses, Sends, Condition2}
+use Rattle.paper.proofs.Rules.{ticks, charges, enters, counts, tells, reads, writes, hears}
+use Rattle.paper.proofs.Acts.{starts, acts, traces}
+
+-- a test holds exactly when its fact does
+held : (t : Test) {A : Type 0} → (test t ≡ true) ↔ A → Holds t ↔ A
+held t exactly = (λ h. exactly .0 (passes t h), λ a. facts t (exactly .1 a))
+
+is-ready : (s : Settings) (f : Flow) → Ready s f
+is-ready s f =
+    record {
+      control = λ x xs e. held (controlReady s f) (ready.control-ready-exactly s f x xs e);
+      no-control = λ e h. true≢false (sym (passes (controlReady s f) h) ∙ ready.control-none s f e);
+      primary = held (primaryReady f) (ready.primary-ready-exactly s f);
+      needy-secondary = held (needy s f) (ready.needy-exactly s f);
+      stage = held (stageReady f) (ready.stage-ready-exactly s f);
+      secondary = held (secondaryReady s f) (ready.secondary-ready-exactly s f);
+    }
 
 selects : (s : Settings) (f : Flow) → Selects s f
 selects s f =
     record {
+      ready = is-ready s f;
       control = select.control-exactly s f;
       primary = select.primary-exactly s f;
       needy-secondary = select.needy-goes s f;
       stage = select.stage-exactly s f;
       secondary = select.secondary-goes s f;
       nothing = select.nothing-exactly s f;
+      m-charged = refl;
+      d-charged = refl;
+      uncharged = (refl, refl, refl);
+      moves = select-moves;
     }
 
 ages : (f : Fair) (s : Settings) (held : ℕ) → Ages f s held
@@ -38,6 +71,34 @@ ages f s held =
       counters = interval.interval-ages f s held;
       keeps = interval.interval-keeps f s held;
       own = interval.interval-own f s held;
+    }
+
+joins : (stations : ℕ) → Joins stations
+joins stations = record { next = joins-next stations; last = last-joins stations; both-ends = λ way. both-ends way stations }
+
+reached : (stations own target links : ℕ) → Placed stations own target links → Reaches stations own target links
+unfolding reachesOf
+reached stations own target links place =
+    let b : Between stations own target = record { small = place .small; station = place .station; reached = place .reached } in
+    record {
+      arrives = arrives stations own target b (place .differ);
+      not-before = not-before stations own target b (place .differ);
+      unbroken = λ way n. run-on way stations links stations own n;
+      broken = λ way. run-ends way stations links stations own;
+      reaches = λ way. (leb-true _ _, le-leb _ _);
+    }
+
+walks : (stations links target : ℕ) (home : Way) → Walks stations links target home
+walks stations links target home =
+    record {
+      moves = course.moves-home stations links target home;
+      turns = course.turns-away stations links target home;
+      moves-opposite = course.moves-opposite stations links target home;
+      turns-back = course.turns-back stations links target home;
+      delivered = course.delivered-there stations links target home;
+      used = course.used-home stations links target home;
+      used-opposite = course.used-opposite stations links target home;
+      stuck = course.stuck stations links target home;
     }
 
 chooses : (stations own target links ring : ℕ) → Placed stations own target links → ring ≤ 1 → Chooses stations own target links ring
@@ -69,15 +130,28 @@ pub second-condition : Condition2
 second-condition =
     record {
       credits = credit-of-lent;
+      range = lent-in-range;
+      events = traces;
+      starts = starts;
+      calls = λ st ok. acts ok;
       ticks = ticks;
+      charges = charges;
       entry = enters;
       selection = selects;
       counting = counts;
       rates = ages;
       telling = tells;
       hearing = hears;
+      reading = reads;
+      writing = writes;
       sending = sends;
       choice = chooses;
-      path = λ stations own target links home delivered hops e. path-length stations own target links home delivered hops e .counted;
+      links = joins;
+      reach = reached;
+      walk = walks;
+      path =
+          λ stations own target links home delivered hops e.
+          let l = path-length stations own target links home delivered hops e in
+          (l .counted, l .delivers);
       frames = frame-read-back;
     }

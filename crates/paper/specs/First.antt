@@ -3,10 +3,12 @@
 -- "Every call ends, on every input, without undefined behaviour": each exported function is proved, and none has a condition that its caller must meet.
 -- "Bad settings, frames or records get document 01's refusal number, first fault first, and station and lent memory then stay exactly as before": below.
 -- Assumes nothing.
-use Prim.Native.Nat.{ℕ, _%_, _<_}
+use Prim.Native.Nat.{ℕ, _%_, _≤_, _<_}
+use mathlib.Core.Bool.{true}
 use mathlib.Core.List.{List}
 use mathlib.Core.Logic.{_↔_}
 use mathlib.Core.Path.{_≡_}
+use Rattle.decide.specs.Test.{test}
 use Rattle.decide.specs.Refusal.{Fault, firstOf}
 use Rattle.decide.proofs.Refusal.{RefusedExactly}
 use Rattle.wire.specs.Wire.{Bytes}
@@ -15,8 +17,15 @@ use Rattle.record.proofs.Means.{Cause}
 use Rattle.account.specs.Account.{summarizeOf}
 use Rattle.ring.specs.Choosing.{chooseFaults}
 use Rattle.wrap.specs.Walking.{pathFaults}
+use Rattle.settings.specs.declared.Settings.{Settings}
+use Rattle.settings.specs.Range.{settingsOk, SettingsOk}
+use Rattle.queue.specs.declared.Frame.{Frame}
+use Rattle.queue.specs.Frame.{frameOk, FrameOk}
 use Rattle.flow.specs.declared.Line.the-variants.{Control}
 use Rattle.flow.specs.Offer.{queueFor, controlFrame}
+use Rattle.fair.specs.Range.{ttlOk}
+use Rattle.station.specs.declared.Station.{Station}
+use Rattle.station.specs.Range.{stationOk, StationOk}
 use Rattle.station.specs.Offers.{givenFrame}
 use Rattle.rpr.specs.Calls.{summarizeRows, summarizeAnswer, summarizeAfter, joinRows, joinAnswer, joinAfter, settleRows, settleAnswer}
 use Rattle.rpr.specs.Ways.{chooseAnswer, pathAnswer}
@@ -36,8 +45,16 @@ pub record RefusesLent (rows : List Fault) (answer : ℕ) (before after : List �
   pub refuses : Refuses rows answer
   pub stays : 0 < firstOf rows → after ≡ before
 
+-- What the rows ask of settings, a lent station and a frame is document 01's ranges, each a named fact.
+pub record Ranges : Type 0 where
+  pub settings : (s : Settings) → (test (settingsOk s) ≡ true) ↔ SettingsOk s
+  pub station : (st : Station) → (test (stationOk st) ≡ true) ↔ StationOk st
+  pub frame : (mtu : ℕ) (x : Frame) → (test (frameOk mtu x) ≡ true) ↔ FrameOk mtu x
+  pub ttl : (x : ℕ) → (test (ttlOk x) ≡ true) ↔ ((193 ≤ x) × (x ≤ 255))
+
 -- A row for each exported call; `rpr_station_length` refuses nothing.
 pub record Condition1 : Type 0 where
+  pub ranges : Ranges
   pub start : (settings station : List ℕ) → RefusesLent (startRows settings station) (startAnswer settings station) station (startAfter settings station)
   pub tick : (station : List ℕ) (a b c : ℕ) → RefusesLent (tickRows station a b c) (tickAnswer station a b c) station (tickAfter station a b c)
   pub offer-client : (station : List ℕ) (class size hops : ℕ)

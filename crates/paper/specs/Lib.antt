@@ -1,6 +1,7 @@
 pub mod Examples
 pub mod First
 pub mod Rules
+pub mod Acts
 pub mod Second
 pub mod Third
 pub mod Determined
@@ -27,6 +28,7 @@ pub mod OfFlow
 pub mod OfStation
 pub mod OfSlots
 pub mod OfLayout
+pub mod OfAnswer
 pub mod OfRpr
 pub mod OfEntry
 pub mod Answers

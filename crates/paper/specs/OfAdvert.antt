@@ -11,7 +11,7 @@ use mathlib.Core.Path.{_≡_}
 use Rattle.paper.specs.Determined.{Determined}
 
 pub record Functions : Type 0 where
-  -- write (a leaf: it asks that length (now room) ≡ 12)
+  -- write (a leaf: it asks that length (now room) ≡ advertLength)
   pub write : (advert : Advert) (room : List ℕ) → Determined (λ (after-room : List ℕ). after-room ≡ advertBytes advert)
   -- parse
   pub parse : (frame : List ℕ) → Determined (λ (r : Parsed). r ≡ parsedOf frame)

@@ -4,13 +4,15 @@ use Prim.Native.Nat.{ℕ}
 use Rattle.decide.specs.Test.{test}
 use Rattle.flow.specs.Offer.{clientOf, controlOf, transitOf}
 use Rattle.flow.specs.Parts.{stageHolds}
+use Rattle.flow.specs.Pick.{leftOf, pickOf, seenIn, sightOf}
 use Rattle.flow.specs.Range.{flowOk}
-use Rattle.flow.specs.Select.{selectOf}
 use Rattle.flow.specs.Tick.{startOf, tickOf}
 use Rattle.flow.specs.declared.Client.{Client}
+use Rattle.flow.specs.declared.Credits.{Credits}
 use Rattle.flow.specs.declared.Entered.{Entered}
 use Rattle.flow.specs.declared.Flow.{Flow}
-use Rattle.flow.specs.declared.Selected.{Selected}
+use Rattle.flow.specs.declared.Pick.{Pick}
+use Rattle.flow.specs.declared.Sight.{Sight}
 use Rattle.queue.specs.declared.Frame.{Frame}
 use Rattle.settings.specs.declared.Settings.{Settings}
 use mathlib.Core.Bool.{Bool}
@@ -32,5 +34,9 @@ pub record Functions : Type 0 where
   pub flow-control : (self : Flow) (settings : Settings) (size : ℕ) → Determined (λ (r : Entered). r ≡ controlOf settings self size)
   -- Flow::client
   pub flow-client : (self : Flow) (settings : Settings) (class size hops : ℕ) (over : Bool) → Determined (λ (r : Client). r ≡ clientOf settings self class size hops over)
-  -- Flow::select
-  pub flow-select : (self : Flow) (settings : Settings) → Determined (λ (r : Selected). r ≡ selectOf settings self)
+  -- Flow::sight
+  pub flow-sight : (self : Flow) → Determined (λ (r : Sight). r ≡ sightOf self)
+  -- Flow::leave
+  pub flow-leave : (self : Flow) (origin : ℕ) (credits : Credits) (stage : ℕ) → Determined (λ (r : Flow). r ≡ leftOf self origin credits stage)
+  -- Sight::pick
+  pub sight-pick : (self : Sight) (settings : Settings) → Determined (λ (r : Pick). r ≡ pickOf settings (seenIn self))

@@ -2,12 +2,15 @@
 -- Assumes nothing.
 use Prim.Native.Nat.{ℕ}
 use Rattle.fair.specs.declared.Fair.{Fair}
+use Rattle.fair.specs.declared.Four.{Four}
 use Rattle.flow.specs.declared.Credits.{Credits}
 use Rattle.flow.specs.declared.Line.{Line}
-use Rattle.layout.specs.Layout.{creditsWords, fairAt, fairWords, pushedAt, stationAt, stationBytes, takenFrom}
+use Rattle.layout.specs.Layout.{creditsWords, fairAt, fairWords, fourWords, pushedAt, stationAt, stationBytes, takenFrom}
 use Rattle.layout.specs.Reading.{readingBytes}
 use Rattle.slots.specs.Slots.{wordsBytes}
 use Rattle.station.specs.Offers.{givenFrame}
+use Rattle.station.specs.Pick.{pickOf}
+use Rattle.station.specs.declared.Pick.{Pick}
 use Rattle.station.specs.declared.Reading.{Reading}
 use Rattle.station.specs.declared.Station.{Station}
 use Rattle.wire.specs.Wire.{digits, put}
@@ -20,8 +23,12 @@ pub record Functions : Type 0 where
   pub fairness-read : (s : List ℕ) (at : ℕ) → Determined (λ (r : Fair). r ≡ fairAt s at)
   -- fairness::write (a leaf: it asks that at + 72 ≤ length (now s))
   pub fairness-write : (f : Fair) (s : List ℕ) (at : ℕ) → Determined (λ (after-s : List ℕ). after-s ≡ put s at (wordsBytes (fairWords f)))
+  -- fairness::write_four (a leaf: it asks that at + 16 ≤ length (now s))
+  pub fairness-write-four : (r : Four) (s : List ℕ) (at : ℕ) → Determined (λ (after-s : List ℕ). after-s ≡ put s at (wordsBytes (fourWords r)))
   -- read (a leaf: it asks that length (now s) ≡ stationLength)
   pub read : (s : List ℕ) → Determined (λ (r : Station). r ≡ stationAt s)
+  -- pick (a leaf: it asks that length (now s) ≡ stationLength)
+  pub pick : (s : List ℕ) → Determined (λ (r : Pick). r ≡ pickOf (stationAt s))
   -- write (a leaf: it asks that length (now s) ≡ stationLength)
   pub write : (st : Station) (s : List ℕ) → Determined (λ (after-s : List ℕ). after-s ≡ stationBytes st)
   -- write_credits (a leaf: it asks that length (now s) ≡ stationLength)
@@ -34,5 +41,7 @@ pub record Functions : Type 0 where
   pub write-stage : (word : ℕ) (s : List ℕ) → Determined (λ (after-s : List ℕ). after-s ≡ put s 1574 (digits 4 word))
   -- write_fair (a leaf: it asks that length (now s) ≡ stationLength)
   pub write-fair : (f : Fair) (s : List ℕ) → Determined (λ (after-s : List ℕ). after-s ≡ put s 1578 (wordsBytes (fairWords f)))
+  -- write_counters (a leaf: it asks that length (now s) ≡ stationLength)
+  pub write-counters : (c : Four) (s : List ℕ) → Determined (λ (after-s : List ℕ). after-s ≡ put s 1578 (wordsBytes (fourWords c)))
   -- write_reading (a leaf: it asks that length (now s) ≡ readingLength)
   pub write-reading : (r : Reading) (s : List ℕ) → Determined (λ (after-s : List ℕ). after-s ≡ readingBytes r)

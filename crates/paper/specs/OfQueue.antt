@@ -3,9 +3,11 @@
 use Prim.Native.Nat.{ℕ}
 use Rattle.decide.specs.Test.{test}
 use Rattle.queue.specs.Frame.{frameOf, frameOk, hopsOk, wordOf}
+use Rattle.queue.specs.Front.{frontOf, fronted}
 use Rattle.queue.specs.Queue.{emptyQueue, firstOf, holdsFrame, pushed, spaceOf, takeOf}
 use Rattle.queue.specs.Range.{queueOk}
 use Rattle.queue.specs.declared.Frame.{Frame}
+use Rattle.queue.specs.declared.Front.{Front}
 use Rattle.queue.specs.declared.Queue.{Queue}
 use Rattle.queue.specs.declared.Taken.{Taken}
 use mathlib.Core.Bool.{Bool}
@@ -21,12 +23,18 @@ pub record Functions : Type 0 where
   pub frame-word : (self : Frame) → Determined (λ (r : ℕ). r ≡ wordOf self)
   -- Frame::of
   pub frame-of : (w : ℕ) → Determined (λ (r : Frame). r ≡ frameOf w)
+  -- Front::first
+  pub front-first : (self : Front) → Determined (λ (r : Frame). r ≡ firstOf (fronted self))
+  -- Front::space
+  pub front-space : (self : Front) (capacity : ℕ) → Determined (λ (r : ℕ). r ≡ spaceOf (fronted self) capacity)
+  -- Front::holds_frame
+  pub front-holds-frame : (self : Front) → Determined (λ (r : Bool). r ≡ holdsFrame (fronted self))
   -- Queue::empty
   pub queue-empty : Determined (λ (r : Queue). r ≡ emptyQueue)
   -- Queue::push (a leaf: it asks that (self .count < 128) × (self .held + f .size < 2 ^ 32))
   pub queue-push : (self : Queue) (f : Frame) → Determined (λ (r : Queue). r ≡ pushed self f)
-  -- Queue::first
-  pub queue-first : (self : Queue) → Determined (λ (r : Frame). r ≡ firstOf self)
+  -- Queue::front
+  pub queue-front : (self : Queue) → Determined (λ (r : Front). r ≡ frontOf self)
   -- Queue::take
   pub queue-take : (self : Queue) → Determined (λ (r : Taken). r ≡ takeOf self)
   -- Queue::space

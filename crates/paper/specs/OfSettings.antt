@@ -20,9 +20,9 @@ use Rattle.paper.specs.Determined.{Determined}
 pub record Functions : Type 0 where
   -- Settings::in_range
   pub settings-in-range : (self : Settings) → Determined (λ (r : Bool). r ≡ test (settingsOk self))
-  -- Settings::read (a leaf: it asks that at + 120 ≤ length (now s))
+  -- Settings::read (a leaf: it asks that at + settingsLength ≤ length (now s))
   pub settings-read : (s : List ℕ) (at : ℕ) → Determined (λ (r : Settings). r ≡ settingsAt s at)
-  -- Settings::write (a leaf: it asks that at + 120 ≤ length (now s))
+  -- Settings::write (a leaf: it asks that at + settingsLength ≤ length (now s))
   pub settings-write : (self : Settings) (s : List ℕ) (at : ℕ) → Determined (λ (after-s : List ℕ). after-s ≡ put s at (settingsBytes self))
   -- Address::number
   pub address-number : (self : Address) → Determined (λ (r : ℕ). r ≡ addressOf self)

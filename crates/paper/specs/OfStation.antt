@@ -2,14 +2,18 @@
 -- Assumes nothing.
 use Prim.Native.Nat.{ℕ}
 use Rattle.decide.specs.Test.{test}
+use Rattle.fair.specs.declared.Fair.{Fair}
+use Rattle.flow.specs.declared.Sight.{Sight}
 use Rattle.settings.specs.declared.Settings.{Settings}
 use Rattle.station.specs.Calls.{ageOf, freshOf, selectOf, startOf, tickOf}
 use Rattle.station.specs.Hear.{hearOf, tellOf}
 use Rattle.station.specs.Offers.{offerClientOf, offerControlOf, offerTransitOf}
+use Rattle.station.specs.Pick.{pickOf, seenAs}
 use Rattle.station.specs.Range.{stationOk}
 use Rattle.station.specs.Show.{showOf}
 use Rattle.station.specs.declared.Client.{Client}
 use Rattle.station.specs.declared.Done.{Done}
+use Rattle.station.specs.declared.Pick.{Pick}
 use Rattle.station.specs.declared.Selected.{Selected}
 use Rattle.station.specs.declared.Shown.{Shown}
 use Rattle.station.specs.declared.Station.{Station}
@@ -42,5 +46,7 @@ pub record Functions : Type 0 where
   pub station-select : (self : Station) → Determined (λ (r : Selected). r ≡ selectOf self)
   -- Station::age
   pub station-age : (self : Station) → Determined (λ (r : Done). r ≡ ageOf self)
+  -- picked
+  pub picked : (settings : Settings) (sight : Sight) (fair : Fair) → Determined (λ (r : Pick). r ≡ pickOf (seenAs settings sight fair))
   -- Station::show
   pub station-show : (self : Station) → Determined (λ (r : Shown). r ≡ showOf self)

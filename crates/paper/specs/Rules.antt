@@ -1,29 +1,29 @@
--- Rules of document 01 for the tick, frames in, counting, telling and hearing, row by row, for the second condition.
+-- Rules of document 01 for shapers, frames in, counting and fairness frames, row by row, for the second condition.
 -- Assumes nothing.
-use Prim.Native.Nat.{ℕ, _+_, _*_, _-_, _/_, _≤_, _<_, min}
-use mathlib.Core.Bool.{Bool, true, false, _&&_}
-use mathlib.Core.List.{[], _∷_}
+use Prim.Native.Nat.{ℕ, _+_, _*_, _-_, _/_, _%_, _≤_, _<_, min}
+use mathlib.Core.Bool.{true, false, _&&_}
+use mathlib.Core.List.{List, [], _∷_}
 use mathlib.Core.Logic.{_⊎_, _↔_}
 use mathlib.Core.Path.{_≡_}
 use lib.Dec.{eqb}
+use lib.ListN.{length}
 use Rattle.decide.specs.Test.{test}
 use Rattle.settings.specs.declared.Settings.{Settings}
-use Rattle.queue.specs.Frame.{wordOf}
-use Rattle.flow.specs.declared.Flow.{Flow}
 use Rattle.flow.specs.declared.Credits.{Credits}
 use Rattle.flow.specs.declared.Line.the-variants.{Primary, Secondary}
 use Rattle.flow.specs.declared.Which.{Which}
 use Rattle.flow.specs.declared.Which.the-variants.{M, A, B, C, D}
 use Rattle.flow.specs.declared.Way.the-variants.{ClassA, ClassB, Excess}
-use Rattle.flow.specs.Which.{bucketOf, creditOf, permitsAll, sends, fed}
-use Rattle.flow.specs.Parts.{stageHolds, withCredits, withStage}
+use Rattle.flow.specs.Which.{bucketOf, creditOf, permitsOf, permitsAll, member, sends, fed}
 use Rattle.flow.specs.Tick.{waits}
-use Rattle.flow.specs.Offer.{queueFor, wayOf, needsOf, markOf, clientFrame, clientOf}
+use Rattle.flow.specs.Offer.{queueFor, wayOf, needsOf, markOf}
 use Rattle.flow.proofs.Held.{Holding, Staged}
 use Rattle.fair.specs.declared.Fair.{Fair}
+use Rattle.wire.specs.Wire.{be}
 use Rattle.advert.specs.declared.Advert.{Advert}
+use Rattle.advert.specs.Frame.{AdvertFits, whole, advertIn, advertBytes}
 use Rattle.rates.specs.Rates.{countedOf}
-use Rattle.fair.specs.Count.{beyond, over, countOf, withCounters}
+use Rattle.fair.specs.Count.{beyond, countOf, withCounters}
 use Rattle.fair.specs.Advertise.{ownFrame, passedOn, receivedOf, toldOf, heardOf}
 use Rattle.station.specs.declared.Station.{Station}
 use Rattle.station.specs.Calls.{tickOf}
@@ -50,6 +50,18 @@ pub record Ticks (st : Station) (a b c : ℕ) : Type 0 where
   pub idle : (w : Which) → waits (st .flow) (eqb a 1) (eqb b 1) (eqb c 1) w ≡ false
       → creditOf (tickOf st a b c .station .flow .credits) w ≡ min (creditOf (st .flow .credits) w + amountFor st w) (bucketOf (st .settings) w .lo)
 
+-- ---- shapers: a send
+
+pub record Charges (s : Settings) (c : Credits) : Type 0 where
+  -- A send is permitted exactly when credit > loLimit,
+  pub permitted : (w : Which) → (permitsOf s c w ≡ true) ↔ (bucketOf s w .lo < creditOf c w)
+  -- by each shaper that is needed;
+  pub none-needed : permitsAll s c [] ≡ true
+  pub needed : (w : Which) (ws : List Which) → permitsAll s c (w ∷ ws) ≡ (permitsOf s c w && permitsAll s c ws)
+  -- then the size is taken off each that is charged, and no other.
+  pub charged : (ws : List Which) (size : ℕ) (w : Which) → member w ws ≡ true → creditOf (fed s c (sends ws size)) w ≡ creditOf c w - size
+  pub spared : (ws : List Which) (size : ℕ) (w : Which) → member w ws ≡ false → creditOf (fed s c (sends ws size)) w ≡ creditOf c w
+
 -- ---- frames in
 
 pub record Enters : Type 0 where
@@ -67,19 +79,6 @@ pub record Enters : Type 0 where
   pub needs-b : needsOf ClassB ≡ B ∷ D ∷ []
   pub needs-excess : needsOf Excess ≡ C ∷ D ∷ []
   pub marks : (markOf ClassA ≡ 0) × (markOf ClassB ≡ 0) × (markOf Excess ≡ 1)
-  -- Then the frame lies in the stage and each needed shaper has one send of its size.
-  pub taken : (s : Settings) (f : Flow) (class size hops : ℕ) (passing : Bool) → stageHolds f ≡ false
-      → permitsAll s (f .credits) (needsOf (wayOf s (f .credits) class)) ≡ true → (eqb (markOf (wayOf s (f .credits) class)) 1 && passing) ≡ false
-      → clientOf s f class size hops passing
-      ≡ record {
-        number = 0;
-        detail = 0;
-        mark = markOf (wayOf s (f .credits) class);
-        flow = withStage (withCredits f (fed s (f .credits) (sends (needsOf (wayOf s (f .credits) class)) size))) (wordOf (clientFrame (wayOf s (f .credits) class) class size hops));
-      }
-  -- If downstream congested, an eligible client frame with hops > hopsToCongestion gets 7 when addRateCongested + size > allowedRateCongested.
-  pub seven : (f : Fair) (size hops : ℕ)
-      → (test (over f size hops) ≡ true) ↔ (((f .downstream ≡ 1) × (256 - f .ttl < hops)) × (f .allowedc < f .counters .addc + size))
 
 -- ---- counting a selected frame: origin 4 is the stage, 3 the secondary queue
 
@@ -108,11 +107,45 @@ pub record Tells (f : Fair) (s : Settings) : Type 0 where
   -- own rate when only locally congested, or both and own ≤ received;
   pub own : f .congested ≡ 1 → f .downstream ≡ 0 → toldOf f s ≡ ownFrame s (f .own)
   pub both : f .congested ≡ 1 → f .downstream ≡ 1 → f .own ≤ f .rate → toldOf f s ≡ ownFrame s (f .own)
+  -- Own and FULL frames use own address and ttl 255, and bear the other ringlet's bit;
+  pub own-frame : (rate : ℕ) → ownFrame s rate ≡ record { ringlet = 1 - s .ringlet; ttl = 255; high = s .address .high; low = s .address .low; rate = rate }
   -- else the received rate, its address, ttl less 1, but FULL_RATE if its ttl was 193.
+  pub passed-on : passedOn f s ≡ record { ringlet = 1 - s .ringlet; ttl = f .ttl - 1; high = f .high; low = f .low; rate = f .rate }
   pub received : (f .downstream ≡ 1) × ((f .congested ≡ 0) ⊎ (f .rate < f .own)) → (f .ttl ≡ 193 → ⊥) → toldOf f s ≡ passedOn f s
   pub last : (f .downstream ≡ 1) × ((f .congested ≡ 0) ⊎ (f .rate < f .own)) → f .ttl ≡ 193 → toldOf f s ≡ ownFrame s 65535
+
+-- The twelve bytes: ttl; base (bit 7 ringlet, bits 5 to 4 frame type, 2 = fairness); address 6; header 2, top three bits 0 for single choke; rate 2.
+-- Big-endian.
+pub record Reads (xs : List ℕ) : Type 0 where
+  pub whole-exactly : (test (whole xs) ≡ true) ↔ ((length xs ≡ 12) × ((be 1 xs 1 / 16 % 4 ≡ 2) × (be 2 xs 8 / 8192 ≡ 0)))
+  pub ttl : advertIn xs .ttl ≡ be 1 xs 0
+  pub ringlet : advertIn xs .ringlet ≡ be 1 xs 1 / 128
+  pub address : advertIn xs .high * 4294967296 + advertIn xs .low ≡ be 6 xs 2
+  pub rate : advertIn xs .rate ≡ be 2 xs 10
+
+pub record Writes (a : Advert) : Type 0 where
+  -- A written frame is read so,
+  pub back : AdvertFits a → (test (whole (advertBytes a)) ≡ true) × (advertIn (advertBytes a) ≡ a)
+  -- and other bits are written 0.
+  pub bare : (be 1 (advertBytes a) 1 / 64 % 2 ≡ 0) × (be 1 (advertBytes a) 1 % 16 ≡ 0) × (be 2 (advertBytes a) 8 % 8192 ≡ 0)
 
 pub record Hears (f : Fair) (a : Advert) : Type 0 where
   -- A rate of 65,535 clears downstream congestion, with received ttl 255, received address and rate 0; others set it.
   pub clears : a .rate ≡ 65535 → heardOf f a ≡ receivedOf f 0 255 0 0 0
   pub sets : (a .rate ≡ 65535 → ⊥) → heardOf f a ≡ receivedOf f 1 (a .ttl) (a .high) (a .low) (a .rate)
+  -- Nothing else changes.
+  pub keeps : (downstream ttl high low rate : ℕ) → receivedOf f downstream ttl high low rate
+      ≡ record {
+        counters = f .counters;
+        smoothed = f .smoothed;
+        local = f .local;
+        allowed = f .allowed;
+        allowedc = f .allowedc;
+        own = f .own;
+        congested = f .congested;
+        downstream = downstream;
+        ttl = ttl;
+        high = high;
+        low = low;
+        rate = rate;
+      }

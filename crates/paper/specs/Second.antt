@@ -1,23 +1,31 @@
 -- The second condition of acceptance, in its own words: credits, frame selection, fair rates, ringlet choice and fairness frames equal the rules of document 01,
 -- step for step; fairness frames are both written and read. That each exported call does what the definitions say is its contract (`AnswersDetermined` has
--- them all); here stand the rules, in the paper's words, over those definitions. Ranges and refusals are the first condition's. Assumes nothing.
-use Prim.Native.Nat.{ℕ, _+_, _*_, _-_, _/_, _≤_, _<_, min}
+-- them all). Which rule each call of a station applies to which of its parts is said by `Acts`; here stand the rules, in the paper's words. Ranges and refusals
+-- are the first condition's. Assumes nothing.
+use Prim.Native.Nat.{ℕ, suc, _+_, _*_, _-_, _/_, _≤_, _<_, min}
 use mathlib.Core.Bool.{Bool, true, false}
-use mathlib.Core.List.{List, _++_}
+use mathlib.Core.List.{List, [], _∷_}
+use mathlib.Core.Logic.{_↔_}
 use mathlib.Core.Path.{_≡_}
-use lib.ListN.{length, take, drop}
+use lib.ListN.{length, take}
 use Rattle.decide.specs.Test.{Holds}
 use Rattle.settings.specs.declared.Settings.{Settings}
 use Rattle.settings.specs.Range.{SettingsOk}
 use Rattle.settings.specs.Words.{settingsAt}
 use Rattle.wire.specs.Wire.{Bytes}
+use Rattle.queue.specs.declared.Frame.{Frame}
+use Rattle.queue.specs.Queue.{framesOf, firstOf, spaceOf}
+use Rattle.flow.specs.declared.Credits.{Credits}
 use Rattle.flow.specs.declared.Flow.{Flow}
 use Rattle.flow.specs.declared.Line.the-variants.{Control, Primary, Secondary}
 use Rattle.flow.specs.declared.Which.{Which}
 use Rattle.flow.specs.declared.Which.the-variants.{M, D}
-use Rattle.flow.specs.Which.{creditOf}
+use Rattle.flow.specs.Which.{creditOf, sends, fed}
 use Rattle.flow.specs.Select.{controlReady, primaryReady, needy, stageReady, secondaryReady, leaves, leavesCharged, leavesStage, nothingOf, selectOf}
+use Rattle.flow.specs.Range.{FlowOk}
+use Rattle.flow.proofs.Held.{Holding, Staged}
 use Rattle.flow.proofs.Select.{No, Exactly}
+use Rattle.flow.proofs.Frames.{Moves}
 use Rattle.fair.specs.declared.Fair.{Fair}
 use Rattle.advert.specs.declared.Advert.{Advert}
 use Rattle.fair.specs.Age.{ageOf}
@@ -26,23 +34,44 @@ use Rattle.fair.proofs.ReadBack.{ReadBack}
 use Rattle.ring.specs.declared.Way.{Way}
 use Rattle.ring.specs.declared.Way.the-variants.{Left, Right}
 use Rattle.ring.specs.declared.Choice.the-variants.{Chosen, Refused}
-use Rattle.ring.specs.Links.{otherOf}
-use Rattle.ring.specs.Choosing.{codeOf, distanceOf, reachesOf, sentOf, chooseOf, Placed}
+use Rattle.ring.specs.Links.{otherOf, nextOf, linkOf, aheadOf, reachOf}
+use Rattle.ring.specs.Choosing.{codeOf, distanceOf, reachesOf, alongOf, chooseOf, Placed}
+use Rattle.ring.proofs.Hops.{after}
 use Rattle.wrap.specs.declared.Outcome as wrap
-use Rattle.wrap.specs.Walking.{wholeOf, pathOf}
+use Rattle.wrap.specs.Walking.{ended, across, atHome, opposite, courseOf, sideOf, pathOf}
 use Rattle.station.specs.declared.Station.{Station}
 use Rattle.station.specs.Range.{StationOk}
 use Rattle.station.specs.Calls.{freshOf, flagsOk}
-use Rattle.station.specs.History.{recordOf}
+use Rattle.station.specs.History.{Answer, recordOf}
 use Rattle.station.proofs.History.{Recorded}
 use Rattle.layout.specs.Layout.{stationLength}
-use Rattle.rpr.specs.Station.{startAnswer, startAfter}
-use Rattle.rpr.specs.Lent.{Lending, memoryThrough, callsOn, stationIn}
-use Rattle.paper.specs.Rules.{Ticks, Enters, Counts, Tells, Hears}
+use Rattle.rpr.specs.Station.{startAnswer}
+use Rattle.rpr.specs.Lent.{Lending, memoryThrough, NoNewStart, callsOn, startedIn, stationIn}
+use Rattle.paper.specs.Rules.{Ticks, Charges, Enters, Counts, Tells, Reads, Writes, Hears}
+use Rattle.paper.specs.Acts.{Starts, Acts, Traces}
 
--- ---- frame selection: first that holds
+-- ---- frame selection
 
+-- Which rows hold,
+pub record Ready (s : Settings) (f : Flow) : Type 0 where
+  -- control, if its head's size fits the space of both transit queues and M permits
+  pub control : (x : Frame) (xs : List Frame) → framesOf (f .control) ≡ x ∷ xs
+      → Holds (controlReady s f)
+      ↔ ((x .size ≤ spaceOf (f .primary) (s .queues .primary))
+      × ((x .size ≤ spaceOf (f .secondary) (s .queues .secondary)) × (s .shapers .m .lo < f .credits .m)))
+  pub no-control : framesOf (f .control) ≡ [] → No (controlReady s f)
+  -- primary
+  pub primary : Holds (primaryReady f) ↔ Holding (f .primary)
+  -- secondary, if mtu > its space
+  pub needy-secondary : Holds (needy s f) ↔ (spaceOf (f .secondary) (s .queues .secondary) < s .mtu)
+  -- stage
+  pub stage : Holds (stageReady f) ↔ Staged f
+  -- secondary, if D permits
+  pub secondary : Holds (secondaryReady s f) ↔ (Holding (f .secondary) × (s .shapers .d .lo < f .credits .d))
+
+-- and the first that holds.
 pub record Selects (s : Settings) (f : Flow) : Type 0 where
+  pub ready : Ready s f
   -- control, if its head's size fits the space of both transit queues and M permits (M charged);
   pub control : Exactly s f 1 (leavesCharged s f Control M)
   -- primary;
@@ -56,6 +85,12 @@ pub record Selects (s : Settings) (f : Flow) : Type 0 where
       → selectOf s f ≡ leavesCharged s f Secondary D
   -- nothing.
   pub nothing : Exactly s f 0 (nothingOf f)
+  -- What is charged, and what is not.
+  pub m-charged : leavesCharged s f Control M .flow .credits ≡ fed s (f .credits) (sends (M ∷ []) (firstOf (f .control) .size))
+  pub d-charged : leavesCharged s f Secondary D .flow .credits ≡ fed s (f .credits) (sends (D ∷ []) (firstOf (f .secondary) .size))
+  pub uncharged : (leaves f Primary .flow .credits ≡ f .credits) × (leaves f Secondary .flow .credits ≡ f .credits) × (leavesStage f .flow .credits ≡ f .credits)
+  -- The chosen frame leaves its queue, where it was first; no other frame moves.
+  pub moves : SettingsOk s → FlowOk s f → Moves f (selectOf s f)
 
 -- ---- fair rates: an aging interval, with so many bytes in the secondary queue
 
@@ -93,30 +128,73 @@ pub record Ages (f : Fair) (s : Settings) (held : ℕ) : Type 0 where
 
 -- ---- ringlet choice and path
 
+-- A ring of so many stations, numbered from 0; right goes to the next higher number.
+pub record Joins (stations : ℕ) : Type 0 where
+  -- Link k joins k and k+1,
+  pub next : (k : ℕ) → k + 1 < stations → (linkOf Right stations k ≡ k) × (nextOf Right stations k ≡ k + 1)
+  -- the last joins 0;
+  pub last : 0 < stations → nextOf Right stations (stations - 1) ≡ 0
+  -- and it is the same link from both its ends.
+  pub both-ends : (way : Way) (at : ℕ) → at < stations → linkOf way stations at ≡ linkOf (otherOf way) stations (nextOf way stations at)
+
+-- Of two different stations of a ring, `after way stations own n` being the station n hops on:
+pub record Reaches (stations own target links : ℕ) : Type 0 where
+  -- the distance is the fewest hops that end at the target;
+  pub arrives : (way : Way) → after way stations own (distanceOf way stations own target) ≡ target
+  pub not-before : (way : Way) (n : ℕ) → n < distanceOf way stations own target → after way stations own n ≡ target → ⊥
+  -- how far each side reaches is the unbroken run of usable links from the station;
+  pub unbroken : (way : Way) (n : ℕ) → n < reachOf way stations own links → aheadOf way stations links (after way stations own n) ≡ true
+  pub broken : (way : Way) → reachOf way stations own links < stations
+      → aheadOf way stations links (after way stations own (reachOf way stations own links)) ≡ false
+  -- a side reaches the target if that is as far as the distance.
+  pub reaches : (way : Way) → (reachesOf way stations own target links ≡ true) ↔ (distanceOf way stations own target ≤ reachOf way stations own links)
+
+-- The path of a wrap-marked frame, by the links that its hops use.
+pub record Walks (stations links target : ℕ) (home : Way) : Type 0 where
+  -- On its home side it moves on until the link ahead is unusable, then turns to the opposite ringlet,
+  pub moves : (left at : ℕ) → (at ≡ target → ⊥) → aheadOf home stations links at ≡ true
+      → courseOf stations links target home (suc left) atHome at
+      ≡ across (linkOf home stations at) (courseOf stations links target home left atHome (nextOf home stations at))
+  pub turns : (left at : ℕ) → (at ≡ target → ⊥) → aheadOf home stations links at ≡ false
+      → courseOf stations links target home (suc left) atHome at ≡ courseOf stations links target home (suc left) opposite at
+  -- and back again at the next break.
+  pub moves-opposite : (left at : ℕ) → aheadOf (otherOf home) stations links at ≡ true
+      → courseOf stations links target home (suc left) opposite at
+      ≡ across (linkOf (otherOf home) stations at) (courseOf stations links target home left opposite (nextOf (otherOf home) stations at))
+  pub turns-back : (left at : ℕ) → aheadOf (otherOf home) stations links at ≡ false
+      → courseOf stations links target home (suc left) opposite at ≡ courseOf stations links target home (suc left) atHome at
+  -- Delivered when on the home side at the target, also just after a turn.
+  pub delivered : (left at : ℕ) → at ≡ target → courseOf stations links target home left atHome at ≡ ended true
+  -- Not delivered once the hops are used, or if both links of the station are unusable.
+  pub used : (at : ℕ) → (at ≡ target → ⊥) → courseOf stations links target home 0 atHome at ≡ ended false
+  pub used-opposite : (at : ℕ) → courseOf stations links target home 0 opposite at ≡ ended false
+  pub stuck : (left at : ℕ) → (at ≡ target → ⊥) → aheadOf home stations links at ≡ false → aheadOf (otherOf home) stations links at ≡ false
+      → courseOf stations links target home (suc left) atHome at ≡ ended false
+
 -- Side 3 is default; protection 1 is protected, 2 unprotected.
 pub record Chooses (stations own target links ring : ℕ) : Type 0 where
   -- Protected left or right: that side if it reaches, else the other if it reaches, else 8.
   pub that : (way : Way) → reachesOf way stations own target links ≡ true
-      → chooseOf stations own target links (codeOf way) 1 ring ≡ sentOf way stations own target 1 ring
+      → chooseOf stations own target links (codeOf way) 1 ring ≡ alongOf way stations own target 1 ring
   pub other : (way : Way) → reachesOf way stations own target links ≡ false → reachesOf (otherOf way) stations own target links ≡ true
-      → chooseOf stations own target links (codeOf way) 1 ring ≡ sentOf (otherOf way) stations own target 1 ring
+      → chooseOf stations own target links (codeOf way) 1 ring ≡ alongOf (otherOf way) stations own target 1 ring
   pub neither : (way : Way) → reachesOf way stations own target links ≡ false → reachesOf (otherOf way) stations own target links ≡ false
       → chooseOf stations own target links (codeOf way) 1 ring ≡ Refused 8
   -- Unprotected: that side regardless.
-  pub regardless : (way : Way) → chooseOf stations own target links (codeOf way) 2 ring ≡ sentOf way stations own target 2 ring
+  pub regardless : (way : Way) → chooseOf stations own target links (codeOf way) 2 ring ≡ alongOf way stations own target 2 ring
   -- Default: the shorter side that reaches (unprotected: the shorter), right on a tie, 8 if none.
   pub shorter : (way : Way) → distanceOf way stations own target < distanceOf (otherOf way) stations own target → reachesOf way stations own target links ≡ true
-      → chooseOf stations own target links 3 1 ring ≡ sentOf way stations own target 1 ring
+      → chooseOf stations own target links 3 1 ring ≡ alongOf way stations own target 1 ring
   pub only : (way : Way) → reachesOf way stations own target links ≡ true → reachesOf (otherOf way) stations own target links ≡ false
-      → chooseOf stations own target links 3 1 ring ≡ sentOf way stations own target 1 ring
+      → chooseOf stations own target links 3 1 ring ≡ alongOf way stations own target 1 ring
   pub tie : distanceOf Left stations own target ≡ distanceOf Right stations own target → reachesOf Right stations own target links ≡ true
-      → chooseOf stations own target links 3 1 ring ≡ sentOf Right stations own target 1 ring
+      → chooseOf stations own target links 3 1 ring ≡ alongOf Right stations own target 1 ring
   pub none : reachesOf Left stations own target links ≡ false → reachesOf Right stations own target links ≡ false
       → chooseOf stations own target links 3 1 ring ≡ Refused 8
   pub unprotected-tie : distanceOf Left stations own target ≡ distanceOf Right stations own target
-      → chooseOf stations own target links 3 2 ring ≡ sentOf Right stations own target 2 ring
+      → chooseOf stations own target links 3 2 ring ≡ alongOf Right stations own target 2 ring
   pub unprotected-shorter : (way : Way) → distanceOf way stations own target < distanceOf (otherOf way) stations own target
-      → chooseOf stations own target links 3 2 ring ≡ sentOf way stations own target 2 ring
+      → chooseOf stations own target links 3 2 ring ≡ alongOf way stations own target 2 ring
 
 -- What is unspecified, and what a side that is taken sends, whatever the other numbers are.
 pub record Sends (stations own target links ring : ℕ) : Type 0 where
@@ -124,34 +202,46 @@ pub record Sends (stations own target links ring : ℕ) : Type 0 where
   pub side : (protection : ℕ) → chooseOf stations own target links 0 protection ring ≡ chooseOf stations own target links 3 protection ring
   pub protection : (s : ℕ) → chooseOf stations own target links s 0 ring ≡ chooseOf stations own target links s 1 ring
   -- ttl: the distance on a steering ring, 63 on a wrapping one. Wrap mark: protected on a wrapping ring.
-  pub steering : (way : Way) (p : ℕ) → sentOf way stations own target p 0 ≡ Chosen (codeOf way) (distanceOf way stations own target) (distanceOf way stations own target) false
-  pub wrapping : (way : Way) → sentOf way stations own target 1 1 ≡ Chosen (codeOf way) (distanceOf way stations own target) 63 true
-  pub wrapping-unprotected : (way : Way) → sentOf way stations own target 2 1 ≡ Chosen (codeOf way) (distanceOf way stations own target) 63 false
+  pub steering : (way : Way) (p : ℕ) → alongOf way stations own target p 0 ≡ Chosen (codeOf way) (distanceOf way stations own target) (distanceOf way stations own target) false
+  pub wrapping : (way : Way) → alongOf way stations own target 1 1 ≡ Chosen (codeOf way) (distanceOf way stations own target) 63 true
+  pub wrapping-unprotected : (way : Way) → alongOf way stations own target 2 1 ≡ Chosen (codeOf way) (distanceOf way stations own target) 63 false
 
 -- ---- all together
 
--- memory whose first bytes were lent to rpr_start
-abbrev pub startedIn : List ℕ → List ℕ → List ℕ
-startedIn settings mem = startAfter settings (take stationLength mem) ++ drop stationLength mem
-
 pub record Condition2 : Type 0 where
   -- Over any calls from a fresh station, each lent what the one before left and none a new start, a shaper's credit equals that of its record: one event per
-  -- tick, one send per charge; and every send was permitted at its place. Here over any exported calls on one piece of memory, wrong lengths and refused
-  -- arguments among them, from a start that was carried out.
-  pub credits : (settings mem : List ℕ) → Bytes settings → startAnswer settings (take stationLength mem) ≡ 0 → (calls : List Lending) (w : Which)
+  -- tick, one send per charge; and every send was permitted at its place. Here over any exported calls on one piece of memory, wrong lengths, refused
+  -- arguments and refused starts among them, from a start that was carried out.
+  pub credits : (settings mem : List ℕ) → Bytes settings → startAnswer settings (take stationLength mem) ≡ 0
+      → (calls : List Lending) → NoNewStart (startedIn settings mem) calls → (w : Which)
       → Recorded (settingsAt settings 0) w (creditOf (stationIn (memoryThrough (startedIn settings mem) calls) .flow .credits) w)
       (recordOf w (freshOf (settingsAt settings 0)) (callsOn (startedIn settings mem) calls))
+  -- Calls keep the station in range, new starts among them.
+  pub range : (settings mem : List ℕ) → Bytes settings → startAnswer settings (take stationLength mem) ≡ 0
+      → (calls : List Lending) → StationOk (stationIn (memoryThrough (startedIn settings mem) calls))
+  -- What a call is to a shaper's record.
+  pub events : (st : Station) (w : Which) (r : Answer) → Traces st w r
+  pub starts : (s : Settings) → Starts s
+  -- Which part of a station each call looks at and changes; the rules of these parts are below.
+  pub calls : (st : Station) → StationOk st → Acts st
   pub ticks : (st : Station) → StationOk st → (a b c : ℕ) → Holds (flagsOk a b c) → Ticks st a b c
+  pub charges : (s : Settings) (c : Credits) → Charges s c
   pub entry : Enters
   pub selection : (s : Settings) (f : Flow) → Selects s f
   pub counting : (f : Fair) (hops size : ℕ) → Counts f hops size
   pub rates : (f : Fair) (s : Settings) (held : ℕ) → Ages f s held
   pub telling : (f : Fair) (s : Settings) → Tells f s
   pub hearing : (f : Fair) (a : Advert) → Hears f a
+  pub reading : (frame : List ℕ) → Reads frame
+  pub writing : (a : Advert) → Writes a
   pub sending : (stations own target links ring : ℕ) → Sends stations own target links ring
   pub choice : (stations own target links ring : ℕ) → Placed stations own target links → ring ≤ 1 → Chooses stations own target links ring
-  -- The answer holds the hops moved, equal to the path's length.
+  pub links : (stations : ℕ) → Joins stations
+  pub reach : (stations own target links : ℕ) → Placed stations own target links → Reaches stations own target links
+  pub walk : (stations links target : ℕ) (home : Way) → Walks stations links target home
+  -- The answer holds the hops moved, equal to the path's length, from the station on with 2 × stations hops left.
   pub path : (stations own target links home : ℕ) (delivered : Bool) (hops : ℕ) → pathOf stations own target links home ≡ wrap.Outcome.Moved delivered hops
-      → hops ≡ length (wholeOf stations own target links home .links)
+      → let course = courseOf stations links target (sideOf home) (2 * stations) atHome own in
+      (hops ≡ length (course .links)) × (delivered ≡ course .delivered)
   -- Reading a written frame, with the same settings but an address it doesn't bear, gives back its ringlet bit, ttl, address and rate.
   pub frames : (s : Settings) (f : Fair) → SettingsOk s → FairOk s f → s .address .low < 4294967296 → f .low < 4294967296 → ReadBack s f

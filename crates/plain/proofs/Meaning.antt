@@ -16,7 +16,7 @@ use Rattle.shaper.proofs.Credit.{next-max}
 use Rattle.plain.specs.declared.Plain.{Plain}
 use Rattle.plain.specs.Plain.{plainEmpty, plainSingle, plainJoined, plainOf, plainEnd}
 use Rattle.plain.specs.Range.{Sound, Same}
-use Rattle.plain.proofs.Laws.{joined-sound, empty-left, empty-right, joined-assoc, first-then, then-first, end-joined}
+use Rattle.plain.proofs.Laws.{joined-sound, empty-left, joined-assoc, first-then, then-first, end-joined}
 
 -- ---- counts of a list of events
 
@@ -96,15 +96,6 @@ module _ (l : Limits) (ok : Holds (limitsOk l)) where
       ∙ sym
       (joined-assoc (plainSingle l e) (plainOf l xs) (plainOf l ys) (single-sound e (v .0)) (plain-sound xs (v .1)) (plain-sound ys w)
       (head-same l e xs) (alike l (plainOf l xs) (plainOf l ys) (plain-limits l xs) (plain-limits l ys)))
-
-  single-empty : (e : Event) → Valid l e → plainJoined (plainSingle l e) (plainEmpty l) ≡ plainSingle l e
-  single-empty (Waiting x) v = empty-right (plainSingle l (Waiting x)) (single-sound (Waiting x) v)
-  single-empty (Idle x) v = empty-right (plainSingle l (Idle x)) (single-sound (Idle x) v)
-  single-empty (Send z) v = empty-right (plainSingle l (Send z)) (single-sound (Send z) v)
-
-  -- one event more at the end
-  pub plain-snoc : (xs : List Event) (e : Event) → AllValid l xs → Valid l e → plainOf l (xs ++ (e ∷ [])) ≡ plainJoined (plainOf l xs) (plainSingle l e)
-  plain-snoc xs e v w = plain-append xs (e ∷ []) v (w, tt) ∙ ap (plainJoined (plainOf l xs)) (single-empty e w)
 
   -- ---- From credit c: permitted throughout exactly if c ≥ need, ending at min(c + gain, ceiling).
 

@@ -9,7 +9,7 @@ use lib.Dec.{leb}
 use Rattle.decide.specs.Test.{test, Holds, split, _≤?_, _∧?_, _∨?_}
 use Rattle.decide.proofs.Tests.{same-test}
 use Rattle.queue.specs.declared.Frame.{Frame}
-use Rattle.queue.specs.Frame.{frameOk, FrameOk, wordOf, frameOf, Fits}
+use Rattle.queue.specs.Frame.{frameOk, FrameOk, wordOf, frameOf, FrameFits}
 
 -- ---- the codec
 
@@ -20,7 +20,7 @@ low4 : (a b : ℕ) → a < 4 → (a + 4 * b) % 4 ≡ a
 low4 a b h = omega arith
 
 -- the word without its cuts
-plain : (f : Frame) → Fits f → wordOf f ≡ f .size + f .hops * 16384 + f .class * 1048576 + f .mark * 4194304
+plain : (f : Frame) → FrameFits f → wordOf f ≡ f .size + f .hops * 16384 + f .class * 1048576 + f .mark * 4194304
 plain f w = omega arith
 
 parts : (a b c d : ℕ) → a < 16384 → b < 64 → c < 4 → frameOf (a + b * 16384 + c * 1048576 + d * 4194304) ≡ record { size = a; hops = b; class = c; mark = d }
@@ -35,7 +35,7 @@ parts a b c d p q r =
     rw (z, h, k, m)
 
 -- a frame whose numbers fit their bits is read back from its word
-pub word-frame : (f : Frame) → Fits f → frameOf (wordOf f) ≡ f
+pub word-frame : (f : Frame) → FrameFits f → frameOf (wordOf f) ≡ f
 word-frame f w = ap frameOf (plain f w) ∙ parts (f .size) (f .hops) (f .class) (f .mark) (w .size) (w .hops) (w .class)
 
 joined : (w : ℕ) → w % 16384 + w / 16384 % 64 * 16384 + w / 1048576 % 4 * 1048576 + w / 4194304 * 4194304 ≡ w
@@ -65,7 +65,7 @@ pub frame-holds : (mtu : ℕ) (f : Frame) → FrameOk mtu f → Holds (frameOk m
 frame-holds mtu f r = (r .least, (r .most, (r .hops, (r .class, (r .mark, r .marked)))))
 
 -- a frame in range fits a word
-pub frame-fits : {mtu : ℕ} {f : Frame} → mtu ≤ 9216 → FrameOk mtu f → Fits f
+pub frame-fits : {mtu : ℕ} {f : Frame} → mtu ≤ 9216 → FrameOk mtu f → FrameFits f
 frame-fits m r = record { size = omega (arith, r .most); hops = omega (arith, r .hops); class = omega (arith, r .class); mark = omega (arith, r .mark) }
 
 -- only B and C may be marked

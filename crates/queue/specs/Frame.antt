@@ -34,7 +34,7 @@ abbrev pub frameOf : ℕ → Frame
 frameOf w = record { size = w % 16384; hops = w / 16384 % 64; class = w / 1048576 % 4; mark = w / 4194304 }
 
 -- each number of the frame fits its bits
-pub record Fits (f : Frame) : Type 0 where
+pub record FrameFits (f : Frame) : Type 0 where
   pub size : f .size < 16384
   pub hops : f .hops < 64
   pub class : f .class < 4

@@ -4,6 +4,7 @@ ghost use Prim.Native.Nat.{_+_, _<_, _^_};
 ghost use Rattle.decide.specs.Test.{test};
 ghost use Rattle.queue.specs.Frame.{hopsOk, frameOk, wordOf, frameOf};
 ghost use Rattle.queue.specs.Queue.{emptyQueue, pushed, firstOf, takeOf, spaceOf, holdsFrame};
+ghost use Rattle.queue.specs.Front.{frontOf, fronted};
 ghost use Rattle.queue.specs.Range.{slotOk, slotsOk, queueOk};
 
 // A frame. Its class is A 0, B 1 or C 2; its mark is 1 where it is fairness eligible, else 0.
@@ -19,6 +20,13 @@ pub struct Frame {
 pub struct Queue {
     pub slots: [u32; 128],
     pub head: u8,
+    pub count: u8,
+    pub held: u32,
+}
+
+// The front of a queue, which is all that a selection looks at: the word of its first frame, how many frames it holds, and their bytes.
+pub struct Front {
+    pub word: u32,
     pub count: u8,
     pub held: u32,
 }
@@ -76,6 +84,32 @@ impl Frame {
     }
 }
 
+impl Front {
+    // The frame that is taken next.
+    pub fn first(self) -> Frame
+        ensures { λ r. ⌜ r ≡ firstOf (fronted self) ⌝ }
+    {
+        Frame::of(self.word)
+    }
+
+    // How large a frame may be that a queue with this front still has room for.
+    pub fn space(self, capacity: u32) -> u32
+        ensures { λ r. ⌜ r ≡ spaceOf (fronted self) capacity ⌝ }
+    {
+        if 128 <= self.count {
+            return 0;
+        }
+        decide::less(capacity as u64, self.held as u64) as u32
+    }
+
+    // Whether a queue with this front holds a frame.
+    pub fn holds_frame(self) -> bool
+        ensures { λ r. ⌜ r ≡ holdsFrame (fronted self) ⌝ }
+    {
+        0 < self.count
+    }
+}
+
 impl Queue {
     // A queue at its start: 128 empty slots.
     pub fn empty() -> Self
@@ -105,12 +139,16 @@ impl Queue {
         next
     }
 
-    // The frame that is taken next.
-    pub fn first(self) -> Frame
-        ensures { λ r. ⌜ r ≡ firstOf self ⌝ }
+    // The front of the queue.
+    pub fn front(self) -> Front
+        ensures { λ r. ⌜ r ≡ frontOf self ⌝ }
     {
         let at = self.head as usize % 128;
-        Frame::of(self.slots[at])
+        Front {
+            word: self.slots[at],
+            count: self.count,
+            held: self.held,
+        }
     }
 
     // The first frame, and the queue of those behind it. The slot that it stood in is empty again, for a later frame.
@@ -135,17 +173,14 @@ impl Queue {
     pub fn space(self, capacity: u32) -> u32
         ensures { λ r. ⌜ r ≡ spaceOf self capacity ⌝ }
     {
-        if 128 <= self.count {
-            return 0;
-        }
-        decide::less(capacity as u64, self.held as u64) as u32
+        self.front().space(capacity)
     }
 
     // Whether the queue holds a frame.
     pub fn holds_frame(self) -> bool
         ensures { λ r. ⌜ r ≡ holdsFrame self ⌝ }
     {
-        0 < self.count
+        self.front().holds_frame()
     }
 
     // Whether the queue is in its range: its slots, its frames, and its bytes, which are at most the capacity.

@@ -6,7 +6,6 @@ use mathlib.Core.Path.{_≡_, sym, _∙_}
 use denote.Ref.{RefT}
 use Rattle.record.specs.declared.Step.{Step}
 use Rattle.reader.specs.declared.Reader.{Reader}
-use Rattle.reader.specs.Place.{nextAt}
 use Rattle.reader.specs.Walk.{newOf, nextOf, movedOf}
 
 pub new-determined : (s : RefT (List ℕ)) (r q : Reader) → r ≡ newOf s → q ≡ newOf s → r ≡ q
@@ -17,6 +16,3 @@ next-determined d r q e f = e ∙ sym f
 
 pub moved-determined : (d r q : Reader) → r ≡ movedOf d → q ≡ movedOf d → r ≡ q
 moved-determined d r q e f = e ∙ sym f
-
-pub read-determined : (xs : List ℕ) (at : ℕ) (r q : Step) → r ≡ nextAt xs at → q ≡ nextAt xs at → r ≡ q
-read-determined xs at r q e f = e ∙ sym f

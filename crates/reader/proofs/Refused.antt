@@ -2,6 +2,7 @@
 -- Assumes nothing.
 use Prim.Native.Nat.{ℕ, _≤_, _<_}
 use mathlib.Core.List.{List}
+use mathlib.Core.Logic.{_↔_}
 use mathlib.Core.Path.{_≡_, refl, sym, ap, _∙_}
 use native.Mathlib.Omega.{arith}
 use lib.ListN.{length, drop}
@@ -12,8 +13,9 @@ use Rattle.record.specs.declared.Header.{Header}
 use Rattle.record.specs.declared.Header.the-variants.{Settings, Unreadable}
 use Rattle.record.specs.declared.Step.the-variants.{Faulty}
 use Rattle.record.specs.Read.{headerFaults, eventFaults}
-use Rattle.record.specs.Step.{headerOf}
+use Rattle.record.specs.Step.{headerOf, stepNumber}
 use Rattle.record.proofs.Refused.{header-refused-exactly, event-refused-exactly}
+use Rattle.record.proofs.Answers.{step-refuses}
 use Rattle.reader.specs.Place.{limit, nextAt}
 use Rattle.reader.proofs.Rows.{next-unreadable, next-over, next-within, next-end}
 
@@ -42,3 +44,7 @@ module _ (xs : List ℕ) (at n : ℕ) (p : 0 < n) where
 
   pub next-refused-exactly : (nextAt xs at ≡ Faulty n → Wrong xs at n) × (Wrong xs at n → nextAt xs at ≡ Faulty n)
   next-refused-exactly = (wrong (headerOf xs) refl, given)
+
+  -- the same of the paper's number
+  pub next-exactly : (stepNumber (nextAt xs at) ≡ n) ↔ Wrong xs at n
+  next-exactly = (λ e. next-refused-exactly .0 (step-refuses (nextAt xs at) n p e), λ w. ap stepNumber (next-refused-exactly .1 w))

@@ -108,7 +108,3 @@ module _ (l : Limits) (es : List Event) (q : List ℕ) (w : WellFormed l es) whe
       by-cases z
       (λ s. by-fields 3 few h (omega arith) (fields-small (l .mtu) (le 2 q 0) (le 2 q 2) (le 2 q 4) e k s))
       (λ s. by-fields 3 few h (omega arith) (fields-large (l .mtu) (le 2 q 0) (le 2 q 2) (le 2 q 4) e k s))
-
-  -- A send of size 15 is 3.
-  pub send-15 : length es < 1000000 → 6 ≤ length q → le 2 q 0 ≡ 6 → le 2 q 2 ≡ 3 → le 2 q 4 ≡ 15 → readRecord (written l es ++ q) ≡ unreadable 3
-  send-15 few h e k z = send-size few h e k (inl (omega arith))

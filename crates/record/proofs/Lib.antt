@@ -4,5 +4,6 @@ pub mod Steps
 pub mod Written
 pub mod Earliest
 pub mod Refused
+pub mod Answers
 pub mod Means
 pub mod Examples

@@ -16,9 +16,8 @@ use Rattle.wire.specs.Wire.{le}
 use Rattle.wire.proofs.Numbers.{le-drop}
 use Rattle.record.specs.declared.Header.the-variants.{Settings, Unreadable}
 use Rattle.record.specs.declared.Step.the-variants.{Stands, End, Faulty}
-use Rattle.record.specs.Read.{limitsAt, headerFaults, lengthAt, kindAt, numberAt, fieldFaults, fieldFault, eventFaults, good}
+use Rattle.record.specs.Read.{limitsAt, headerFaults, lengthAt, kindAt, numberAt, fieldFaults, fieldFault, eventFaults}
 use Rattle.record.specs.Step.{headerOf, stepAt}
-use Rattle.record.proofs.Fields.{good-exactly}
 
 -- ---- the header
 
@@ -53,7 +52,7 @@ module _ (xs : List ℕ) where
 -- ---- an event
 
 -- the fault of an event that is not cut short is that of its fields
-pub event-fields : (mtu : ℕ) (xs : List ℕ) → 6 ≤ length xs → firstOf (eventFaults mtu xs) ≡ fieldFault mtu (lengthAt xs) (kindAt xs) (numberAt xs)
+event-fields : (mtu : ℕ) (xs : List ℕ) → 6 ≤ length xs → firstOf (eventFaults mtu xs) ≡ fieldFault mtu (lengthAt xs) (kindAt xs) (numberAt xs)
 unfolding fieldFault
 event-fields mtu xs h =
     in-order (eventFaults mtu xs) refl ∙ rw (le-ltb (length xs) 6 h) (sym (in-order (fieldFaults mtu (lengthAt xs) (kindAt xs) (numberAt xs)) refl))
@@ -66,14 +65,6 @@ module _ (mtu : ℕ) (xs : List ℕ) (at : ℕ) where
   pub event-fields-at : at + 6 ≤ length xs → firstOf (eventFaults mtu (drop at xs)) ≡ faultAt mtu xs at
   event-fields-at h =
       event-fields mtu (drop at xs) (simp length-drop (omega arith)) ∙ simp (le-drop, add-zero)
-
-  -- for six bytes or more, `good` says exactly that no fault applies
-  pub good-at : at + 6 ≤ length xs →
-      (good mtu (le 2 xs at) (le 2 xs (at + 2)) (le 2 xs (at + 4)) ≡ true → firstOf (eventFaults mtu (drop at xs)) ≡ 0)
-      × (firstOf (eventFaults mtu (drop at xs)) ≡ 0 → good mtu (le 2 xs at) (le 2 xs (at + 2)) (le 2 xs (at + 4)) ≡ true)
-  good-at h =
-      let x = good-exactly mtu (le 2 xs at) (le 2 xs (at + 2)) (le 2 xs (at + 4)) in
-      (λ e. event-fields-at h ∙ x .0 e, λ e. x .1 (sym (event-fields-at h) ∙ e))
 
   pub event-end : length xs ≤ at → stepAt mtu xs at ≡ End
   unfolding stepAt

@@ -138,10 +138,6 @@ module _ (mtu : ℕ) (xs : List ℕ) (at : ℕ) where
   read-good m h g =
       read-step m ∙ rw (event-stands mtu xs at h (facts-free mtu (le 2 xs at) (le 2 xs (at + 2)) (le 2 xs (at + 4)) g), g .six)
 
-  -- a fault at a place, which is never 0
-  pub read-faulty : (m n : ℕ) → at < length xs → firstOf (eventFaults mtu (drop at xs)) ≡ suc n → readFrom mtu (suc m) (drop at xs) ≡ faulty (suc n)
-  read-faulty m n h e = read-some mtu m (drop at xs) (simp length-drop (omega arith)) ∙ rw e
-
 -- ---- what a step tells
 
 -- an event that stands at a place: its kind and number are those fields, it stands for one, and the next begins 6 bytes on

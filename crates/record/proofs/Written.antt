@@ -57,8 +57,8 @@ events-append (e ∷ es) fs = rw (append-assoc, events-append es fs)
 
 -- ---- sizes: settings in range and events in range fit their bytes
 
-pub settings-fit : (l : Limits) → Holds (limitsOk l) → (l .mtu < 65536) × (l .lo < 4294967296) × (l .hi < 4294967296)
-settings-fit l ok = omega arith
+pub limits-fit : (l : Limits) → Holds (limitsOk l) → (l .mtu < 65536) × (l .lo < 4294967296) × (l .hi < 4294967296)
+limits-fit l ok = omega arith
 
 pub event-fits : (l : Limits) (e : Event) → Holds (limitsOk l) → Valid l e → (kindOf e < 65536) × (numberOf e < 65536)
 event-fits l (Waiting x) ok v = omega arith
@@ -85,7 +85,7 @@ module _ (l : Limits) (ok : Holds (limitsOk l)) where
   unfolding headerBytes
   header-back q =
       let s = stands-between [] (laidOut (headerParts l)) q in
-      let f = settings-fit l ok in
+      let f = limits-fit l ok in
       let a : le 2 (laidOut (headerParts l) ++ q) 0 ≡ 14 = le-part (headerParts l) 0 2 14 (laidOut (headerParts l) ++ q) 0 refl (omega arith) s in
       let b : le 2 (laidOut (headerParts l) ++ q) 2 ≡ 16 = le-part (headerParts l) 1 2 16 (laidOut (headerParts l) ++ q) 0 refl (omega arith) s in
       let m : le 2 (laidOut (headerParts l) ++ q) 4 ≡ l .mtu = le-part (headerParts l) 2 2 (l .mtu) (laidOut (headerParts l) ++ q) 0 refl (omega arith) s in

@@ -2,7 +2,7 @@
 -- Assumes nothing.
 use Prim.Native.Nat.{ℕ, zero, suc, _+_}
 use mathlib.Core.Bool.{cond}
-use mathlib.Core.List.{List}
+use mathlib.Core.List.{List, [], _∷_}
 use lib.Dec.{leb}
 use lib.ListN.{length, drop}
 use Rattle.decide.specs.Refusal.{firstOf}
@@ -26,3 +26,25 @@ stepped (suc n) xs at = Faulty (suc n)
 
 unfoldable pub stepAt : ℕ → List ℕ → ℕ → Step
 stepAt mtu xs at = cond (leb (length xs) at) End (stepped (firstOf (eventFaults mtu (drop at xs))) xs at)
+
+-- ---- document 01's number and values of each answer
+
+-- the header: 0 with mtu, loLimit and hiLimit, or its fault's number alone
+abbrev pub headerNumber : Header → ℕ
+headerNumber (Settings l) = 0
+headerNumber (Unreadable n) = n
+
+abbrev pub headerValues : Header → List ℕ
+headerValues (Settings l) = l .mtu ∷ l .lo ∷ l .hi ∷ []
+headerValues (Unreadable n) = []
+
+-- a place: 0 with the event's kind and its amount or size, 0 alone at the end, or the fault's number alone
+abbrev pub stepNumber : Step → ℕ
+stepNumber (Stands kind number count next) = 0
+stepNumber End = 0
+stepNumber (Faulty n) = n
+
+abbrev pub stepValues : Step → List ℕ
+stepValues (Stands kind number count next) = kind ∷ number ∷ []
+stepValues End = []
+stepValues (Faulty n) = []

@@ -1,4 +1,4 @@
--- The links' word turned so that a station's own link is its lowest digit: its digits in order are the links to the right, and backwards from its
+-- The links' word rotated so that a station's own link is its lowest digit: its digits in order are the links to the right, and backwards from its
 -- highest those to the left. So the zeros at either end of its complement are the unbroken runs. Assumes nothing.
 use mathlib.Core.Path.{_≡_, refl, sym, ap, ap₂, _∙_, subst}
 use mathlib.Core.Bool.{Bool, false, cond}
@@ -11,7 +11,7 @@ use lib.Pow.{pow-pos, pow-add, pow-mono, shr-lt, shl-exact}
 use lib.Count.{trailingZeros, leadingZeros}
 use Rattle.ring.specs.declared.Way.{Way}
 use Rattle.ring.specs.declared.Way.the-variants.{Left, Right}
-use Rattle.ring.specs.Links.{usable, nextOf, linkOf, runOf, reachOf, turnedOf, Stands}
+use Rattle.ring.specs.Links.{usable, nextOf, linkOf, runOf, reachOf, rotatedOf, Stands}
 use Rattle.ring.proofs.Digits.{run, digit-shr, digit-low, digit-none, digit-below, digit-above, run-ext, run-cut, trailing-run, leading-run}
 
 -- ---- the links that a run looks at
@@ -51,23 +51,23 @@ run-of way n w (suc m) at h l =
     ∙ run-ext (λ k. usable w (linkAt way n (nextOf way n at) k)) (λ k. usable w (linkAt way n at (suc k))) m
     (λ k i. ap (usable w) (linkAt-next way n at k h (omega arith))))
 
--- ---- the turned word
+-- ---- the rotated word
 
 module _ (n own w : ℕ) (s : Stands n own w) where
   -- the part that stays below the cut
   pub high-lt : w / 2 ^ own < 2 ^ (n - own)
   high-lt = shr-lt (n - own) own (subst (λ (j : ℕ). w < 2 ^ j) (let e : n ≡ (n - own) + own = omega arith in e) (s .clear))
 
-  turned-lt : turnedOf n own w < 2 ^ n
-  turned-lt =
-      subst (λ (j : ℕ). turnedOf n own w < j)
+  rotated-lt : rotatedOf n own w < 2 ^ n
+  rotated-lt =
+      subst (λ (j : ℕ). rotatedOf n own w < j)
       (sym (pow-add 2 own (n - own)) ∙ ap (λ (j : ℕ). 2 ^ j) (let e : own + (n - own) ≡ n = omega arith in e))
       (digits-lt (mod-lt w (pow-pos own)) high-lt)
 
-  turned-digit : (k : ℕ) → k < n → usable (turnedOf n own w) k ≡ usable w ((own + k) % n)
-  turned-digit k h = go (decLt k (n - own))
+  rotated-digit : (k : ℕ) → k < n → usable (rotatedOf n own w) k ≡ usable w ((own + k) % n)
+  rotated-digit k h = go (decLt k (n - own))
     where
-      go : Dec (k < n - own) → usable (turnedOf n own w) k ≡ usable w ((own + k) % n)
+      go : Dec (k < n - own) → usable (rotatedOf n own w) k ≡ usable w ((own + k) % n)
       go (yes l) =
           digit-below (w % 2 ^ own) (n - own) (w / 2 ^ own) k high-lt l ∙ digit-shr w own k
           ∙ ap (usable w) (sym (mod-eq-of-lt (let i : own + k < n = omega arith in i)))
@@ -76,26 +76,26 @@ module _ (n own w : ℕ) (s : Stands n own w) where
           let j : ℕ = k - (n - own) in
           let at : k ≡ (n - own) + j = omega arith in
           let back : j ≡ (own + k) - n = omega arith in
-          ap (usable (turnedOf n own w)) at ∙ digit-above (w % 2 ^ own) (n - own) (w / 2 ^ own) j high-lt
+          ap (usable (rotatedOf n own w)) at ∙ digit-above (w % 2 ^ own) (n - own) (w / 2 ^ own) j high-lt
           ∙ digit-low w own j (omega arith)
           ∙ ap (usable w) (back ∙ sym (mod-eq-sub-mod (let i : n ≤ own + k = omega arith in i) ∙ mod-eq-of-lt (let i : (own + k) - n < n = omega arith in i)))
 
-  in-word : turnedOf n own w < 2 ^ 64
-  in-word = lt-of-lt-of-le turned-lt (pow-mono {i = n} {j = 64} (omega arith))
+  in-word : rotatedOf n own w < 2 ^ 64
+  in-word = lt-of-lt-of-le rotated-lt (pow-mono {i = n} {j = 64} (omega arith))
 
-  pub right-is : trailingZeros 64 ((2 ^ 64 - 1) - turnedOf n own w) ≡ reachOf Right n own w
+  pub right-is : trailingZeros 64 ((2 ^ 64 - 1) - rotatedOf n own w) ≡ reachOf Right n own w
   right-is =
-      trailing-run 64 (turnedOf n own w) in-word
-      ∙ run-cut (usable (turnedOf n own w)) n 64 (omega arith) (digit-none (turnedOf n own w) n turned-lt)
-      ∙ run-ext (usable (turnedOf n own w)) (λ k. usable w (linkAt Right n own k)) n turned-digit
+      trailing-run 64 (rotatedOf n own w) in-word
+      ∙ run-cut (usable (rotatedOf n own w)) n 64 (omega arith) (digit-none (rotatedOf n own w) n rotated-lt)
+      ∙ run-ext (usable (rotatedOf n own w)) (λ k. usable w (linkAt Right n own k)) n rotated-digit
       ∙ sym (run-of Right n w n own (s .station) (omega arith))
 
   -- the word's n digits moved to the top of 64
   abbrev raised : ℕ
-  raised = turnedOf n own w * 2 ^ (64 - n)
+  raised = rotatedOf n own w * 2 ^ (64 - n)
 
-  raised-is : (turnedOf n own w * 2 ^ (64 - n)) % 2 ^ 64 ≡ turnedOf n own w * 2 ^ (64 - n)
-  raised-is = shl-exact n (64 - n) 64 turned-lt (omega arith)
+  raised-is : (rotatedOf n own w * 2 ^ (64 - n)) % 2 ^ 64 ≡ rotatedOf n own w * 2 ^ (64 - n)
+  raised-is = shl-exact n (64 - n) 64 rotated-lt (omega arith)
 
   raised-lt : raised < 2 ^ 64
   raised-lt = subst (λ (x : ℕ). x < 2 ^ 64) raised-is (mod-lt raised (pow-pos 64))
@@ -104,16 +104,16 @@ module _ (n own w : ℕ) (s : Stands n own w) where
   raised-digit k h =
       let at : 64 - 1 - k ≡ (64 - n) + (n - 1 - k) = omega arith in
       ap₂ usable (sym (add-zero raised)) at
-      ∙ digit-above (turnedOf n own w) (64 - n) zero (n - 1 - k) (pow-pos (64 - n))
-      ∙ turned-digit (n - 1 - k) (omega arith)
+      ∙ digit-above (rotatedOf n own w) (64 - n) zero (n - 1 - k) (pow-pos (64 - n))
+      ∙ rotated-digit (n - 1 - k) (omega arith)
 
   raised-end : usable raised (64 - 1 - n) ≡ false
   raised-end =
       ap (λ (x : ℕ). usable x (64 - 1 - n)) (sym (add-zero raised))
-      ∙ digit-below (turnedOf n own w) (64 - n) zero (64 - 1 - n) (pow-pos (64 - n)) (omega arith)
+      ∙ digit-below (rotatedOf n own w) (64 - n) zero (64 - 1 - n) (pow-pos (64 - n)) (omega arith)
       ∙ digit-none zero (64 - 1 - n) (pow-pos (64 - 1 - n))
 
-  pub left-is : leadingZeros 64 ((2 ^ 64 - 1) - (turnedOf n own w * 2 ^ (64 - n)) % 2 ^ 64) ≡ reachOf Left n own w
+  pub left-is : leadingZeros 64 ((2 ^ 64 - 1) - (rotatedOf n own w * 2 ^ (64 - n)) % 2 ^ 64) ≡ reachOf Left n own w
   left-is =
       ap (λ (x : ℕ). leadingZeros 64 ((2 ^ 64 - 1) - x)) raised-is
       ∙ leading-run 64 raised raised-lt

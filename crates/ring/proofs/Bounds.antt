@@ -1,18 +1,16 @@
--- What an answer of the choice holds fits a byte: a code, a number of hops below the stations, and one of the refusal numbers.
+-- What an answer of the choice holds fits a byte: a code, and numbers of hops below 64.
 -- Assumes nothing.
 use Prim.Native.Nat.{ℕ, _≤_, _<_}
-use mathlib.Core.Bool.{Bool, true, false, cond}
-use mathlib.Core.Path.{_≡_, refl, sym, ap, _∙_}
+use mathlib.Core.Bool.{Bool, cond}
+use mathlib.Core.Path.{_≡_}
 use native.Mathlib.Omega.{arith}
-use Rattle.decide.specs.Test.{test}
-use Rattle.decide.proofs.Refusal.{in-order}
 use Rattle.decide.proofs.Cases.{of-each}
 use Rattle.ring.specs.declared.Way.{Way}
 use Rattle.ring.specs.declared.Way.the-variants.{Left, Right}
-use Rattle.ring.specs.declared.Choice.the-variants.{Chosen, Refused}
-use Rattle.ring.specs.Choosing.{codeOf, wrappingOf, distanceOf, wayOf, sentOf, badSize, badWord, badIndex, badCode, noWay, chooseFaults, chooseOf, numberOf, Between}
+use Rattle.ring.specs.declared.Choice.the-variants.{Chosen}
+use Rattle.ring.specs.Choosing.{codeOf, wrappingOf, distanceOf, wayOf, alongOf, chooseOf, Between}
 use Rattle.ring.proofs.Distances.{whole-ring}
-use Rattle.ring.proofs.Faults.{number-first, chosen-means}
+use Rattle.ring.proofs.Faults.{chosen-means}
 
 -- the code of a side, the hops on it and the ttl
 pub record Small (code distance ttl : ℕ) : Type 0 where
@@ -37,7 +35,7 @@ module _ (stations own target links side protection ring : ℕ) where
 
   pub chosen-small : (code distance ttl : ℕ) (mark : Bool)
       → chooseOf stations own target links side protection ring ≡ Chosen code distance ttl mark → Small code distance ttl
-  unfolding sentOf
+  unfolding alongOf
   chosen-small code distance ttl mark e =
       let m = chosen-means stations own target links side protection ring code distance ttl mark e in
       let p = m .0 in
@@ -49,20 +47,3 @@ module _ (stations own target links side protection ring : ℕ) where
       let is-ttl : ttl ≡ cond (wrappingOf ring) 63 far = cc in
       let c = code-small way in
       record { side = omega arith; hops = omega arith; life = omega arith }
-
-  -- a number that is given is one of 1, 3 and 8
-  pub refused-small : (n : ℕ) → chooseOf stations own target links side protection ring ≡ Refused n → n ≤ 8
-  refused-small n e =
-      let f = sym (ap numberOf e) ∙ number-first stations own target links side protection ring ∙ in-order (chooseFaults stations own target links side protection ring) refl in
-      let b =
-      five (test (badSize stations)) (test (badWord stations links)) (test (badIndex stations own target)) (test (badCode side protection ring))
-      (noWay stations own target links protection) in
-      omega (arith, f, b)
-    where
-      five : (a b c d e : Bool) → cond a 1 (cond b 3 (cond c 3 (cond d 3 (cond e 8 0)))) ≤ 8
-      five true b c d e = omega arith
-      five false true c d e = omega arith
-      five false false true d e = omega arith
-      five false false false true e = omega arith
-      five false false false false true = omega arith
-      five false false false false false = omega arith

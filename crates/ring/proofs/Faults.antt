@@ -18,7 +18,7 @@ use Rattle.ring.specs.declared.Way.{Way}
 use Rattle.ring.specs.declared.Way.the-variants.{Left, Right}
 use Rattle.ring.specs.declared.Choice.{Choice}
 use Rattle.ring.specs.declared.Choice.the-variants.{Chosen, Refused}
-use Rattle.ring.specs.Choosing.{protectedOf, reachesOf, sentOf, wayOf, noWay, goesOf, badSize, badWord, badIndex, badCode, placeFaults, chooseFaults, refusedOr, chooseOf, numberOf, Placed}
+use Rattle.ring.specs.Choosing.{protectedOf, reachesOf, alongOf, wayOf, noWay, goesOf, badSize, badWord, badIndex, badCode, placeFaults, chooseFaults, refusedOr, chooseOf, choiceNumber, Placed}
 
 -- ---- the place's faults
 
@@ -126,6 +126,12 @@ exactly-by rows r answer number back n h =
     let x = first-exact rows r n h in
     (λ e. x .has-cause (sym (back (firstOf rows)) ∙ ap number e ∙ back n), λ g. ap answer (x .is-given g))
 
+-- An answer that bears no number is the one that was found: no fault applies.
+pub unrefused : {A : Type 0} (refused : ℕ → A) (number : A → ℕ) → ((n : ℕ) → number (refused n) ≡ n) → (found answer : A) → number answer ≡ 0
+    → (n : ℕ) → refusedOr refused n found ≡ answer → (n ≡ 0) × (answer ≡ found)
+unrefused refused number bears found answer z zero e = (refl, sym e)
+unrefused refused number bears found answer z (suc n) e = let c = sym (bears (suc n)) ∙ ap number e ∙ z in absurd (omega arith)
+
 -- ---- the choice's faults
 
 -- 8 has no other cause
@@ -146,7 +152,7 @@ module _ (stations own target links side protection ring : ℕ) where
   own-rows = cond (test (badCode side protection ring)) 3 (cond (noWay stations own target links protection) 8 0)
 
   abbrev answer : ℕ → Choice
-  answer n = refusedOr n (sentOf (wayOf stations own target links side protection) stations own target protection ring)
+  answer n = refusedOr Refused n (alongOf (wayOf stations own target links side protection) stations own target protection ring)
 
   abbrev chosen : Choice
   chosen = chooseOf stations own target links side protection ring
@@ -185,13 +191,13 @@ module _ (stations own target links side protection ring : ℕ) where
       settled true = refl
       settled false = refl
 
-  numbered : (n : ℕ) → numberOf (answer n) ≡ n
-  unfolding sentOf
+  numbered : (n : ℕ) → choiceNumber (answer n) ≡ n
+  unfolding alongOf
   numbered zero = refl
   numbered (suc n) = refl
 
   -- the answer's number is that of the rows
-  pub number-first : numberOf chosen ≡ firstOf rows
+  pub number-first : choiceNumber chosen ≡ firstOf rows
   unfolding chooseOf
   number-first = numbered (firstOf rows)
 
@@ -201,14 +207,14 @@ module _ (stations own target links side protection ring : ℕ) where
       × (Given rows n → chosen ≡ Refused n)
   unfolding chooseOf
   refused-exactly zero h = absurd (omega arith)
-  refused-exactly (suc n) h = exactly-by rows refl answer numberOf numbered (suc n) h
+  refused-exactly (suc n) h = exactly-by rows refl answer choiceNumber numbered (suc n) h
 
   -- 8 says that the numbers are in range and that neither side reaches.
   pub no-way-means : chosen ≡ Refused 8
       → Placed stations own target links × ((way : Way) → reachesOf way stations own target links ≡ false)
   unfolding noWay
   no-way-means e =
-      let n : then place₀ own-rows ≡ 8 = sym (numbered (then place₀ own-rows)) ∙ ap numberOf (sym opened ∙ e) in
+      let n : then place₀ own-rows ≡ 8 = sym (numbered (then place₀ own-rows)) ∙ ap choiceNumber (sym opened ∙ e) in
       let z =
       eight (test (badSize stations)) (test (badWord stations links)) (test (badIndex stations own target)) (test (badCode side protection ring))
       (noWay stations own target links protection)
@@ -225,11 +231,7 @@ module _ (stations own target links side protection ring : ℕ) where
 
   -- A side is chosen where the numbers are in range.
   pub chosen-means : (code distance ttl : ℕ) (mark : Bool) → chosen ≡ Chosen code distance ttl mark
-      → Placed stations own target links × (Chosen code distance ttl mark ≡ sentOf (wayOf stations own target links side protection) stations own target protection ring)
+      → Placed stations own target links × (Chosen code distance ttl mark ≡ alongOf (wayOf stations own target links side protection) stations own target protection ring)
   chosen-means code distance ttl mark e =
-      let g = go (then place₀ own-rows) (sym opened ∙ e) in
+      let g = unrefused Refused choiceNumber (λ n. refl) (answer 0) (Chosen code distance ttl mark) refl (then place₀ own-rows) (sym opened ∙ e) in
       (placed stations own target links (then-none place₀ own-rows (g .0)), g .1)
-    where
-      go : (n : ℕ) → answer n ≡ Chosen code distance ttl mark → (n ≡ 0) × (Chosen code distance ttl mark ≡ answer 0)
-      go zero p = (refl, sym p)
-      go (suc n) p = let z : _≡_ {A = ℕ} 0 1 = cc in absurd (omega arith)

@@ -3,5 +3,6 @@ pub mod Around
 pub mod Faults
 pub mod Distances
 pub mod Hops
+pub mod Links
 pub mod Rows
 pub mod Bounds

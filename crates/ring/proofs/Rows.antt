@@ -12,7 +12,7 @@ use Rattle.ring.specs.declared.Way.the-variants.{Left, Right}
 use Rattle.ring.specs.declared.Choice.{Choice}
 use Rattle.ring.specs.declared.Choice.the-variants.{Chosen, Refused}
 use Rattle.ring.specs.Links.{otherOf}
-use Rattle.ring.specs.Choosing.{codeOf, protectedOf, distanceOf, tieOf, shorterOf, reachesOf, preferredOf, takenOf, sentOf, noWay, goesOf, badCode, chooseOf, Placed}
+use Rattle.ring.specs.Choosing.{codeOf, protectedOf, distanceOf, tieOf, shorterOf, reachesOf, preferredOf, takenOf, alongOf, noWay, goesOf, badCode, chooseOf, Placed}
 use Rattle.decide.proofs.Tests.{failing}
 use Rattle.ring.proofs.Faults.{placed-free, in-range}
 
@@ -38,32 +38,32 @@ module _ (stations own target links side protection ring : ℕ) (first : Way) (p
   abbrev goes : Choice
   goes = goesOf stations own target links side protection ring
 
-  abbrev sent₀ : Way → Choice
-  sent₀ way = sentOf way stations own target protection ring
+  abbrev along₀ : Way → Choice
+  along₀ way = alongOf way stations own target protection ring
 
   abbrev reaches₀ : Way → Bool
   reaches₀ way = reachesOf way stations own target links
 
-  opened : goes ≡ cond (noWay stations own target links protection) (Refused 8) (sent₀ (takenOf (protectedOf protection) first (reaches₀ first)))
+  opened : goes ≡ cond (noWay stations own target links protection) (Refused 8) (along₀ (takenOf (protectedOf protection) first (reaches₀ first)))
   unfolding goesOf
   opened =
       ap
-      (λ (w : Way). cond (noWay stations own target links protection) (Refused 8) (sent₀ (takenOf (protectedOf protection) w (reaches₀ w))))
+      (λ (w : Way). cond (noWay stations own target links protection) (Refused 8) (along₀ (takenOf (protectedOf protection) w (reaches₀ w))))
       (sym preferred)
 
-  pub goes-regardless : protection ≡ 2 → sent₀ first ≡ goes
+  pub goes-regardless : protection ≡ 2 → along₀ first ≡ goes
   unfolding noWay
   goes-regardless e = sym (opened ∙ rw (eq-eqb protection 2 e))
 
-  pub goes-first : reaches₀ first ≡ true → sent₀ first ≡ goes
+  pub goes-first : reaches₀ first ≡ true → along₀ first ≡ goes
   unfolding noWay
   goes-first e = sym (opened ∙ rw (some-way (protectedOf protection) reaches₀ first e, e, and-off))
 
   module _ (protected : protection ≡ 2 → ⊥) (short : reaches₀ first ≡ false) (second : Way) (opposite : second ≡ otherOf first) where
-    pub goes-second : reaches₀ second ≡ true → sent₀ second ≡ goes
+    pub goes-second : reaches₀ second ≡ true → along₀ second ≡ goes
     unfolding noWay
     goes-second e =
-        sym (opened ∙ rw (some-way (protectedOf protection) reaches₀ second e, ne-eqb protection 2 protected, short) (ap sent₀ (sym opposite)))
+        sym (opened ∙ rw (some-way (protectedOf protection) reaches₀ second e, ne-eqb protection 2 protected, short) (ap along₀ (sym opposite)))
 
     pub goes-nowhere : reaches₀ second ≡ false → Refused 8 ≡ goes
     unfolding noWay
@@ -114,8 +114,8 @@ module _ (stations own target links ring : ℕ) (place : Placed stations own tar
   abbrev chosen : ℕ → ℕ → Choice
   chosen side protection = chooseOf stations own target links side protection ring
 
-  abbrev sent : Way → ℕ → Choice
-  sent way protection = sentOf way stations own target protection ring
+  abbrev along : Way → ℕ → Choice
+  along way protection = alongOf way stations own target protection ring
 
   abbrev reaches : Way → Bool
   reaches way = reachesOf way stations own target links
@@ -130,15 +130,15 @@ module _ (stations own target links ring : ℕ) (place : Placed stations own tar
 
   -- the rows over the side that is preferred
   module _ (side : ℕ) (way : Way) (s : side ≤ 3) (preferred : preferredOf side stations own target ≡ way) where
-    regardless : chosen side 2 ≡ sent way 2
+    regardless : chosen side 2 ≡ along way 2
     regardless =
         sym (within side 2 s (omega arith)) ∙ sym (goes-regardless stations own target links side 2 ring way (sym preferred) refl)
 
-    reached : reaches way ≡ true → chosen side 1 ≡ sent way 1
+    reached : reaches way ≡ true → chosen side 1 ≡ along way 1
     reached e =
         sym (within side 1 s (omega arith)) ∙ sym (goes-first stations own target links side 1 ring way (sym preferred) e)
 
-    rescued : reaches way ≡ false → reaches (otherOf way) ≡ true → chosen side 1 ≡ sent (otherOf way) 1
+    rescued : reaches way ≡ false → reaches (otherOf way) ≡ true → chosen side 1 ≡ along (otherOf way) 1
     rescued e f =
         sym (within side 1 s (omega arith))
         ∙ sym (goes-second stations own target links side 1 ring way (sym preferred) one-two e (otherOf way) refl f)
@@ -153,11 +153,11 @@ module _ (stations own target links ring : ℕ) (place : Placed stations own tar
   coded-way Right = omega arith
 
   -- Protected left or right: that side if it reaches,
-  pub protected-reaches : (way : Way) → reaches way ≡ true → chosen (codeOf way) 1 ≡ sent way 1
+  pub protected-reaches : (way : Way) → reaches way ≡ true → chosen (codeOf way) 1 ≡ along way 1
   protected-reaches way = reached (codeOf way) way (coded-way way) (asked way stations own target)
 
   -- else the other if it reaches,
-  pub protected-other : (way : Way) → reaches way ≡ false → reaches (otherOf way) ≡ true → chosen (codeOf way) 1 ≡ sent (otherOf way) 1
+  pub protected-other : (way : Way) → reaches way ≡ false → reaches (otherOf way) ≡ true → chosen (codeOf way) 1 ≡ along (otherOf way) 1
   protected-other way = rescued (codeOf way) way (coded-way way) (asked way stations own target)
 
   -- else 8.
@@ -165,25 +165,25 @@ module _ (stations own target links ring : ℕ) (place : Placed stations own tar
   protected-none way = refused (codeOf way) way (coded-way way) (asked way stations own target)
 
   -- Unprotected: that side regardless.
-  pub unprotected-that : (way : Way) → chosen (codeOf way) 2 ≡ sent way 2
+  pub unprotected-that : (way : Way) → chosen (codeOf way) 2 ≡ along way 2
   unprotected-that way = regardless (codeOf way) way (coded-way way) (asked way stations own target)
 
   -- Default: the shorter side that reaches. The shorter, if it reaches,
-  pub default-shorter : (way : Way) → distance way < distance (otherOf way) → reaches way ≡ true → chosen 3 1 ≡ sent way 1
+  pub default-shorter : (way : Way) → distance way < distance (otherOf way) → reaches way ≡ true → chosen 3 1 ≡ along way 1
   default-shorter way h = reached 3 way (omega arith) (by-default stations own target ∙ shorter-is stations own target way h)
 
   -- and where one side alone reaches, that one;
-  pub default-only : (way : Way) → reaches way ≡ true → reaches (otherOf way) ≡ false → chosen 3 1 ≡ sent way 1
+  pub default-only : (way : Way) → reaches way ≡ true → reaches (otherOf way) ≡ false → chosen 3 1 ≡ along way 1
   default-only way e f = go (shorterOf stations own target) refl way e f
     where
-      go : (first : Way) → shorterOf stations own target ≡ first → (w : Way) → reaches w ≡ true → reaches (otherOf w) ≡ false → chosen 3 1 ≡ sent w 1
+      go : (first : Way) → shorterOf stations own target ≡ first → (w : Way) → reaches w ≡ true → reaches (otherOf w) ≡ false → chosen 3 1 ≡ along w 1
       go Left p Left e f = reached 3 Left (omega arith) (by-default stations own target ∙ p) e
       go Left p Right e f = rescued 3 Left (omega arith) (by-default stations own target ∙ p) f e
       go Right p Left e f = rescued 3 Right (omega arith) (by-default stations own target ∙ p) f e
       go Right p Right e f = reached 3 Right (omega arith) (by-default stations own target ∙ p) e
 
   -- right on a tie,
-  pub default-tie : distance Left ≡ distance Right → reaches Right ≡ true → chosen 3 1 ≡ sent Right 1
+  pub default-tie : distance Left ≡ distance Right → reaches Right ≡ true → chosen 3 1 ≡ along Right 1
   default-tie h = reached 3 Right (omega arith) (by-default stations own target ∙ tie-is stations own target h)
 
   -- 8 if none.
@@ -195,15 +195,15 @@ module _ (stations own target links ring : ℕ) (place : Placed stations own tar
       go Right p = refused 3 Right (omega arith) (by-default stations own target ∙ p) f e
 
   -- Default, unprotected: the shorter,
-  pub unprotected-shorter : (way : Way) → distance way < distance (otherOf way) → chosen 3 2 ≡ sent way 2
+  pub unprotected-shorter : (way : Way) → distance way < distance (otherOf way) → chosen 3 2 ≡ along way 2
   unprotected-shorter way h = regardless 3 way (omega arith) (by-default stations own target ∙ shorter-is stations own target way h)
 
   -- right on a tie,
-  pub unprotected-tie : distance Left ≡ distance Right → chosen 3 2 ≡ sent Right 2
+  pub unprotected-tie : distance Left ≡ distance Right → chosen 3 2 ≡ along Right 2
   unprotected-tie h = regardless 3 Right (omega arith) (by-default stations own target ∙ tie-is stations own target h)
 
   -- never 8.
-  pub unprotected-goes : (side : ℕ) → side ≤ 3 → chosen side 2 ≡ sent (preferredOf side stations own target) 2
+  pub unprotected-goes : (side : ℕ) → side ≤ 3 → chosen side 2 ≡ along (preferredOf side stations own target) 2
   unprotected-goes side s = regardless side (preferredOf side stations own target) s refl
 
 -- ---- what is unspecified, whatever the other numbers are
@@ -217,7 +217,7 @@ module _ (stations own target links ring : ℕ) where
 
   -- and protected.
   pub protection-unspecified : (side : ℕ) → chooseOf stations own target links side 0 ring ≡ chooseOf stations own target links side 1 ring
-  unfolding chooseOf sentOf noWay test
+  unfolding chooseOf alongOf noWay test
   protection-unspecified side = refl
 
 -- ---- ttl and wrap mark
@@ -227,16 +227,16 @@ module _ (way : Way) (stations own target : ℕ) where
   hops = distanceOf way stations own target
 
   -- ttl: the distance on a steering ring, which marks nothing;
-  pub steering : (protection : ℕ) → sentOf way stations own target protection 0 ≡ Chosen (codeOf way) hops hops false
-  unfolding sentOf
+  pub steering : (protection : ℕ) → alongOf way stations own target protection 0 ≡ Chosen (codeOf way) hops hops false
+  unfolding alongOf
   steering protection = ap (λ (b : Bool). Chosen (codeOf way) hops hops b) (and-off (protectedOf protection))
 
   -- 63 on a wrapping one, which marks what is protected
-  pub wrapping-protected : sentOf way stations own target 1 1 ≡ Chosen (codeOf way) hops 63 true
-  unfolding sentOf
+  pub wrapping-protected : alongOf way stations own target 1 1 ≡ Chosen (codeOf way) hops 63 true
+  unfolding alongOf
   wrapping-protected = refl
 
   -- and nothing else.
-  pub wrapping-unprotected : sentOf way stations own target 2 1 ≡ Chosen (codeOf way) hops 63 false
-  unfolding sentOf
+  pub wrapping-unprotected : alongOf way stations own target 2 1 ≡ Chosen (codeOf way) hops 63 false
+  unfolding alongOf
   wrapping-unprotected = refl

@@ -62,8 +62,8 @@ takenOf protected way reaches = cond (protected && not reaches) (otherOf way) wa
 
 -- The answer for a side: its distance, the ttl (the distance on a steering ring, 63 on a wrapping one) and the wrap mark (protected on a
 -- wrapping ring).
-unfoldable pub sentOf : Way → ℕ → ℕ → ℕ → ℕ → ℕ → Choice
-sentOf way stations own target protection ring =
+unfoldable pub alongOf : Way → ℕ → ℕ → ℕ → ℕ → ℕ → Choice
+alongOf way stations own target protection ring =
     Chosen (codeOf way) (distanceOf way stations own target)
     (cond (wrappingOf ring) 63 (distanceOf way stations own target))
     (protectedOf protection && wrappingOf ring)
@@ -83,7 +83,7 @@ noWay stations own target links protection =
 unfoldable pub goesOf : ℕ → ℕ → ℕ → ℕ → ℕ → ℕ → ℕ → Choice
 goesOf stations own target links side protection ring =
     cond (noWay stations own target links protection) (Refused 8)
-    (sentOf (wayOf stations own target links side protection) stations own target protection ring)
+    (alongOf (wayOf stations own target links side protection) stations own target protection ring)
 
 -- ---- refusals
 
@@ -114,21 +114,21 @@ chooseFaults stations own target links side protection ring =
     placeFaults stations own target links
     ++ (fault 3 (test (badCode side protection ring)) ∷ fault 8 (noWay stations own target links protection) ∷ [])
 
--- The number of the first fault alone, or the answer where there is none.
-abbrev pub refusedOr : ℕ → Choice → Choice
-refusedOr zero choice = choice
-refusedOr (suc n) choice = Refused (suc n)
+-- The number of the first fault alone, as a refusal, or the answer where there is none. Choice and path share it.
+abbrev pub refusedOr : {A : Type 0} → (ℕ → A) → ℕ → A → A
+refusedOr refused zero answer = answer
+refusedOr refused (suc n) answer = refused (suc n)
 
 -- The choice, for any numbers at all.
 unfoldable pub chooseOf : ℕ → ℕ → ℕ → ℕ → ℕ → ℕ → ℕ → Choice
 chooseOf stations own target links side protection ring =
-    refusedOr (firstOf (chooseFaults stations own target links side protection ring))
-    (sentOf (wayOf stations own target links side protection) stations own target protection ring)
+    refusedOr Refused (firstOf (chooseFaults stations own target links side protection ring))
+    (alongOf (wayOf stations own target links side protection) stations own target protection ring)
 
 -- Document 01's number of an answer: 0 where the choice was made.
-abbrev pub numberOf : Choice → ℕ
-numberOf (Chosen side distance ttl mark) = 0
-numberOf (Refused n) = n
+abbrev pub choiceNumber : Choice → ℕ
+choiceNumber (Chosen side distance ttl mark) = 0
+choiceNumber (Refused n) = n
 
 -- two stations of a ring of at most 63
 pub record Between (stations own target : ℕ) : Type 0 where

@@ -38,9 +38,9 @@ runOf way stations links (suc hops) at = cond (aheadOf way stations links at) (s
 abbrev pub reachOf : Way → ℕ → ℕ → ℕ → ℕ
 reachOf way stations own links = runOf way stations links stations own
 
--- the word of links turned so that the station's own link is bit 0
-abbrev pub turnedOf : ℕ → ℕ → ℕ → ℕ
-turnedOf stations own links = links % 2 ^ own * 2 ^ (stations - own) + links / 2 ^ own
+-- the word of links rotated so that the station's own link is bit 0
+abbrev pub rotatedOf : ℕ → ℕ → ℕ → ℕ
+rotatedOf stations own links = links % 2 ^ own * 2 ^ (stations - own) + links / 2 ^ own
 
 -- a station of a ring of at most 63 stations, and no bit above its links
 pub record Stands (stations own links : ℕ) : Type 0 where

@@ -2,8 +2,8 @@
 ghost use mathlib.Core.Path.{_≡_};
 ghost use mathlib.Core.Bool.{cond};
 ghost use Rattle.decide.specs.Refusal.{firstOf};
-ghost use Rattle.ring.specs.Links.{otherOf, turnedOf, reachOf, Stands};
-ghost use Rattle.ring.specs.Choosing.{codeOf, wrappingOf, distanceOf, tieOf, shorterOf, reachesOf, preferredOf, sentOf, goesOf, placeFaults, chooseOf, Between, Placed};
+ghost use Rattle.ring.specs.Links.{otherOf, rotatedOf, reachOf, Stands};
+ghost use Rattle.ring.specs.Choosing.{codeOf, wrappingOf, distanceOf, tieOf, shorterOf, reachesOf, preferredOf, alongOf, goesOf, placeFaults, chooseOf, Between, Placed};
 
 // A side of a station: right goes to the next higher number.
 pub enum Way {
@@ -59,14 +59,14 @@ fn goes(
 {
     let first = preferred(side, stations, own, target);
     if protection == 2 {
-        return sent(first, stations, own, target, protection, ring);
+        return along(first, stations, own, target, protection, ring);
     }
     if reaches(first, stations, own, target, links) {
-        return sent(first, stations, own, target, protection, ring);
+        return along(first, stations, own, target, protection, ring);
     }
     let second = other(first);
     if reaches(second, stations, own, target, links) {
-        return sent(second, stations, own, target, protection, ring);
+        return along(second, stations, own, target, protection, ring);
     }
     Choice::Refused(8)
 }
@@ -88,9 +88,9 @@ pub fn misplaced(stations: u64, own: u64, target: u64, links: u64) -> u64
 }
 
 // The answer for a side: its distance, ttl and wrap mark.
-fn sent(way: Way, stations: u64, own: u64, target: u64, protection: u64, ring: u64) -> Choice
+fn along(way: Way, stations: u64, own: u64, target: u64, protection: u64, ring: u64) -> Choice
     requires { ⌜ Between stations own target ⌝ }
-    ensures { λ r. ⌜ r ≡ sentOf way stations own target protection ring ⌝ }
+    ensures { λ r. ⌜ r ≡ alongOf way stations own target protection ring ⌝ }
 {
     let far = distance(way, stations, own, target);
     Choice::Chosen {
@@ -158,22 +158,22 @@ fn distance(way: Way, stations: u64, own: u64, target: u64) -> u64
     }
 }
 
-// How many hops a side reaches: trailing zeros of the turned word's complement to the right, leading zeros to the left.
+// How many hops a side reaches: trailing zeros of the rotated word's complement to the right, leading zeros to the left.
 fn reach(way: Way, stations: u64, own: u64, links: u64) -> u64
     requires { ⌜ Stands stations own links ⌝ }
     ensures { λ r. ⌜ r ≡ reachOf way stations own links ⌝ }
 {
-    let word = turned(stations, own, links);
+    let word = rotated(stations, own, links);
     match way {
         Way::Left => u64::leading_zeros(!(word << (64 - stations))) as u64,
         Way::Right => u64::trailing_zeros(!word) as u64,
     }
 }
 
-// The word of links turned so that the station's own link is bit 0.
-fn turned(stations: u64, own: u64, links: u64) -> u64
+// The word of links rotated so that the station's own link is bit 0.
+fn rotated(stations: u64, own: u64, links: u64) -> u64
     requires { ⌜ Stands stations own links ⌝ }
-    ensures { λ r. ⌜ r ≡ turnedOf stations own links ⌝ }
+    ensures { λ r. ⌜ r ≡ rotatedOf stations own links ⌝ }
 {
     let low = links % (1u64 << own);
     (links >> own) | (low << (stations - own))

@@ -19,15 +19,17 @@ use Rattle.station.specs.declared.Client.{Client}
 use Rattle.station.specs.declared.Selected.{Selected}
 use Rattle.station.specs.declared.Told.{Told}
 use Rattle.station.specs.declared.Shown.{Shown}
+use Rattle.station.specs.Range.{stationOk}
 use Rattle.station.specs.Answers.{withFlow, doneBy, chosenOf, chosenBy}
-use Rattle.station.specs.Calls.{startFaults, freshOf}
+use Rattle.station.specs.Calls.{startFaults, selectFaults, freshOf}
 use Rattle.station.specs.Offers.{takenBy}
 use Rattle.station.specs.Hear.{toldBy}
 use Rattle.station.specs.Show.{readingOf, shownBy}
+use Rattle.settings.specs.Words.{settingsLength}
 use Rattle.layout.specs.Layout.{stationLength, stationBytes}
 use Rattle.layout.specs.Reading.{readingBytes}
-use Rattle.rpr.specs.Shape.{fromByte, numberOr, answerOf, oldOr, afterOf, otherLength}
-use Rattle.rpr.specs.Station.{settingsLength, selectedAnswer}
+use Rattle.answer.specs.Bytes.{packed, markBytes, selectedBytes}
+use Rattle.rpr.specs.Shape.{numberOr, answerOf, oldOr, afterOf, otherLength}
 use Rattle.rpr.proofs.Shape.{wrong-length, right-length, refused}
 
 -- the answer, and the lent bytes afterwards
@@ -71,15 +73,15 @@ module _ (old : List ℕ) {r : ℕ} {after : List ℕ} where
   done-back (suc n) st next d h b = rw h at b
 
   pub taken-back : (n : ℕ) (st : Station) (c : flow.Client) (d : Client) → d ≡ takenBy n st c
-      → HandedBack (d .number) (fromByte 4 (d .mark)) old (stationBytes (d .station)) r after
-      → HandedBack n (fromByte 4 (c .mark)) old (stationBytes (withFlow st (c .flow))) r after
+      → HandedBack (d .number) (packed (markBytes (d .mark))) old (stationBytes (d .station)) r after
+      → HandedBack n (packed (markBytes (c .mark))) old (stationBytes (withFlow st (c .flow))) r after
   unfolding numberOr oldOr takenBy
   taken-back zero st c d h b = rw h at b
   taken-back (suc n) st c d h b = rw h at b
 
   pub chosen-back : (n : ℕ) (st : Station) (d : Selected) → d ≡ chosenBy n st
-      → HandedBack (d .number) (selectedAnswer (d .origin) (d .frame)) old (stationBytes (d .station)) r after
-      → HandedBack n (selectedAnswer (chosenOf st .origin) (chosenOf st .frame)) old (stationBytes (chosenOf st .station)) r after
+      → HandedBack (d .number) (packed (selectedBytes (d .origin) (d .frame))) old (stationBytes (d .station)) r after
+      → HandedBack n (packed (selectedBytes (chosenOf st .origin) (chosenOf st .frame))) old (stationBytes (chosenOf st .station)) r after
   unfolding numberOr oldOr chosenBy
   chosen-back zero st d h b = rw h at b
   chosen-back (suc n) st d h b = rw h at b
@@ -109,3 +111,16 @@ module _ (settings xs : List ℕ) (e : length settings ≡ settingsLength) (f : 
       → Gives (otherLength settingsLength settings ∷ otherLength stationLength xs ∷ startFaults s) 0 xs (stationBytes (freshOf s)) 0 (stationBytes (freshOf s))
   unfolding numberOr oldOr
   start-done o = then-whole-gives _ xs _ f _ _ _ _ settings e (rw (in-order (startFaults s) refl, o) (refl, refl))
+
+-- ---- select
+
+module _ (xs : List ℕ) (e : length xs ≡ stationLength) (st : Station) (said : ℕ) (new : List ℕ) where
+  -- 1 where the station is outside its range; else what is said, and what is left
+  pub select-refused : test (stationOk st) ≡ false → Gives (otherLength stationLength xs ∷ selectFaults st) said xs new 1 xs
+  unfolding numberOr oldOr
+  select-refused o = whole-gives _ xs _ e _ _ _ (rw (in-order (selectFaults st) refl, o) (refl, refl))
+
+  pub select-given : {r : ℕ} {after : List ℕ} → test (stationOk st) ≡ true → r ≡ said → after ≡ new
+      → Gives (otherLength stationLength xs ∷ selectFaults st) said xs new r after
+  unfolding numberOr oldOr
+  select-given o a b = whole-gives _ xs _ e _ _ _ (rw (in-order (selectFaults st) refl, o) (a, b))

@@ -29,9 +29,11 @@ use Rattle.account.specs.Account.{summarizeOf}
 use Rattle.account.proofs.Promises.{Accounted, summarize-written, summarized-written}
 use Rattle.sheet.specs.Sheet.{sheetLength, sheetOf, summaryAt, handed}
 use Rattle.sheet.proofs.Round.{summary-of-bytes, in-range-fits}
+use Rattle.answer.specs.Bytes.{permittedBytes}
+use Rattle.answer.proofs.Bytes.{packed-bytes}
 use Rattle.rpr.specs.Shape.{answerOf, oldOr, afterOf}
 use Rattle.rpr.specs.Calls.{summarizeRows, summarizeAnswer, summarizeAfter, joinRows, joinAnswer, joinAfter, settleRows, outcomeAnswer, settleAnswer}
-use Rattle.rpr.proofs.Shape.{wrong-length, first-most, number-alone, carried, digits-laid, Bears, refused-leaves}
+use Rattle.rpr.proofs.Shape.{wrong-length, first-most, number-alone, carried, Bears, refused-leaves}
 use Rattle.rpr.proofs.Rows.{summarize-room, summarize-rows, summarize-whole, settle-whole}
 use Rattle.rpr.proofs.Numbers.{AnswerNumbered, record-numbered, answer-most}
 use Rattle.rpr.proofs.Credit.{end-most}
@@ -125,7 +127,8 @@ pub record Ends (answer end : ℕ) : Type 0 where
   pub fits : end < 4294967296
 
 permitted-bytes : (end : ℕ) → digits 8 (outcomeAnswer (Outcome.Permitted end)) ≡ (0 ∷ 1 ∷ 0 ∷ 0 ∷ []) ++ digits 4 end
-permitted-bytes end = ap (λ (n : ℕ). digits 8 n) (omega arith) ∙ digits-laid (0 ∷ 1 ∷ 0 ∷ 0 ∷ []) 4 end (omega arith)
+unfolding digits
+permitted-bytes end = packed-bytes (permittedBytes end) (omega arith)
 
 module _ (xs : List ℕ) (start : ℕ) where
   pub settle-leaves : Bears (firstOf (settleRows xs start)) (settleAnswer xs start)

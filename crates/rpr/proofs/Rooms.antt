@@ -83,5 +83,5 @@ module _ {xs : List ℕ} {st : Station} (k : Keeps xs st) (room : List ℕ) (h :
         rw (write-frame-done k room h .1) (
           sym (whole-gives _ ys _ (j .whole) _ _ _ (done-back ys _ _ _ (hearOf (stationAt ys) (advertBytes told)) refl (refl, refl)) .0)
               ∙ ap (λ (r : Done). numberOr (r .number) 0) (ap (λ (s : Station). hearOf s (advertBytes told)) (j .holds) ∙ heard),
-          subst (λ (r : Done). Keeps (readFrameAfter ys (advertBytes told)) (r .station)) heard (call-keeps j (readFrame (advertBytes told) (frame-bytes told))),
+          subst (λ (r : Done). Keeps (readFrameAfter ys (advertBytes told)) (r .station)) heard (call-keeps j (readFrame (advertBytes told) (frame-bytes told)) _ refl),
         )

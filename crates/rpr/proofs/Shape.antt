@@ -1,11 +1,10 @@
 -- The laws of every call, whatever its rows: a slice of another length is 2 before all else; a refusal is its number alone, and leaves the lent bytes.
 -- Assumes nothing.
-use Prim.Native.Nat.{ℕ, zero, suc, _+_, _*_, _/_, _%_, _≤_, _<_}
+use Prim.Native.Nat.{ℕ, zero, suc, _%_, _≤_, _<_}
 use mathlib.Core.Bool.{Bool, true, false, cond, not, _&&_}
-use mathlib.Core.List.{List, [], _∷_, _++_}
+use mathlib.Core.List.{List, [], _∷_}
 use mathlib.Core.Logic.{⊎-elim}
 use mathlib.Core.Path.{_≡_, refl, ap, _∙_}
-use native.Mathlib.Nat.{zero-add, suc-add}
 use native.Mathlib.Omega.{arith}
 use borrow.Author.Tests.{eq-eqb, ne-eqb, le-leb, leb-true}
 use lib.Dec.{leb}
@@ -15,6 +14,7 @@ use Rattle.decide.specs.Refusal.{Fault, First, nothing, row, earlier, first, nu
 use Rattle.decide.proofs.Cases.{true-or-false, of-each}
 use Rattle.decide.proofs.Refusal.{carried-out}
 use Rattle.wire.specs.Wire.{digits}
+use Rattle.answer.proofs.Bytes.{packed-bytes}
 use Rattle.rpr.specs.Shape.{numberOr, answerOf, oldOr, afterOf, otherLength}
 
 -- ---- lengths
@@ -86,31 +86,13 @@ carried rows h e = free rows h (number-alone (firstOf rows) ∙ e)
 
 -- ---- bytes
 
--- the number whose lowest bytes are these, with more above them
-abbrev pub laid : List ℕ → ℕ → ℕ
-laid [] more = more
-laid (b ∷ bs) more = b + 256 * laid bs more
-
-abbrev pub EachByte : List ℕ → Type 0
-EachByte [] = Unit {0}
-EachByte (b ∷ bs) = (b < 256) × EachByte bs
-
--- its bytes are these, and then those of what stands above
-pub digits-laid : (bs : List ℕ) (n more : ℕ) → EachByte bs → digits (length bs + n) (laid bs more) ≡ bs ++ digits n more
-unfolding digits
-digits-laid [] n more h = rw zero-add
-digits-laid (b ∷ bs) n more h =
-    let m : (b + 256 * laid bs more) % 256 ≡ b = omega arith in
-    let d : (b + 256 * laid bs more) / 256 ≡ laid bs more = omega arith in
-    rw (suc-add, m, d) (ap (λ (l : List ℕ). b ∷ l) (digits-laid bs n more (h .1)))
-
 -- a number alone in the eight bytes of an answer
 abbrev pub alone : ℕ → List ℕ
 alone n = n ∷ 0 ∷ 0 ∷ 0 ∷ 0 ∷ 0 ∷ 0 ∷ 0 ∷ []
 
 pub digits-alone : (n : ℕ) → n ≤ 11 → digits 8 n ≡ alone n
 unfolding digits
-digits-alone n h = ap (λ (v : ℕ). digits 8 v) (omega arith) ∙ digits-laid (n ∷ []) 7 0 (omega arith)
+digits-alone n h = ap (λ (v : ℕ). digits 8 v) (omega arith) ∙ packed-bytes (alone n) (omega arith)
 
 -- ---- refusals
 

@@ -1,6 +1,6 @@
 -- What a host may rely on of the calls on a station: which number is answered and when, that a refusal leaves all, and what the answer's bytes say where the
 -- call was carried out. Assumes nothing.
-use Prim.Native.Nat.{ℕ, zero, suc, _%_, _<_, _≤_}
+use Prim.Native.Nat.{ℕ, zero, suc, _%_, _<_}
 use mathlib.Core.Bool.{true, true≢false}
 use mathlib.Core.List.{List, [], _∷_, _++_}
 use mathlib.Core.Logic.{inl, inr}
@@ -23,12 +23,14 @@ use Rattle.station.specs.Answers.{chosenOf}
 use Rattle.station.specs.Offers.{wayFor}
 use Rattle.station.proofs.Range.{in-range-facts}
 use Rattle.layout.specs.Layout.{stationAt}
-use Rattle.rpr.specs.Shape.{fromByte, numberOr, answerOf, afterOf}
+use Rattle.answer.specs.Bytes.{packed, markBytes, selectedBytes}
+use Rattle.answer.proofs.Bytes.{packed-bytes}
+use Rattle.rpr.specs.Shape.{numberOr, answerOf, afterOf}
 use Rattle.rpr.specs.Station.{startRows, startAnswer, startAfter, tickRows, tickAnswer, tickAfter, ageRows, ageAnswer, ageAfter}
 use Rattle.rpr.specs.Station.{offerClientRows, offerClientAnswer, offerClientAfter, offerRows, offerAnswer, offerAfter}
-use Rattle.rpr.specs.Station.{Small, selectedAnswer, selectRows, selectAnswer, selectAfter, readFrameRows, readFrameAnswer, readFrameAfter}
+use Rattle.rpr.specs.Station.{selectRows, selectAnswer, selectAfter, readFrameRows, readFrameAnswer, readFrameAfter}
 use Rattle.rpr.specs.Station.{writeFrameRows, writeFrameAnswer, writeFrameAfter, showRows, showAnswer, showAfter}
-use Rattle.rpr.proofs.Shape.{numbered, first-most, free, Bears, refused-leaves, digits-laid}
+use Rattle.rpr.proofs.Shape.{numbered, first-most, free, Bears, refused-leaves}
 use Rattle.rpr.proofs.Chosen.{chosen-small}
 
 -- byte 0 of the answer is the number of the row that counts, alone where it is not 0; and then the lent bytes are as they were
@@ -143,32 +145,22 @@ carried-said rows answer said b e z =
 without : (f : Fault) (fs : List Fault) → numbered (f ∷ fs) ≡ true → firstOf (f ∷ fs) ≡ 0 → firstOf fs ≡ 0
 without f fs h e = free-carried fs (λ g m a. true≢false (sym a ∙ free (f ∷ fs) h e g (inr m)))
 
-selected-digits : (origin : ℕ) (x : Frame) → Small origin x
-    → digits 8 (selectedAnswer origin x) ≡ (0 ∷ origin ∷ x .class ∷ x .hops ∷ x .mark ∷ 0 ∷ []) ++ digits 2 (x .size)
-selected-digits origin x h =
-    ap (λ (n : ℕ). digits 8 n) (omega arith)
-    ∙ digits-laid (0 ∷ origin ∷ x .class ∷ x .hops ∷ x .mark ∷ 0 ∷ []) 2 (x .size) (omega arith)
-
 -- a frame that was taken lies in the stage with the mark of the way that it went
 taken-mark : (n : ℕ) (s : Settings) (f : Flow) (w : Way) (x : Frame) → n ≡ 0 → clientBy n s f w x .mark ≡ x .mark
 unfolding clientBy
 taken-mark zero s f w x e = refl
 taken-mark (suc n) s f w x e = absurd (omega arith)
 
-marked-digits : (m : ℕ) → m ≤ 1 → digits 8 (fromByte 4 m) ≡ 0 ∷ 0 ∷ 0 ∷ 0 ∷ m ∷ 0 ∷ 0 ∷ 0 ∷ []
-unfolding digits
-marked-digits m h = ap (λ (n : ℕ). digits 8 n) (omega arith) ∙ digits-laid (0 ∷ 0 ∷ 0 ∷ 0 ∷ m ∷ []) 3 0 (omega arith)
-
 module _ (xs : List ℕ) where
   -- rpr_select: byte 1 is where the frame comes from, 2 its class, 3 its hops, 4 its mark, 5 is 0, 6 and 7 are its size
   pub select-bytes : Carried (selectAnswer xs)
       → let r = chosenOf (stationAt xs) in
       digits 8 (selectAnswer xs) ≡ (0 ∷ r .origin ∷ r .frame .class ∷ r .frame .hops ∷ r .frame .mark ∷ 0 ∷ []) ++ digits 2 (r .frame .size)
-  unfolding selectAnswer
+  unfolding selectAnswer digits
   select-bytes z =
       let c = carried-said (selectRows xs) (selectAnswer xs) _ (select-leaves xs .0) refl z in
       let ok = not-false (test (stationOk (stationAt xs))) (free (selectRows xs) refl (c .0) _ (inr (inl refl))) in
-      ap (λ (n : ℕ). digits 8 n) (c .1) ∙ selected-digits _ _ (chosen-small (in-range-facts (stationAt xs) ok))
+      ap (λ (n : ℕ). digits 8 n) (c .1) ∙ packed-bytes (selectedBytes _ _) (chosen-small (in-range-facts (stationAt xs) ok))
 
   -- rpr_offer_client: byte 4 is the mark, which excess B and C get
   pub offer-client-bytes : (class size hops : ℕ) → Carried (offerClientAnswer xs class size hops)
@@ -179,5 +171,5 @@ module _ (xs : List ℕ) where
       let w = wayFor st class in
       let c = carried-said (offerClientRows xs class size hops) (offerClientAnswer xs class size hops) _ (offer-client-leaves xs class size hops .0) refl z in
       let own = without _ _ refl (without _ _ refl (without _ _ refl (c .0))) in
-      ap (λ (n : ℕ). digits 8 n) (c .1 ∙ ap (λ (m : ℕ). fromByte 4 m) (taken-mark _ (st .settings) (st .flow) w (clientFrame w class size hops) own))
-      ∙ marked-digits (markOf w) (mark-most w)
+      ap (λ (n : ℕ). digits 8 n) (c .1 ∙ ap (λ (m : ℕ). packed (markBytes m)) (taken-mark _ (st .settings) (st .flow) w (clientFrame w class size hops) own))
+      ∙ packed-bytes (markBytes (markOf w)) (omega (arith, mark-most w))

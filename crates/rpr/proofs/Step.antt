@@ -1,7 +1,8 @@
--- One call: where the bytes that it is lent are a station's, it answers what the station said and leaves the bytes of the station that the call left; else it
--- answers 2 and leaves them as they were. Assumes nothing.
+-- One call: where the bytes that it is lent are a station's, it answers what the station said and leaves the bytes of the station that the call left, and a
+-- start leaves a fresh station or is refused; else it answers 2 and leaves the bytes as they were. Assumes nothing.
 use Prim.Native.Nat.{ℕ, zero, suc, _+_, _%_, _<_}
-use mathlib.Core.List.{List, []}
+use mathlib.Core.Bool.{true, false}
+use mathlib.Core.List.{List, [], _∷_}
 use mathlib.Core.Logic.{_⊎_, inl, inr}
 use mathlib.Core.Path.{_≡_, refl, sym, ap, subst, _∙_}
 use native.Mathlib.Omega.{arith}
@@ -9,10 +10,10 @@ use borrow.Author.Tests.{not-false}
 use lib.ListN.{length}
 use Rattle.decide.specs.Test.{test, split, _≡?_}
 use Rattle.decide.specs.Refusal.{firstOf}
-use Rattle.decide.proofs.Cases.{by-cases}
-use Rattle.wire.specs.Wire.{Bytes}
+use Rattle.decide.proofs.Cases.{by-cases, true-or-false}
+use Rattle.wire.specs.Wire.{digits, Bytes}
 use Rattle.settings.specs.Range.{settingsOk, SettingsOk}
-use Rattle.settings.specs.Words.{settingsAt}
+use Rattle.settings.specs.Words.{settingsAt, settingsLength}
 use Rattle.settings.proofs.Range.{in-range-facts}
 use Rattle.settings.proofs.Words.{settings-fit}
 use Rattle.queue.specs.declared.Frame.{Frame}
@@ -23,7 +24,7 @@ use Rattle.station.specs.Calls.{freshOf, tickOf, selectOf, ageOf}
 use Rattle.station.specs.Offers.{offerClientOf, offerTransitOf, offerControlOf}
 use Rattle.station.specs.Hear.{hearOf, tellOf}
 use Rattle.station.specs.Show.{showOf}
-use Rattle.station.specs.History.{Answer, Step, step}
+use Rattle.station.specs.History.{Call, Answer, step, after}
 use Rattle.station.proofs.Range.{fresh-ok}
 use Rattle.station.proofs.Kept.{range-kept}
 use Rattle.station.proofs.Refused.{refused-leaves, never-1}
@@ -31,19 +32,25 @@ use Rattle.layout.specs.Layout.{stationLength, stationAt, stationBytes, Station
 use Rattle.layout.specs.Reading.{readingLength}
 use Rattle.layout.proofs.Round.{station-length, fits-slotted, station-bytes, station-fits, state-of-bytes, bytes-of-state}
 use Rattle.layout.proofs.Kept.{fits-kept, fresh-fits}
-use Rattle.rpr.specs.Shape.{fromByte, numberOr, answerOf, oldOr, afterOf}
+use Rattle.answer.specs.Bytes.{packed, markBytes, selectedBytes}
+use Rattle.rpr.specs.Shape.{numberOr, answerOf, oldOr, afterOf}
 use Rattle.rpr.specs.Station.{startRows, startAnswer, startAfter, tickAnswer, tickAfter, ageAnswer, ageAfter}
 use Rattle.rpr.specs.Station.{offerClientAnswer, offerClientAfter, offerTransitAnswer, offerTransitAfter, offerControlAnswer, offerControlAfter}
-use Rattle.rpr.specs.Station.{selectedAnswer, selectAnswer, selectAfter, readFrameAnswer, readFrameAfter, writeFrameAnswer, showAnswer}
-use Rattle.rpr.specs.Lent.{LentCall, tick, offerClient, offerTransit, offerControl, select, age, readFrame, writeFrame, show, answerTo, leftBy, callOf}
+use Rattle.rpr.specs.Station.{selectAnswer, selectAfter, readFrameAnswer, readFrameAfter, writeFrameAnswer, showAnswer}
+use Rattle.rpr.specs.Lent.{LentCall, start, tick, offerClient, offerTransit, offerControl, select, age, readFrame, writeFrame, show}
+use Rattle.rpr.specs.Lent.{answerTo, leftBy, callsOf, StartsWith, NewStart}
 use Rattle.rpr.proofs.Shape.{number-alone, free}
-use Rattle.rpr.proofs.Given.{not-whole, then-not-whole, whole-gives, then-whole-gives, done-back, taken-back, chosen-back, told-back, shown-back}
+use Rattle.rpr.proofs.Given.{not-whole, then-not-whole, whole-gives, then-whole-gives, done-back, taken-back, chosen-back, told-back, shown-back, start-refused, start-done}
 
 -- ---- lent other bytes
 
 -- 2, and the bytes are as they were
 pub lent-short : (xs : List ℕ) → (length xs ≡ stationLength → ⊥) → (c : LentCall) → (2 ≡ answerTo c xs) × (xs ≡ leftBy c xs)
-unfolding tickAnswer tickAfter offerClientAnswer offerClientAfter offerTransitAnswer offerTransitAfter offerControlAnswer offerControlAfter selectAnswer selectAfter ageAnswer ageAfter readFrameAnswer readFrameAfter writeFrameAnswer showAnswer
+unfolding startAnswer startAfter tickAnswer tickAfter offerClientAnswer offerClientAfter offerTransitAnswer offerTransitAfter offerControlAnswer offerControlAfter selectAnswer selectAfter ageAnswer ageAfter readFrameAnswer readFrameAfter writeFrameAnswer showAnswer
+lent-short xs h (start settings b) =
+    by-cases (split (length settings ≡? settingsLength))
+    (λ e. then-not-whole _ xs _ _ _ _ _ settings e h)
+    (λ e. not-whole _ settings _ _ _ _ e)
 lent-short xs h (tick a b c) = not-whole _ xs _ _ _ _ h
 lent-short xs h (offerClient class size hops) = not-whole _ xs _ _ _ _ h
 lent-short xs h (offerTransit class size hops eligible) = not-whole _ xs _ _ _ _ h
@@ -58,12 +65,13 @@ lent-short xs h (show room) = (not-whole _ xs _ _ [] [] h .0, refl)
 
 -- What the answer's bytes say of a call that was carried out: byte 4 the mark of a client's frame; where the selected frame came from, and that frame.
 abbrev pub saidOf : Answer → ℕ
-saidOf r = fromByte 4 (r .mark) + selectedAnswer (r .origin) (r .frame)
+saidOf r = packed (markBytes (r .mark)) + packed (selectedBytes (r .origin) (r .frame))
 
-mark-said : (m : ℕ) → fromByte 4 m + selectedAnswer 0 (frameOf 0) ≡ fromByte 4 m
+mark-said : (m : ℕ) → packed (markBytes m) + packed (selectedBytes 0 (frameOf 0)) ≡ packed (markBytes m)
+unfolding digits
 mark-said m = omega arith
 
-frame-said : (origin : ℕ) (x : Frame) → fromByte 4 0 + selectedAnswer origin x ≡ selectedAnswer origin x
+frame-said : (origin : ℕ) (x : Frame) → packed (markBytes 0) + packed (selectedBytes origin x) ≡ packed (selectedBytes origin x)
 frame-said origin x = omega arith
 
 alone-1 : (n said : ℕ) → said % 256 ≡ 0 → numberOr n said ≡ 1 → n ≡ 1
@@ -71,15 +79,36 @@ unfolding numberOr
 alone-1 zero said z e = absurd (omega arith)
 alone-1 (suc n) said z e = e
 
--- A room of another length is 2. Else the answer is the number of a refusal, or what was said. A refusal leaves the station's bytes; else they are those of the
--- station that the call left.
-abbrev pub Says : LentCall → List ℕ → Step → Type 0
-Says c xs r =
-    ((2 ≡ answerTo c xs) ⊎ (numberOr (r .answer .number) (saidOf (r .answer)) ≡ answerTo c xs))
-    × (oldOr (r .answer .number) xs (stationBytes (r .station)) ≡ leftBy c xs)
+-- A call's answer: the number of a refusal, or what was said. A refusal leaves the station's bytes; else they are those of the station that the call left.
+abbrev pub answered : Call → Station → ℕ
+answered call st = numberOr (step call st .answer .number) (saidOf (step call st .answer))
 
-roomless : {A B C : Type 0} → B × C → (A ⊎ B) × C
-roomless g = (inr (g .0), g .1)
+abbrev pub written : Call → List ℕ → Station → List ℕ
+written call xs st = oldOr (step call st .answer .number) xs (stationBytes (step call st .station))
+
+-- That, or 2 for a room of another length.
+pub record CallSays (c : LentCall) (xs : List ℕ) (st : Station) : Type 0 where
+  pub call : Call
+  pub is : callsOf c ≡ call ∷ []
+  pub answers : (2 ≡ answerTo c xs) ⊎ (answered call st ≡ answerTo c xs)
+  pub leaves : written call xs st ≡ leftBy c xs
+
+-- A start with settings of another length is 2, and with settings outside their range 1: then the bytes are as they were. Else they are a fresh station's.
+pub record StartSays (settings xs : List ℕ) : Type 0 where
+  pub other-length : (length settings ≡ settingsLength → ⊥) → (2 ≡ startAnswer settings xs) × (xs ≡ startAfter settings xs)
+  pub out-of-range : length settings ≡ settingsLength → test (settingsOk (settingsAt settings 0)) ≡ false → (1 ≡ startAnswer settings xs) × (xs ≡ startAfter settings xs)
+  pub fresh : length settings ≡ settingsLength → test (settingsOk (settingsAt settings 0)) ≡ true
+      → (0 ≡ startAnswer settings xs) × (stationBytes (freshOf (settingsAt settings 0)) ≡ startAfter settings xs)
+
+abbrev pub Says : LentCall → List ℕ → Station → Type 0
+Says c xs st = ((settings : List ℕ) × StartsWith settings c × StartSays settings xs) ⊎ CallSays c xs st
+
+module _ {c : LentCall} {xs : List ℕ} {st : Station} (call : Call) (is : callsOf c ≡ call ∷ []) where
+  called : (2 ≡ answerTo c xs) ⊎ (answered call st ≡ answerTo c xs) → written call xs st ≡ leftBy c xs → Says c xs st
+  called a l = inr (record { call = call; is = is; answers = a; leaves = l })
+
+  roomless : (answered call st ≡ answerTo c xs) × (written call xs st ≡ leftBy c xs) → Says c xs st
+  roomless g = called (inr (g .0)) (g .1)
 
 module _ (xs : List ℕ) (bytes : Bytes xs) (e : length xs ≡ stationLength) where
   -- a station that is told or shown is left as it is
@@ -88,32 +117,42 @@ module _ (xs : List ℕ) (bytes : Bytes xs) (e : length xs ≡ stationLength) wh
   same zero = bytes-of-state xs bytes e
   same (suc n) = refl
 
-  pub lent-says : (c : LentCall) → Says c xs (step (callOf c) (stationAt xs))
-  unfolding tickAnswer tickAfter offerClientAnswer offerClientAfter offerTransitAnswer offerTransitAfter offerControlAnswer offerControlAfter selectAnswer selectAfter ageAnswer ageAfter readFrameAnswer readFrameAfter writeFrameAnswer showAnswer
-  lent-says (tick a b c) = roomless (whole-gives _ xs _ e _ _ _ (done-back xs _ _ _ (tickOf (stationAt xs) a b c) refl (refl, refl)))
+  pub lent-says : (c : LentCall) → Says c xs (stationAt xs)
+  unfolding digits startAnswer startAfter tickAnswer tickAfter offerClientAnswer offerClientAfter offerTransitAnswer offerTransitAfter offerControlAnswer offerControlAfter selectAnswer selectAfter ageAnswer ageAfter readFrameAnswer readFrameAfter writeFrameAnswer showAnswer
+  lent-says (start settings b) =
+      inl (
+        settings,
+        (b, refl),
+        record {
+          other-length = λ h. not-whole _ settings _ _ _ _ h;
+          out-of-range = λ h o. start-refused settings xs h e (settingsAt settings 0) o;
+          fresh = λ h o. start-done settings xs h e (settingsAt settings 0) o;
+        },
+      )
+  lent-says (tick a b c) = roomless _ refl (whole-gives _ xs _ e _ _ _ (done-back xs _ _ _ (tickOf (stationAt xs) a b c) refl (refl, refl)))
   lent-says (offerClient class size hops) =
       let d = offerClientOf (stationAt xs) class size hops in
-      rw (mark-said (d .mark)) (roomless (whole-gives _ xs _ e _ _ _ (taken-back xs _ _ _ d refl (refl, refl))))
+      roomless _ refl (rw (mark-said (d .mark)) (whole-gives _ xs _ e _ _ _ (taken-back xs _ _ _ d refl (refl, refl))))
   lent-says (offerTransit class size hops eligible) =
-      roomless (whole-gives _ xs _ e _ _ _ (done-back xs _ _ _ (offerTransitOf (stationAt xs) class size hops eligible) refl (refl, refl)))
-  lent-says (offerControl size) = roomless (whole-gives _ xs _ e _ _ _ (done-back xs _ _ _ (offerControlOf (stationAt xs) size) refl (refl, refl)))
+      roomless _ refl (whole-gives _ xs _ e _ _ _ (done-back xs _ _ _ (offerTransitOf (stationAt xs) class size hops eligible) refl (refl, refl)))
+  lent-says (offerControl size) = roomless _ refl (whole-gives _ xs _ e _ _ _ (done-back xs _ _ _ (offerControlOf (stationAt xs) size) refl (refl, refl)))
   lent-says select =
       let d = selectOf (stationAt xs) in
-      rw (frame-said (d .origin) (d .frame)) (roomless (whole-gives _ xs _ e _ _ _ (chosen-back xs _ _ d refl (refl, refl))))
-  lent-says age = roomless (whole-gives _ xs _ e _ _ _ (done-back xs _ _ _ (ageOf (stationAt xs)) refl (refl, refl)))
-  lent-says (readFrame frame b) = roomless (whole-gives _ xs _ e _ _ _ (done-back xs _ _ _ (hearOf (stationAt xs) frame) refl (refl, refl)))
-  lent-says (writeFrame room) = (
-    by-cases (split (length room ≡? 12))
-        (λ h. inr (then-whole-gives _ room _ h 0 room _ _ xs e (told-back room _ _ (tellOf (stationAt xs)) refl (refl, refl)) .0))
-        (λ h. inl (then-not-whole _ room _ 0 room [] _ xs e h .0)),
-    same _,
-  )
-  lent-says (show room) = (
-    by-cases (split (length room ≡? readingLength))
-        (λ h. inr (then-whole-gives _ room _ h 0 room _ _ xs e (shown-back room _ _ (showOf (stationAt xs)) refl (refl, refl)) .0))
-        (λ h. inl (then-not-whole _ room _ 0 room [] _ xs e h .0)),
-    same _,
-  )
+      roomless _ refl (rw (frame-said (d .origin) (d .frame)) (whole-gives _ xs _ e _ _ _ (chosen-back xs _ _ d refl (refl, refl))))
+  lent-says age = roomless _ refl (whole-gives _ xs _ e _ _ _ (done-back xs _ _ _ (ageOf (stationAt xs)) refl (refl, refl)))
+  lent-says (readFrame frame b) = roomless _ refl (whole-gives _ xs _ e _ _ _ (done-back xs _ _ _ (hearOf (stationAt xs) frame) refl (refl, refl)))
+  lent-says (writeFrame room) =
+      called _ refl
+      (by-cases (split (length room ≡? 12))
+      (λ h. inr (then-whole-gives _ room _ h 0 room _ _ xs e (told-back room _ _ (tellOf (stationAt xs)) refl (refl, refl)) .0))
+      (λ h. inl (then-not-whole _ room _ 0 room [] _ xs e h .0)))
+      (same _)
+  lent-says (show room) =
+      called _ refl
+      (by-cases (split (length room ≡? readingLength))
+      (λ h. inr (then-whole-gives _ room _ h 0 room _ _ xs e (shown-back room _ _ (showOf (stationAt xs)) refl (refl, refl)) .0))
+      (λ h. inl (then-not-whole _ room _ 0 room [] _ xs e h .0)))
+      (same _)
 
 -- ---- a station that is kept in bytes
 
@@ -143,9 +182,37 @@ module _ (settings xs : List ℕ) (bytes : Bytes settings) (z : startAnswer sett
   unfolding startAfter oldOr afterOf
   start-keeps = rw none-counts (written-keeps _ (fresh-ok start-in-range) (fresh-fits start-in-range (settings-fit settings 0 bytes)))
 
+start-never-1 : {xs : List ℕ} (settings : List ℕ) → StartSays settings xs → startAnswer settings xs ≡ 1 → test (settingsOk (settingsAt settings 0)) ≡ false
+start-never-1 settings s e =
+    by-cases (true-or-false (test (settingsOk (settingsAt settings 0))))
+    (λ o. by-cases (split (length settings ≡? settingsLength))
+    (λ h. let z = s .fresh h o .0 in absurd (omega arith))
+    (λ h. let z = s .other-length h .0 in absurd (omega arith)))
+    (λ o. o)
+
+-- what a call leaves is a station in range again: a fresh one by a new start, else the one that its call on the station left
+pub record Left (c : LentCall) (xs : List ℕ) (st : Station) : Type 0 where
+  pub next : Station
+  pub keeps : Keeps (leftBy c xs) next
+  pub follows : (NewStart c xs → ⊥) → next ≡ after st (callsOf c)
+
 module _ {xs : List ℕ} {st : Station} (k : Keeps xs st) where
-  says : (c : LentCall) → Says c xs (step (callOf c) st)
-  says c = subst (λ (s : Station). Says c xs (step (callOf c) s)) (k .holds) (lent-says xs (k .bytes) (k .whole) c)
+  says : (c : LentCall) → Says c xs st
+  says c = subst (Says c xs) (k .holds) (lent-says xs (k .bytes) (k .whole) c)
+
+  -- a start that is refused leaves the station
+  turned-away : (settings : List ℕ) (b : Bytes settings) → xs ≡ startAfter settings xs → Left (start settings b) xs st
+  turned-away settings b same = record { next = st; keeps = subst (λ (ys : List ℕ). Keeps ys st) same k; follows = λ n. refl }
+
+  start-left : (settings : List ℕ) (b : Bytes settings) → StartSays settings xs → Left (start settings b) xs st
+  start-left settings b s =
+      by-cases (split (length settings ≡? settingsLength))
+      (λ h. by-cases (true-or-false (test (settingsOk (settingsAt settings 0))))
+      (λ o.
+      let z = sym (s .fresh h o .0) in
+      record { next = freshOf (settingsAt settings 0); keeps = start-keeps settings xs b z; follows = λ n. absurd (n (settings, (b, refl), z)) })
+      (λ o. turned-away settings b (s .out-of-range h o .1)))
+      (λ h. turned-away settings b (s .other-length h .1))
 
   left-keeps : (n : ℕ) (next : Station) → StationOk next → StationFits next → (0 < n → next ≡ st) → Keeps (oldOr n xs (stationBytes next)) next
   unfolding oldOr
@@ -155,14 +222,34 @@ module _ {xs : List ℕ} {st : Station} (k : Keeps xs st) where
   pub keeps-fits : StationFits st
   keeps-fits = subst StationFits (k .holds) (station-fits xs (k .bytes))
 
-  -- Each call leaves the bytes of what the station's own call left.
-  pub call-keeps : (c : LentCall) → Keeps (leftBy c xs) (step (callOf c) st .station)
-  call-keeps c =
-      let r = step (callOf c) st in
-      subst (λ (ys : List ℕ). Keeps ys (r .station)) (says c .1)
-      (left-keeps (r .answer .number) (r .station) (range-kept (k .in-range) (callOf c)) (fits-kept (k .in-range) keeps-fits (callOf c)) (refused-leaves (callOf c) st))
+  call-left : (c : LentCall) → CallSays c xs st → Left c xs st
+  call-left c s =
+      let r = step (s .call) st in
+      record {
+        next = r .station;
+        keeps =
+            subst (λ (ys : List ℕ). Keeps ys (r .station)) (s .leaves)
+            (left-keeps (r .answer .number) (r .station) (range-kept (k .in-range) (s .call)) (fits-kept (k .in-range) keeps-fits (s .call)) (refused-leaves (s .call) st));
+        follows = λ n. ap (after st) (sym (s .is));
+      }
 
-  -- None answers 1: a refusal's answer is its number alone.
-  pub call-never-1 : (c : LentCall) → answerTo c xs ≡ 1 → ⊥
+  pub left : (c : LentCall) → Left c xs st
+  left c =
+      by-cases (says c)
+      (λ s. subst (λ (d : LentCall). Left d xs st) (sym (s .1 .1)) (start-left (s .0) (s .1 .0) (s .2)))
+      (λ s. call-left c s)
+
+  -- Each call leaves the bytes of what the station's own call left.
+  pub call-keeps : (c : LentCall) (call : Call) → callsOf c ≡ call ∷ [] → Keeps (leftBy c xs) (step call st .station)
+  call-keeps c call is =
+      let follows = left c .follows (λ n. let z = ap length (sym is ∙ ap callsOf (n .1 .1)) in absurd (omega arith)) in
+      subst (Keeps (leftBy c xs)) (follows ∙ ap (after st) is) (left c .keeps)
+
+  -- None answers 1 but a start, for its settings: a refusal's answer is its number alone.
+  pub call-never-1 : (c : LentCall) → answerTo c xs ≡ 1 → (settings : List ℕ) × StartsWith settings c × (test (settingsOk (settingsAt settings 0)) ≡ false)
   call-never-1 c e =
-      by-cases (says c .0) (λ h. absurd (omega arith)) (λ h. never-1 (k .in-range) (callOf c) (alone-1 _ (saidOf (step (callOf c) st .answer)) (omega arith) (h ∙ e)))
+      by-cases (says c)
+      (λ s. (s .0, s .1, start-never-1 (s .0) (s .2) (ap (λ (d : LentCall). answerTo d xs) (sym (s .1 .1)) ∙ e)))
+      (λ s. absurd (by-cases (s .answers)
+      (λ h. omega arith)
+      (λ h. never-1 (k .in-range) (s .call) (alone-1 _ (saidOf (step (s .call) st .answer)) (omega arith) (h ∙ e)))))

@@ -1,7 +1,7 @@
 -- The ring's two calls: byte 0 of an answer is 0 where the call was carried out, and the other bytes hold what was found; else byte 0 is the refusal's number
 -- and every other byte is 0. They lend nothing for writing. Assumes nothing.
 use Prim.Native.Nat.{ℕ, _%_, _≤_}
-use mathlib.Core.Bool.{Bool, true, false}
+use mathlib.Core.Bool.{Bool}
 use mathlib.Core.List.{[], _∷_}
 use mathlib.Core.Path.{_≡_, refl, ap, _∙_}
 use native.Mathlib.Omega.{arith}
@@ -9,19 +9,16 @@ use Rattle.decide.specs.Refusal.{firstOf}
 use Rattle.decide.proofs.Refusal.{RefusedExactly, refused-exactly}
 use Rattle.wire.specs.Wire.{digits}
 use Rattle.ring.specs.declared.Choice.{Choice}
-use Rattle.ring.specs.Choosing.{chooseFaults, chooseOf, numberOf as choiceNumber}
+use Rattle.ring.specs.Choosing.{chooseFaults, chooseOf, choiceNumber}
 use Rattle.ring.proofs.Bounds as Choices
 use Rattle.ring.proofs.Faults as Choosing
 use Rattle.wrap.specs.declared.Outcome.{Outcome}
-use Rattle.wrap.specs.Walking.{pathFaults, pathOf, numberOf as movedNumber}
+use Rattle.wrap.specs.Walking.{pathFaults, pathOf, pathNumber}
 use Rattle.wrap.proofs.Answers as Paths
-use Rattle.rpr.specs.Ways.{bitOf, choiceAnswer, chooseAnswer, movedAnswer, pathAnswer}
-use Rattle.rpr.proofs.Shape.{first-most, alone, Bears, digits-alone, digits-laid}
-
-bit-most : (b : Bool) → bitOf b ≤ 1
-unfolding bitOf
-bit-most true = omega arith
-bit-most false = omega arith
+use Rattle.answer.specs.Bytes.{bitOf, chosenBytes, movedBytes}
+use Rattle.answer.proofs.Bytes.{packed-bytes, bit-most}
+use Rattle.rpr.specs.Ways.{choiceAnswer, chooseAnswer, movedAnswer, pathAnswer}
+use Rattle.rpr.proofs.Shape.{first-most, Bears, digits-alone}
 
 -- ---- rpr_choose
 
@@ -42,29 +39,20 @@ module _ (stations own target links side protection ring : ℕ) where
       (chooseFaults stations own target links side protection ring)
   choose-refused-exactly = refused-exactly (chooseFaults stations own target links side protection ring) refl _ (choose-leaves .byte-0)
 
-  -- where the choice is refused the answer is the number alone,
-  pub choose-refused : (n : ℕ) → chooseOf stations own target links side protection ring ≡ Choice.Refused n →
-      digits 8 (chooseAnswer stations own target links side protection ring) ≡ alone n
-  unfolding chooseAnswer
-  choose-refused n e =
-      let h = Choices.refused-small stations own target links side protection ring n e in
-      ap (λ (c : Choice). digits 8 (choiceAnswer c)) e ∙ digits-alone n (omega arith)
-
-  -- and where it is made, byte 1 is the side, 2 the distance, 3 the ttl and 4 the wrap mark
+  -- where the choice is made, byte 1 is the side, 2 the distance, 3 the ttl and 4 the wrap mark
   pub choose-bytes : (code distance ttl : ℕ) (mark : Bool) →
       chooseOf stations own target links side protection ring ≡ Choice.Chosen code distance ttl mark →
       digits 8 (chooseAnswer stations own target links side protection ring) ≡ 0 ∷ code ∷ distance ∷ ttl ∷ bitOf mark ∷ 0 ∷ 0 ∷ 0 ∷ []
-  unfolding chooseAnswer digits
+  unfolding chooseAnswer
   choose-bytes code distance ttl mark e =
       let h = Choices.chosen-small stations own target links side protection ring code distance ttl mark e in
       let b = bit-most mark in
       ap (λ (c : Choice). digits 8 (choiceAnswer c)) e
-      ∙ ap (λ (n : ℕ). digits 8 n) (omega arith)
-      ∙ digits-laid (0 ∷ code ∷ distance ∷ ttl ∷ bitOf mark ∷ []) 3 0 (omega arith)
+      ∙ packed-bytes (chosenBytes code distance ttl mark) (omega arith)
 
 -- ---- rpr_path
 
-moved-bears : (o : Outcome) (n : ℕ) → movedNumber o ≡ n → n ≤ 11 → Bears n (movedAnswer o)
+moved-bears : (o : Outcome) (n : ℕ) → pathNumber o ≡ n → n ≤ 11 → Bears n (movedAnswer o)
 moved-bears (Outcome.Moved delivered hops) n e h = record { byte-0 = omega arith; others = λ p. absurd (omega arith) }
 moved-bears (Outcome.Refused m) n e h = record { byte-0 = omega arith; others = λ p. ap (λ k. digits 8 k) e ∙ digits-alone n h }
 
@@ -78,19 +66,12 @@ module _ (stations own target links home : ℕ) where
   pub path-refused-exactly : RefusedExactly (pathAnswer stations own target links home % 256) (pathFaults stations own target links home)
   path-refused-exactly = refused-exactly (pathFaults stations own target links home) refl _ (path-leaves .byte-0)
 
-  pub path-refused : (n : ℕ) → pathOf stations own target links home ≡ Outcome.Refused n → digits 8 (pathAnswer stations own target links home) ≡ alone n
-  unfolding pathAnswer
-  path-refused n e =
-      let h = Paths.refused-small stations own target links home n e in
-      ap (λ (o : Outcome). digits 8 (movedAnswer o)) e ∙ digits-alone n (omega arith)
-
   -- where the path is walked, byte 1 is whether the frame is delivered and byte 2 the hops
   pub path-bytes : (delivered : Bool) (hops : ℕ) → pathOf stations own target links home ≡ Outcome.Moved delivered hops →
       digits 8 (pathAnswer stations own target links home) ≡ 0 ∷ bitOf delivered ∷ hops ∷ 0 ∷ 0 ∷ 0 ∷ 0 ∷ 0 ∷ []
-  unfolding pathAnswer digits
+  unfolding pathAnswer
   path-bytes delivered hops e =
       let h = Paths.path-length stations own target links home delivered hops e .small in
       let b = bit-most delivered in
       ap (λ (o : Outcome). digits 8 (movedAnswer o)) e
-      ∙ ap (λ (n : ℕ). digits 8 n) (omega arith)
-      ∙ digits-laid (0 ∷ bitOf delivered ∷ hops ∷ []) 5 0 (omega arith)
+      ∙ packed-bytes (movedBytes delivered hops) (omega arith)

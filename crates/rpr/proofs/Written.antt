@@ -2,7 +2,7 @@
 -- Assumes nothing.
 use Prim.Native.Nat.{ℕ, zero, suc, _≤_}
 use mathlib.Core.Bool.{Bool}
-use mathlib.Core.List.{List}
+use mathlib.Core.List.{List, _∷_}
 use mathlib.Core.Logic.{inl, inr}
 use mathlib.Core.Path.{_≡_, refl, sym, ap, _∙_}
 use native.Mathlib.Omega.{arith}
@@ -26,21 +26,23 @@ use Rattle.flow.specs.Offer.{enterOf, queueFor, clientBy}
 use Rattle.flow.proofs.Offer.{enter-taken}
 use Rattle.flow.proofs.Select.{Goes, control, primary, pressed, staged, secondary, nothing, goes}
 use Rattle.fair.specs.declared.Fair.{Fair}
+use Rattle.fair.specs.declared.Four.{Four}
+use Rattle.fair.specs.Count.{withCounters}
 use Rattle.station.specs.declared.Station.{Station}
 use Rattle.station.specs.declared.Done.{Done}
 use Rattle.station.specs.declared.Client.{Client}
 use Rattle.station.specs.declared.Selected.{Selected}
-use Rattle.station.specs.Answers.{withFlow, withFair, doneBy, chosenOf, chosenBy}
+use Rattle.station.specs.Answers.{withFlow, withFair, doneBy, chosenOf}
 use Rattle.station.specs.Calls.{tickedOf}
 use Rattle.station.specs.Offers.{offerFaults, takenBy}
 use Rattle.slots.specs.Slots.{wordsBytes, queueBytes, queueAt}
-use Rattle.layout.specs.Layout.{stationLength, creditsWords, fairWords, stationAt, stationBytes, placeOf, pushedAt, takenAt, takenFrom}
+use Rattle.layout.specs.Layout.{stationLength, creditsWords, fourWords, fairWords, stationAt, stationBytes, placeOf, pushedAt, takenAt, takenFrom}
 use Rattle.layout.proofs.Round.{Slotted, fits-slotted, station-fits, bytes-of-state}
-use Rattle.layout.proofs.Anew.{credits-put, queue-put, stage-put, fair-put, queue-slotted}
-use Rattle.rpr.specs.Shape.{fromByte, numberOr, answerOf, oldOr}
-use Rattle.rpr.specs.Station.{selectedAnswer}
-use Rattle.rpr.proofs.Shape.{carried}
-use Rattle.rpr.proofs.Given.{HandedBack}
+use Rattle.layout.proofs.Anew.{credits-put, queue-put, stage-put, fair-put, counters-put, queue-slotted}
+use Rattle.answer.specs.Bytes.{packed, markBytes}
+use Rattle.rpr.specs.Shape.{numberOr, answerOf, oldOr, otherLength}
+use Rattle.rpr.proofs.Shape.{carried, turned-down}
+use Rattle.rpr.proofs.Given.{Gives, HandedBack, whole-gives, done-back}
 
 -- ---- a call that is carried out: its rows give 0, and the station that it answers is the one that it leaves
 
@@ -48,7 +50,7 @@ never : (n : ℕ) → suc n ≡ 0 → ⊥
 never n e = omega arith
 
 module _ (old : List ℕ) where
-  pub done-left : (n : ℕ) (st next : Station) (d : Done) → d ≡ doneBy n st next → d .number ≡ 0
+  done-left : (n : ℕ) (st next : Station) (d : Done) → d ≡ doneBy n st next → d .number ≡ 0
       → (left : Station → List ℕ) → (n ≡ 0 → left next ≡ stationBytes next) → HandedBack n 0 old (stationBytes next) 0 (left (d .station))
   unfolding numberOr oldOr doneBy
   done-left zero st next d h z left e = rw h (refl, e refl)
@@ -56,17 +58,23 @@ module _ (old : List ℕ) where
 
   pub taken-left : (n : ℕ) (st : Station) (c : flow.Client) (d : Client) → d ≡ takenBy n st c → d .number ≡ 0
       → (left : Flow → List ℕ) → left (c .flow) ≡ stationBytes (withFlow st (c .flow))
-      → HandedBack n (fromByte 4 (c .mark)) old (stationBytes (withFlow st (c .flow))) (fromByte 4 (d .mark)) (left (d .station .flow))
+      → HandedBack n (packed (markBytes (c .mark))) old (stationBytes (withFlow st (c .flow))) (packed (markBytes (d .mark))) (left (d .station .flow))
   unfolding numberOr oldOr takenBy
   taken-left zero st c d h z left e = rw h (refl, e)
   taken-left (suc n) st c d h z left e = absurd (never n (rw h at z))
 
-  pub chosen-left : (n : ℕ) (st : Station) (d : Selected) → d ≡ chosenBy n st → d .number ≡ 0
-      → (left : Selected → List ℕ) → left (chosenOf st) ≡ stationBytes (chosenOf st .station)
-      → HandedBack n (selectedAnswer (chosenOf st .origin) (chosenOf st .frame)) old (stationBytes (chosenOf st .station)) (selectedAnswer (d .origin) (d .frame)) (left d)
-  unfolding numberOr oldOr chosenBy
-  chosen-left zero st d h z left e = rw h (refl, e)
-  chosen-left (suc n) st d h z left e = absurd (never n (rw h at z))
+-- what the station answered by a number and the station that it leaves
+module _ (xs : List ℕ) (faults : List Fault) (e : length xs ≡ stationLength) (next : Station) (d : Done) (h : d ≡ doneBy (firstOf faults) (stationAt xs) next) where
+  -- a refusal is its number alone, and leaves the bytes
+  pub done-refused : (d .number ≡ 0 → ⊥) → Gives (otherLength stationLength xs ∷ faults) 0 xs (stationBytes next) (d .number) xs
+  done-refused t = whole-gives _ xs faults e _ _ _ (done-back xs _ _ next d h (turned-down _ _ _ _ t))
+
+  -- and what is written of that station, where the call was carried out, is all that changes
+  pub done-carried : {after : List ℕ} → d .number ≡ 0 → (left : Station → List ℕ) → (firstOf faults ≡ 0 → left next ≡ stationBytes next) → after ≡ left (d .station)
+      → Gives (otherLength stationLength xs ∷ faults) 0 xs (stationBytes next) 0 after
+  done-carried z left w a =
+      let b = done-left xs _ _ next d h z left w in
+      whole-gives _ xs faults e _ _ _ (b .0, a ∙ b .1)
 
 -- ---- bytes, some part of a station in them written anew
 
@@ -80,11 +88,14 @@ stageIn xs f = put xs 1574 (digits 4 (f .stage))
 abbrev pub fairIn : List ℕ → Fair → List ℕ
 fairIn xs f = put xs 1578 (wordsBytes (fairWords f))
 
+abbrev pub countersIn : List ℕ → Four → List ℕ
+countersIn xs c = put xs 1578 (wordsBytes (fourWords c))
+
 -- what selection writes
 abbrev pub selectedIn : List ℕ → Selected → List ℕ
-selectedIn xs r = fairIn (stageIn (creditsIn (takenFrom (r .origin) xs) (r .station .flow)) (r .station .flow)) (r .station .fair)
+selectedIn xs r = countersIn (stageIn (creditsIn (takenFrom (r .origin) xs) (r .station .flow)) (r .station .flow)) (r .station .fair .counters)
 
--- in the bytes of a station: the credits and the stage's word, and the fairness state too
+-- in the bytes of a station: the credits and the stage's word, and the counters too
 module _ (ys : List ℕ) (st : Station) (s : Slotted st) (y : ys ≡ stationBytes st) (c : Credits) (w : ℕ) where
   abbrev two : List ℕ
   two = put (put ys 0 (wordsBytes (creditsWords c))) 1574 (digits 4 w)
@@ -95,9 +106,10 @@ module _ (ys : List ℕ) (st : Station) (s : Slotted st) (y : ys ≡ stationByte
       ∙ ap (λ (l : List ℕ). put l 1574 (digits 4 w)) (credits-put st s c)
       ∙ stage-put (withFlow st (withCredits (st .flow) c)) s w
 
-  three-written : (f : Fair) → fairIn two f ≡ stationBytes (record { settings = st .settings; flow = withStage (withCredits (st .flow) c) w; fair = f })
-  three-written f =
-      ap (λ (l : List ℕ). fairIn l f) two-written ∙ fair-put (withFlow st (withStage (withCredits (st .flow) c) w)) s f
+  three-written : (n : Four) → countersIn two n
+      ≡ stationBytes (record { settings = st .settings; flow = withStage (withCredits (st .flow) c) w; fair = withCounters n (st .fair) })
+  three-written n =
+      ap (λ (l : List ℕ). countersIn l n) two-written ∙ counters-put (withFlow st (withStage (withCredits (st .flow) c) w)) s n
 
 -- ---- the calls
 
@@ -176,23 +188,30 @@ module _ (xs : List ℕ) (b : Bytes xs) (e : length xs ≡ stationLength) where
       rw (queue-here l, entered (stationAt xs) l x z)
       (queue-written l (pushed (queueOf (stationAt xs .flow) l) x) (pushed-slots l x))
 
-  from-queue : (l : Line) (c : Credits) (w : ℕ) (f : Fair) →
-      fairIn (put (put (takenAt xs l) 0 (wordsBytes (creditsWords c))) 1574 (digits 4 w)) f
-      ≡ stationBytes (record { settings = stationAt xs .settings; flow = withStage (withCredits (withQueue (stationAt xs .flow) l (taken (queueOf (stationAt xs .flow) l))) c) w; fair = f })
-  from-queue l c w f =
+  from-queue : (l : Line) (c : Credits) (w : ℕ) (n : Four) →
+      countersIn (put (put (takenAt xs l) 0 (wordsBytes (creditsWords c))) 1574 (digits 4 w)) n
+      ≡ stationBytes (
+      record {
+        settings = stationAt xs .settings;
+        flow = withStage (withCredits (withQueue (stationAt xs .flow) l (taken (queueOf (stationAt xs .flow) l))) c) w;
+        fair = withCounters n (stationAt xs .fair);
+      }
+      )
+  from-queue l c w n =
       three-written (takenAt xs l) (withFlow (stationAt xs) (withQueue (stationAt xs .flow) l (taken (queueOf (stationAt xs .flow) l))))
       (queue-slotted (stationAt xs) slotted l (taken (queueOf (stationAt xs .flow) l)) (taken-slots l))
-      (rw (queue-here l) (queue-written l (taken (queueOf (stationAt xs .flow) l)) (taken-slots l))) c w f
+      (rw (queue-here l) (queue-written l (taken (queueOf (stationAt xs .flow) l)) (taken-slots l))) c w n
 
-  -- a selection changes a queue or the stage, the credits, and the fairness state
-  row-written : (r : selection.Selected) → Goes (stationAt xs .settings) (stationAt xs .flow) r → (f : Fair)
-      → fairIn (stageIn (creditsIn (takenFrom (r .origin) xs) (r .flow)) (r .flow)) f ≡ stationBytes (record { settings = stationAt xs .settings; flow = r .flow; fair = f })
-  row-written r (control a) f = from-queue Control _ _ f
-  row-written r (primary a c) f = from-queue Primary _ _ f
-  row-written r (pressed a c d) f = from-queue Secondary _ _ f
-  row-written r (staged a c d g) f = three-written xs (stationAt xs) slotted whole _ _ f
-  row-written r (secondary a c d g h) f = from-queue Secondary _ _ f
-  row-written r (nothing a c d g h) f = three-written xs (stationAt xs) slotted whole _ _ f
+  -- a selection changes a queue or the stage, the credits, and the counters
+  row-written : (r : selection.Selected) → Goes (stationAt xs .settings) (stationAt xs .flow) r → (n : Four)
+      → countersIn (stageIn (creditsIn (takenFrom (r .origin) xs) (r .flow)) (r .flow)) n
+      ≡ stationBytes (record { settings = stationAt xs .settings; flow = r .flow; fair = withCounters n (stationAt xs .fair) })
+  row-written r (control a) n = from-queue Control _ _ n
+  row-written r (primary a c) n = from-queue Primary _ _ n
+  row-written r (pressed a c d) n = from-queue Secondary _ _ n
+  row-written r (staged a c d g) n = three-written xs (stationAt xs) slotted whole _ _ n
+  row-written r (secondary a c d g h) n = from-queue Secondary _ _ n
+  row-written r (nothing a c d g h) n = three-written xs (stationAt xs) slotted whole _ _ n
 
   pub select-written : selectedIn xs (chosenOf (stationAt xs)) ≡ stationBytes (chosenOf (stationAt xs) .station)
   select-written = row-written _ (goes (stationAt xs .settings) (stationAt xs .flow)) _

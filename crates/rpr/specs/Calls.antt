@@ -10,7 +10,8 @@ use Rattle.summary.specs.Summary.{joined}
 use Rattle.summary.specs.Answer.{joinFaults, settleFaults, settled, answerNumber}
 use Rattle.account.specs.Account.{summarizeOf}
 use Rattle.sheet.specs.Sheet.{sheetLength, sheetOf, summaryAt, handed}
-use Rattle.rpr.specs.Shape.{fromByte, answerOf, afterOf, otherLength}
+use Rattle.answer.specs.Bytes.{packed, permittedBytes}
+use Rattle.rpr.specs.Shape.{answerOf, afterOf, otherLength}
 
 -- ---- rpr_summarize
 
@@ -52,9 +53,9 @@ joinAfter first second room = afterOf (joinRows first second room) room (sheetOf
 abbrev pub settleRows : List ℕ → ℕ → List Fault
 settleRows xs start = otherLength sheetLength xs ∷ settleFaults (summaryAt xs) start
 
--- Byte 1: permitted throughout. Bytes 4 to 7: the credit at the end, 0 where not permitted.
+-- Permitted throughout with the credit at the end, or 0; or the refusal's number alone.
 abbrev pub outcomeAnswer : Outcome → ℕ
-outcomeAnswer (Outcome.Permitted credit) = fromByte 1 1 + fromByte 4 credit
+outcomeAnswer (Outcome.Permitted credit) = packed (permittedBytes credit)
 outcomeAnswer Outcome.NotPermitted = 0
 outcomeAnswer (Outcome.Refused n) = n
 

@@ -1,15 +1,11 @@
 -- The shape of every call: the number of its first fault alone and the lent bytes as they were, or its answer and what it writes.
 -- Assumes nothing.
-use Prim.Native.Nat.{ℕ, zero, suc, _*_, _^_}
+use Prim.Native.Nat.{ℕ, zero, suc}
 use mathlib.Core.Bool.{not}
 use mathlib.Core.List.{List}
 use lib.Dec.{eqb}
 use lib.ListN.{length}
 use Rattle.decide.specs.Refusal.{Fault, fault, firstOf}
-
--- An answer is read as eight bytes, byte 0 the lowest: a value that stands from byte k on.
-abbrev pub fromByte : ℕ → ℕ → ℕ
-fromByte k v = 256 ^ k * v
 
 -- Byte 0 is 0 where the call was carried out, else the refusal number, and then every other byte is 0
 unfoldable pub numberOr : ℕ → ℕ → ℕ

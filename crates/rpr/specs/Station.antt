@@ -1,12 +1,12 @@
 -- What each call on a station answers, and what it leaves in the slice that is lent for writing. A station's bytes are xs, and the station that they hold is
 -- `stationAt xs`; 2 is given first, for a slice of another length. Assumes nothing.
-use Prim.Native.Nat.{ℕ, _+_, _≤_, _<_}
+use Prim.Native.Nat.{ℕ}
 use mathlib.Core.List.{List, _∷_}
 use lib.Dec.{eqb}
 use Rattle.decide.specs.Refusal.{Fault}
-use Rattle.settings.specs.Words.{settingsAt}
+use Rattle.settings.specs.Words.{settingsLength, settingsAt}
 use Rattle.queue.specs.declared.Frame.{Frame}
-use Rattle.advert.specs.Frame.{advertBytes, advertIn}
+use Rattle.advert.specs.Frame.{advertLength, advertBytes, advertIn}
 use Rattle.flow.specs.declared.Line.{Line}
 use Rattle.flow.specs.declared.Line.the-variants.{Control}
 use Rattle.flow.specs.Offer.{queueFor, controlFrame, enterOf}
@@ -18,13 +18,10 @@ use Rattle.station.specs.Hear.{hearFaults, changedOf, tellFaults}
 use Rattle.station.specs.Show.{showFaults, readingOf}
 use Rattle.layout.specs.Layout.{stationLength, stationAt, stationBytes}
 use Rattle.layout.specs.Reading.{readingLength, readingBytes}
-use Rattle.rpr.specs.Shape.{fromByte, answerOf, afterOf, otherLength}
+use Rattle.answer.specs.Bytes.{packed, markBytes, selectedBytes}
+use Rattle.rpr.specs.Shape.{answerOf, afterOf, otherLength}
 
 -- ---- rpr_start
-
--- 30 words of 4 bytes
-abbrev pub settingsLength : ℕ
-settingsLength = 120
 
 -- 2, then 1 of the settings. What the station's bytes were is not asked.
 abbrev pub startRows : List ℕ → List ℕ → List Fault
@@ -54,9 +51,9 @@ tickAfter xs a b c = afterOf (tickRows xs a b c) xs (stationBytes (tickedOf (sta
 abbrev pub offerClientRows : List ℕ → ℕ → ℕ → ℕ → List Fault
 offerClientRows xs class size hops = otherLength stationLength xs ∷ offerClientFaults (stationAt xs) class size hops
 
--- Byte 4: the mark that the frame got, eligible or not.
+-- The answer holds the mark that the frame got.
 unfoldable pub offerClientAnswer : List ℕ → ℕ → ℕ → ℕ → ℕ
-offerClientAnswer xs class size hops = answerOf (offerClientRows xs class size hops) (fromByte 4 (staging (stationAt xs) class size hops .mark))
+offerClientAnswer xs class size hops = answerOf (offerClientRows xs class size hops) (packed (markBytes (staging (stationAt xs) class size hops .mark)))
 
 -- The stage holds one client frame.
 unfoldable pub offerClientAfter : List ℕ → ℕ → ℕ → ℕ → List ℕ
@@ -95,20 +92,9 @@ offerControlAfter xs size = offerAfter xs Control (controlFrame size)
 abbrev pub selectRows : List ℕ → List Fault
 selectRows xs = otherLength stationLength xs ∷ selectFaults (stationAt xs)
 
--- Byte 1 origin, 2 class, 3 hops, 4 eligible, 5 is 0, 6 and 7 size; all 0 for nothing.
-abbrev pub selectedAnswer : ℕ → Frame → ℕ
-selectedAnswer origin x = fromByte 1 origin + fromByte 2 (x .class) + fromByte 3 (x .hops) + fromByte 4 (x .mark) + fromByte 6 (x .size)
-
--- each fits its bytes
-pub record Small (from : ℕ) (x : Frame) : Type 0 where
-  pub origin : from ≤ 4
-  pub class : x .class < 4
-  pub hops : x .hops < 64
-  pub mark : x .mark < 2
-  pub size : x .size < 16384
-
+-- Where the chosen frame comes from, and the frame; all 0 for nothing.
 unfoldable pub selectAnswer : List ℕ → ℕ
-selectAnswer xs = answerOf (selectRows xs) (selectedAnswer (chosenOf (stationAt xs) .origin) (chosenOf (stationAt xs) .frame))
+selectAnswer xs = answerOf (selectRows xs) (packed (selectedBytes (chosenOf (stationAt xs) .origin) (chosenOf (stationAt xs) .frame)))
 
 -- The chosen frame leaves its queue, and is counted.
 unfoldable pub selectAfter : List ℕ → List ℕ
@@ -142,7 +128,7 @@ readFrameAfter xs frame = afterOf (readFrameRows xs frame) xs (stationBytes (cha
 
 -- Room to write in that isn't 12 bytes: 2.
 abbrev pub writeFrameRows : List ℕ → List ℕ → List Fault
-writeFrameRows xs room = otherLength stationLength xs ∷ otherLength 12 room ∷ tellFaults (stationAt xs)
+writeFrameRows xs room = otherLength stationLength xs ∷ otherLength advertLength room ∷ tellFaults (stationAt xs)
 
 unfoldable pub writeFrameAnswer : List ℕ → List ℕ → ℕ
 writeFrameAnswer xs room = answerOf (writeFrameRows xs room) 0

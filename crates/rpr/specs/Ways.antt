@@ -1,29 +1,23 @@
 -- What the ring's two calls answer, byte by byte.
 -- Assumes nothing.
-use Prim.Native.Nat.{ℕ, _+_}
-use mathlib.Core.Bool.{Bool, true, false}
+use Prim.Native.Nat.{ℕ}
 use Rattle.ring.specs.declared.Choice.{Choice}
 use Rattle.ring.specs.Choosing.{chooseOf}
 use Rattle.wrap.specs.declared.Outcome.{Outcome}
 use Rattle.wrap.specs.Walking.{pathOf}
-use Rattle.rpr.specs.Shape.{fromByte}
+use Rattle.answer.specs.Bytes.{packed, chosenBytes, movedBytes}
 
--- Yes or no: 1 or 0.
-unfoldable pub bitOf : Bool → ℕ
-bitOf true = 1
-bitOf false = 0
-
--- Byte 1 side (1 left, 2 right), 2 distance, 3 ttl, 4 wrap mark.
+-- The side with its distance, ttl and wrap mark; or the refusal's number alone.
 abbrev pub choiceAnswer : Choice → ℕ
-choiceAnswer (Choice.Chosen side distance ttl mark) = fromByte 1 side + fromByte 2 distance + fromByte 3 ttl + fromByte 4 (bitOf mark)
+choiceAnswer (Choice.Chosen side distance ttl mark) = packed (chosenBytes side distance ttl mark)
 choiceAnswer (Choice.Refused n) = n
 
 unfoldable pub chooseAnswer : ℕ → ℕ → ℕ → ℕ → ℕ → ℕ → ℕ → ℕ
 chooseAnswer stations own target links side protection ring = choiceAnswer (chooseOf stations own target links side protection ring)
 
--- Byte 1 delivered, 2 hops.
+-- Whether the frame is delivered, and its hops; or the refusal's number alone.
 abbrev pub movedAnswer : Outcome → ℕ
-movedAnswer (Outcome.Moved delivered hops) = fromByte 1 (bitOf delivered) + fromByte 2 hops
+movedAnswer (Outcome.Moved delivered hops) = packed (movedBytes delivered hops)
 movedAnswer (Outcome.Refused n) = n
 
 unfoldable pub pathAnswer : ℕ → ℕ → ℕ → ℕ → ℕ → ℕ

@@ -4,23 +4,15 @@ ghost use mathlib.Core.Path.{_≡_};
 ghost use Rattle.layout.specs.Layout.{stationLength};
 ghost use Rattle.rpr.specs.Station.{startAnswer, startAfter, tickAnswer, tickAfter, ageAnswer, ageAfter};
 ghost use Rattle.rpr.specs.Station.{offerClientAnswer, offerClientAfter, offerTransitAnswer, offerTransitAfter, offerControlAnswer, offerControlAfter};
-ghost use Rattle.rpr.specs.Station.{Small, selectedAnswer, selectAnswer, selectAfter, readFrameAnswer, readFrameAfter};
+ghost use Rattle.rpr.specs.Station.{selectAnswer, selectAfter, readFrameAnswer, readFrameAfter};
 ghost use Rattle.rpr.specs.Station.{writeFrameAnswer, writeFrameAfter, showAnswer, showAfter};
-use crate::BYTE_1;
-use crate::BYTE_2;
-use crate::BYTE_3;
-use crate::BYTE_4;
 use crate::NOT_WHOLE;
 use flow::Line;
-use queue::Frame;
 use settings::Settings;
 use station::Station;
 
-// The refusal of a setting that is outside its range.
+// The refusal of a setting, or a station, that is outside its range.
 const SETTING: u64 = 1;
-
-// A one at byte 6 of an answer.
-const BYTE_6: u64 = 281474976710656;
 
 // How many bytes a station takes.
 #[no_mangle]
@@ -86,7 +78,7 @@ pub extern "C" fn rpr_offer_client(station: &mut [u8], class: u64, size: u64, ho
     let flow = next.flow;
     layout::write_credits(flow.credits, station);
     layout::write_stage(flow.stage, station);
-    BYTE_4 * out.mark as u64
+    answer::marked(out.mark)
 }
 
 // Takes a transit frame into the queue of its class. 2, 1, 3, then 4.
@@ -142,18 +134,20 @@ pub extern "C" fn rpr_select(station: &mut [u8]) -> u64
     if station.len() != layout::LENGTH {
         return NOT_WHOLE;
     }
-    let out = layout::read(station).select();
-    if out.number != 0 {
-        return out.number as u64;
+    if !layout::read(station).in_range() {
+        return SETTING;
     }
-    let next = out.station;
-    let flow = next.flow;
+    let out = layout::pick(station);
+    if out.origin == 0 {
+        return 0;
+    }
     layout::take_frame(out.origin, station);
-    layout::write_credits(flow.credits, station);
-    layout::write_stage(flow.stage, station);
-    layout::write_fair(next.fair, station);
+    layout::write_credits(out.credits, station);
+    layout::write_stage(out.stage, station);
+    let fair = out.fair;
+    layout::write_counters(fair.counters, station);
     let frame = out.frame;
-    selected(out.origin, frame)
+    answer::selected(out.origin, frame)
 }
 
 // Ends an aging interval. 2, then 1.
@@ -232,16 +226,4 @@ pub extern "C" fn rpr_show(station: &[u8], room: &mut [u8]) -> u64
     let shown = out.reading;
     layout::write_reading(shown, room);
     0
-}
-
-// What selection says of a frame: byte 1 its origin, 2 class, 3 hops, 4 the mark, 6 and 7 size.
-fn selected(origin: u32, frame: Frame) -> u64
-    requires { ⌜ Small origin frame ⌝ }
-    ensures { λ r. ⌜ r ≡ selectedAnswer origin frame ⌝ }
-{
-    BYTE_1 * origin as u64
-        + BYTE_2 * frame.class as u64
-        + BYTE_3 * frame.hops as u64
-        + BYTE_4 * frame.mark as u64
-        + BYTE_6 * frame.size as u64
 }

@@ -1,7 +1,6 @@
 // The functions that a host written in C calls.
 ghost use mathlib.Core.Path.{_≡_};
-ghost use Prim.Native.Nat.{_≤_};
-ghost use Rattle.rpr.specs.Ways.{bitOf, chooseAnswer, pathAnswer};
+ghost use Rattle.rpr.specs.Ways.{chooseAnswer, pathAnswer};
 ghost use Rattle.rpr.specs.Calls.{summarizeAnswer, summarizeAfter, joinAnswer, joinAfter, settleAnswer};
 
 mod lending;
@@ -11,18 +10,6 @@ use summary::Outcome;
 
 // The refusal of bytes that are not of the length named.
 const NOT_WHOLE: u64 = 2;
-
-// A one at byte 1 of an answer.
-const BYTE_1: u64 = 256;
-
-// A one at byte 2 of an answer.
-const BYTE_2: u64 = 65536;
-
-// A one at byte 3 of an answer.
-const BYTE_3: u64 = 16777216;
-
-// A one at byte 4 of an answer.
-const BYTE_4: u64 = 4294967296;
 
 // Leaves in the room the summary of a shaper record. 2 where the room is not 48 bytes, then the number of the record's earliest fault.
 #[no_mangle]
@@ -66,7 +53,7 @@ pub extern "C" fn rpr_settle(summary: &[u8], start: u64) -> u64
     }
     let outcome = sheet::read(summary).settle(start);
     match outcome {
-        Outcome::Permitted(credit) => BYTE_1 + BYTE_4 * credit,
+        Outcome::Permitted(credit) => answer::permitted(credit),
         Outcome::NotPermitted => 0,
         Outcome::Refused(number) => number,
     }
@@ -92,7 +79,7 @@ pub extern "C" fn rpr_choose(
             distance,
             ttl,
             mark,
-        } => BYTE_1 * way + BYTE_2 * distance + BYTE_3 * ttl + BYTE_4 * bit(mark),
+        } => answer::chosen(way, distance, ttl, mark),
         Choice::Refused(number) => number,
     }
 }
@@ -104,14 +91,7 @@ pub extern "C" fn rpr_path(stations: u64, own: u64, target: u64, links: u64, hom
 {
     let outcome = wrap::path(stations, own, target, links, home);
     match outcome {
-        wrap::Outcome::Moved { delivered, hops } => BYTE_1 * bit(delivered) + BYTE_2 * hops,
+        wrap::Outcome::Moved { delivered, hops } => answer::moved(delivered, hops),
         wrap::Outcome::Refused(number) => number,
     }
-}
-
-// 1 for yes, 0 for no.
-fn bit(yes: bool) -> u64
-    ensures { λ r. ⌜ (r ≡ bitOf yes) × (r ≤ 1) ⌝ }
-{
-    if yes { 1 } else { 0 }
 }

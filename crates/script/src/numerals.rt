@@ -8,10 +8,11 @@ pub enum Value {
     Wrong,
 }
 
-// The numbers of a text: their values, how many there are (ROOM where there are more), and whether a word among them was none.
+// The numbers of a text: their values, how many there are (ROOM where there are more), the largest, and whether a word among them was none.
 pub struct Row {
     pub values: [u64; 32],
     pub count: usize,
+    pub largest: u64,
     pub wrong: bool,
 }
 
@@ -73,6 +74,7 @@ impl Row {
         Row {
             values: values,
             count: 0,
+            largest: 0,
             wrong: false,
         }
     }
@@ -91,6 +93,7 @@ impl Row {
         if count < ROOM {
             next.values[count] = n;
             next.count = count + 1;
+            next.largest = larger(self.largest, n);
         }
         next
     }
@@ -100,6 +103,10 @@ impl Row {
         next.wrong = true;
         next
     }
+}
+
+fn larger(a: u64, b: u64) -> u64 {
+    if a < b { b } else { a }
 }
 
 // The number that all characters spell as digits of a base. No digit at all is wrong, and so is a number that does not fit.

@@ -7,10 +7,10 @@ use mathlib.Core.Path.{_≡_, refl, sym, _∙_}
 use native.Mathlib.Nat.{add-zero}
 use native.Mathlib.Omega.{arith}
 use lib.ListN.{length}
-use Rattle.wire.specs.Wire.{le, digits, put, Bytes}
+use Rattle.wire.specs.Wire.{le, digits, Bytes}
 use Rattle.wire.specs.Parts.{Part, laidOut, nth, offset}
 use Rattle.wire.proofs.Puts.{put-whole}
-use Rattle.wire.proofs.Places.{Same, Stands, stands-put, stands-whole, put-stands}
+use Rattle.wire.proofs.Places.{Stands, stands-whole, put-stands}
 use Rattle.wire.proofs.Numbers.{digits-stand, digits-bytes, le-bound}
 use Rattle.wire.proofs.Laid.{le-part, part-stands}
 use Rattle.wire.proofs.Placed.{placed-stand, laidOut-bytes}
@@ -24,7 +24,7 @@ use Rattle.settings.specs.declared.Settings.{Settings}
 use Rattle.settings.specs.Range.{BucketOk, QueuesOk, FairnessOk, SettingsOk}
 use Rattle.settings.specs.Words.{addressParts, bucketParts, shapersParts, queuesParts, fairnessParts, settingsParts}
 use Rattle.settings.specs.Words.{addressBytes, bucketBytes, shapersBytes, queuesBytes, fairnessBytes, settingsBytes, settings-length}
-use Rattle.settings.specs.Words.{addressAt, bucketAt, shapersAt, queuesAt, fairnessAt, settingsAt}
+use Rattle.settings.specs.Words.{settingsLength, addressAt, bucketAt, shapersAt, queuesAt, fairnessAt, settingsAt}
 use Rattle.settings.specs.Words.{AddressFits, BucketFits, ShapersFit, QueuesFit, FairnessFits, SettingsFit}
 
 -- ---- read where they stand
@@ -133,7 +133,7 @@ module _ (xs : List ℕ) (b : Bytes xs) where
       (w at, (w (at + 4), (w (at + 8), (w (at + 12), (w (at + 16), (w (at + 20), (w (at + 24), tt)))))))
 
   -- the bytes of the settings that are read at a place stand there
-  pub settings-stand : (at : ℕ) → at + 120 ≤ length xs → Stands xs at (settingsBytes (settingsAt xs at))
+  pub settings-stand : (at : ℕ) → at + settingsLength ≤ length xs → Stands xs at (settingsBytes (settingsAt xs at))
   unfolding settingsBytes settingsAt
   settings-stand at h =
       placed-stand (settingsParts (settingsAt xs at)) xs at h (
@@ -225,28 +225,11 @@ pub settings-of-bytes : (v : Settings) → SettingsFit v → settingsAt (setting
 settings-of-bytes v f = settings-back (settingsBytes v) 0 v f (stands-whole (settingsBytes v))
 
 -- 120 bytes, read and written, are the bytes
-pub bytes-of-settings : (xs : List ℕ) → Bytes xs → length xs ≡ 120 → settingsBytes (settingsAt xs 0) ≡ xs
+pub bytes-of-settings : (xs : List ℕ) → Bytes xs → length xs ≡ settingsLength → settingsBytes (settingsAt xs 0) ≡ xs
 bytes-of-settings xs b e =
-    let n : length (settingsBytes (settingsAt xs 0)) ≡ 120 = settings-length (settingsAt xs 0) in
+    let n : length (settingsBytes (settingsAt xs 0)) ≡ settingsLength = settings-length (settingsAt xs 0) in
     sym (put-whole xs (settingsBytes (settingsAt xs 0)) (omega arith))
     ∙ put-stands xs (settingsBytes (settingsAt xs 0)) 0 (omega arith) (settings-stand xs b 0 (omega arith))
-
--- the same at a place: what was written there is read,
-pub settings-put : (xs : List ℕ) (at : ℕ) (v : Settings) → SettingsFit v → at + 120 ≤ length xs → settingsAt (put xs at (settingsBytes v)) at ≡ v
-settings-put xs at v f h =
-    settings-back (put xs at (settingsBytes v)) at v f (stands-put xs (settingsBytes v) at (omega (arith, settings-length v)))
-
--- and writing what was read changes nothing
-pub put-settings : (xs : List ℕ) (at : ℕ) → Bytes xs → at + 120 ≤ length xs → put xs at (settingsBytes (settingsAt xs at)) ≡ xs
-put-settings xs at b h =
-    put-stands xs (settingsBytes (settingsAt xs at)) at (omega (arith, settings-length (settingsAt xs at))) (settings-stand xs b at h)
-
--- settings are read from their own 120 bytes alone
-pub settings-same : (xs ys : List ℕ) (at k : ℕ) → Bytes xs → at + 120 ≤ length xs → Same 120 xs at ys k → settingsAt ys k ≡ settingsAt xs at
-settings-same xs ys at k b h e =
-    let n : length (settingsBytes (settingsAt xs at)) ≡ 120 = settings-length (settingsAt xs at) in
-    settings-back ys k (settingsAt xs at) (settings-fit xs at b)
-    (λ i l. sym (e i (omega arith)) ∙ settings-stand xs b at h i l)
 
 -- ---- the table of words
 

@@ -13,6 +13,10 @@ use Rattle.settings.specs.declared.Queues.{Queues}
 use Rattle.settings.specs.declared.Fairness.{Fairness}
 use Rattle.settings.specs.declared.Settings.{Settings}
 
+-- how many bytes they are
+abbrev pub settingsLength : ℕ
+settingsLength = 120
+
 -- one number of the settings
 abbrev pub word : ℕ → Part
 word v = number 4 v
@@ -76,13 +80,13 @@ fairnessBytes f = laidOut (fairnessParts f)
 unfoldable pub settingsBytes : Settings → List ℕ
 settingsBytes s = laidOut (settingsParts s)
 
-pub settings-length : (s : Settings) → length (settingsBytes s) ≡ 120
+pub settings-length : (s : Settings) → length (settingsBytes s) ≡ settingsLength
 unfolding settingsBytes
 settings-length s = length-laidOut (settingsParts s)
 
 -- the settings as one part of a longer layout
 abbrev pub settingsPart : Settings → Part
-settingsPart s = record { size = 120; bytes = settingsBytes s; sized = settings-length s }
+settingsPart s = record { size = settingsLength; bytes = settingsBytes s; sized = settings-length s }
 
 -- ---- what is read: each number at its place
 

@@ -8,7 +8,7 @@ ghost use Rattle.wire.specs.Wire.{put};
 ghost use Rattle.settings.specs.Range.{limitsOf, bucketOk, shapersOk, capacityOk, queuesOk, ageOk, coefOk, fairnessOk, settingsOk};
 ghost use Rattle.settings.specs.Range.{usualOf, addressOf};
 ghost use Rattle.settings.specs.Words.{addressAt, addressBytes, bucketAt, bucketBytes, shapersAt, shapersBytes, queuesAt, queuesBytes};
-ghost use Rattle.settings.specs.Words.{fairnessAt, fairnessBytes, settingsAt, settingsBytes};
+ghost use Rattle.settings.specs.Words.{fairnessAt, fairnessBytes, settingsLength, settingsAt, settingsBytes};
 use shaper::Limits;
 
 // The settings of one shaper: loLimit, hiLimit, and the amount per tick.
@@ -85,7 +85,7 @@ impl Settings {
 
     // The settings whose words stand in `s` from `at` on.
     pub fn read(s: &[u8], at: usize) -> Settings
-        requires { ⌜ at + 120 ≤ length (now s) ⌝ }
+        requires { ⌜ at + settingsLength ≤ length (now s) ⌝ }
         ensures { λ r. ⌜ r ≡ settingsAt (now (s .entry)) at ⌝ }
     {
         Settings {
@@ -100,7 +100,7 @@ impl Settings {
 
     // Writes the words of the settings to `s` from `at` on.
     pub fn write(self, s: &mut [u8], at: usize)
-        requires { ⌜ at + 120 ≤ length (now s) ⌝ }
+        requires { ⌜ at + settingsLength ≤ length (now s) ⌝ }
         ensures { λ _. ⌜ now (s .exit) ≡ put (now (s .entry)) at (settingsBytes self) ⌝ }
     {
         self.address.write(s, at);

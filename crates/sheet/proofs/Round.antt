@@ -12,14 +12,14 @@ use Rattle.wire.specs.Signed.{signedOf, unsignedOf}
 use Rattle.wire.proofs.Places.{Stands, stands-whole}
 use Rattle.wire.proofs.Numbers.{le-bound, digits-stand}
 use Rattle.wire.proofs.Laid.{le-part, whole-standing}
-use Rattle.wire.proofs.Signs.{unsigned-signed, signed-unsigned, signed-bound, unsigned-bound}
+use Rattle.wire.proofs.Signs.{unsigned-signed, signed-unsigned, unsigned-bound}
 use Rattle.plain.proofs.Laws.{in-range-small}
 use Rattle.plain.proofs.Ceiling.{ceiling-fits}
 use Rattle.summary.specs.declared.Summary.{Summary}
 use Rattle.summary.specs.Range.{inRange}
 use Rattle.summary.specs.Plain.{plainFrom}
 use Rattle.summary.proofs.Paper.{same-signed, in-range-plain}
-use Rattle.sheet.specs.Sheet.{sheetLength, sheetParts, sheetOf, summaryAt, Fits}
+use Rattle.sheet.specs.Sheet.{sheetLength, sheetParts, sheetOf, summaryAt, SummaryFits}
 
 pub length-sheet : (s : Summary) → length (sheetOf s) ≡ sheetLength
 unfolding sheetOf
@@ -39,24 +39,9 @@ module _ (xs : List ℕ) (b : Bytes xs) where
       whole-standing (sheetParts (summaryAt xs)) xs (sym e)
       (digits-stand 4 xs 0 b, (digits-stand 4 xs 4 b, (digits-stand 4 xs 8 b, (digits-stand 4 xs 12 b, (digits-stand 8 xs 16 b, (digits-stand 8 xs 24 b, (ceiling-stands, (digits-stand 8 xs 40 b, tt))))))))
 
-  -- What is read fits.
-  pub summary-fits : Fits (summaryAt xs)
-  unfolding summaryAt
-  summary-fits =
-      record {
-        mtu = le-bound 4 xs 0 b;
-        lo = le-bound 4 xs 4 b;
-        hi = le-bound 4 xs 8 b;
-        events = le-bound 4 xs 12 b;
-        accrued = le-bound 8 xs 16 b;
-        sent = le-bound 8 xs 24 b;
-        ceiling = signed-bound (le 8 xs 32) (le-bound 8 xs 32 b);
-        need = le-bound 8 xs 40 b;
-      }
-
 -- ---- a summary, written and read
 
-module _ (s : Summary) (f : Fits s) where
+module _ (s : Summary) (f : SummaryFits s) where
   -- the k-th field is read at its offset
   field : (k w v : ℕ) → nth (sheetParts s) k .bytes ≡ number w v .bytes → v < 256 ^ w → le w (sheetOf s) (0 + offset (sheetParts s) k) ≡ v
   unfolding sheetOf
@@ -79,7 +64,7 @@ module _ (s : Summary) (f : Fits s) where
       )
 
 -- The fields of a summary in range fit.
-pub in-range-fits : (s : Summary) → inRange s ≡ true → Fits s
+pub in-range-fits : (s : Summary) → inRange s ≡ true → SummaryFits s
 in-range-fits s h =
     let p = in-range-plain s h in
     let n = in-range-small (plainFrom s) p in

@@ -9,6 +9,7 @@ use Rattle.wire.specs.Signed.{signedOf, unsignedOf}
 use Rattle.summary.specs.declared.Summary.{Summary}
 use Rattle.summary.specs.declared.Answer.{Answer}
 
+-- how many bytes a summary takes
 abbrev pub sheetLength : ℕ
 sheetLength = 48
 
@@ -47,7 +48,7 @@ summaryAt xs =
     }
 
 -- each field fits its bytes
-pub record Fits (s : Summary) : Type 0 where
+pub record SummaryFits (s : Summary) : Type 0 where
   pub mtu : s .limits .mtu < 4294967296
   pub lo : s .limits .lo < 4294967296
   pub hi : s .limits .hi < 4294967296

@@ -16,7 +16,7 @@ use Rattle.queue.specs.declared.Frame.{Frame}
 use Rattle.queue.specs.declared.Queue.{Queue}
 use Rattle.queue.specs.Frame.{wordOf}
 use Rattle.queue.specs.Queue.{pushed}
-use Rattle.slots.specs.Slots.{wordsBytes, words-length, queueBytes, queueParts, queue-length, wordsAt, queueAt, slotAnew}
+use Rattle.slots.specs.Slots.{queueLength, wordsBytes, words-length, queueBytes, queueParts, queue-length, wordsAt, queueAt, slotAnew}
 use Rattle.slots.proofs.Round.{slots-length, queue-stand}
 
 -- ---- parts
@@ -101,11 +101,11 @@ module _ (q : Queue) (e : length (q .slots) ≡ 128) where
   count-put v = put-anew (queueParts q e) 3 (number 1 v) (omega arith) refl
 
 -- where the bytes of a queue stand, one part of them anew
-module _ (xs : List ℕ) (at : ℕ) (h : at + 518 ≤ length xs) where
-  there : (q : Queue) → length (q .slots) ≡ 128 → (k : ℕ) (bs : List ℕ) → k + length bs ≤ 518 → (r : Queue) → put (queueBytes q) k bs ≡ queueBytes r
+module _ (xs : List ℕ) (at : ℕ) (h : at + queueLength ≤ length xs) where
+  there : (q : Queue) → length (q .slots) ≡ 128 → (k : ℕ) (bs : List ℕ) → k + length bs ≤ queueLength → (r : Queue) → put (queueBytes q) k bs ≡ queueBytes r
       → (ys : List ℕ) → ys ≡ put xs at (queueBytes q) → put ys (at + k) bs ≡ put xs at (queueBytes r)
   there q e k bs l r p ys s =
-      let n : length (queueBytes q) ≡ 518 = queue-length q e in
+      let n : length (queueBytes q) ≡ queueLength = queue-length q e in
       ap (λ (zs : List ℕ). put zs (at + k) bs) s
       ∙ put-within xs (queueBytes q) bs at k (omega arith) (omega arith)
       ∙ ap (λ (zs : List ℕ). put xs at zs) p

@@ -9,7 +9,7 @@ use native.Mathlib.Omega.{arith}
 use lib.ListN.{length, getD}
 use Rattle.decide.specs.Test.{split, _<?_}
 use Rattle.wire.specs.Wire.{le, digits, Bytes}
-use Rattle.wire.specs.Parts.{Part, number, laidOut}
+use Rattle.wire.specs.Parts.{Part, number, bytesPart, laidOut}
 use Rattle.wire.proofs.Puts.{put-whole}
 use Rattle.wire.proofs.Places.{Stands, stands-whole, put-stands, bytes-append}
 use Rattle.wire.proofs.Numbers.{digits-stand, digits-bytes, le-bound}
@@ -19,11 +19,11 @@ use Rattle.queue.specs.declared.Queue.{Queue}
 use Rattle.queue.specs.Queue.{framesOf}
 use Rattle.queue.specs.Range.{QueueOk}
 use Rattle.queue.proofs.Ring.{in-all}
-use Rattle.slots.specs.Slots.{wordsBytes, queueBytes, words-length, queueParts, queue-length, wordsAt, queueAt, WordsFit, QueueFits}
+use Rattle.slots.specs.Slots.{queueLength, wordsBytes, queueBytes, words-length, queueParts, queue-length, wordsAt, queueAt, WordsFit, QueueFits}
 
 -- a word, and those behind it
 abbrev pair : ℕ → List ℕ → List Part
-pair w ws = number 4 w ∷ record { size = length (wordsBytes ws); bytes = wordsBytes ws; sized = refl } ∷ []
+pair w ws = number 4 w ∷ bytesPart (wordsBytes ws) ∷ []
 
 pair-bytes : (w : ℕ) (ws : List ℕ) → laidOut (pair w ws) ≡ wordsBytes (w ∷ ws)
 unfolding wordsBytes
@@ -31,7 +31,8 @@ pair-bytes w ws = ap (λ (l : List ℕ). digits 4 w ++ l) (append-nil (wordsByte
 
 -- ---- read where it stands
 
-words-back : (xs ws : List ℕ) (at : ℕ) → WordsFit ws → Stands xs at (wordsBytes ws) → wordsAt (length ws) xs at ≡ ws
+-- words are read where they stand
+pub words-back : (xs ws : List ℕ) (at : ℕ) → WordsFit ws → Stands xs at (wordsBytes ws) → wordsAt (length ws) xs at ≡ ws
 unfolding wordsAt
 words-back xs [] at f s = refl
 words-back xs (w ∷ ws) at f s =
@@ -61,7 +62,8 @@ unfolding queueAt
 slots-length xs at = at-length 128 xs at
 
 module _ (xs : List ℕ) (b : Bytes xs) where
-  words-stand : (n at : ℕ) → at + 4 * n ≤ length xs → Stands xs at (wordsBytes (wordsAt n xs at))
+  -- the bytes of the words that are read at a place stand there
+  pub words-stand : (n at : ℕ) → at + 4 * n ≤ length xs → Stands xs at (wordsBytes (wordsAt n xs at))
   unfolding wordsBytes wordsAt
   words-stand zero at h = λ i l. omega arith
   words-stand (suc n) at h =
@@ -70,7 +72,7 @@ module _ (xs : List ℕ) (b : Bytes xs) where
       (digits-stand 4 xs at b, (words-stand n (at + 4) (omega arith), tt)))
 
   -- the bytes of the queue that is read at a place stand there
-  pub queue-stand : (at : ℕ) → at + 518 ≤ length xs → Stands xs at (queueBytes (queueAt xs at))
+  pub queue-stand : (at : ℕ) → at + queueLength ≤ length xs → Stands xs at (queueBytes (queueAt xs at))
   unfolding queueBytes queueAt
   queue-stand at h =
       placed-stand (queueParts (queueAt xs at) (slots-length xs at)) xs at h
@@ -78,7 +80,7 @@ module _ (xs : List ℕ) (b : Bytes xs) where
 
 -- ---- what is written are bytes
 
-words-bytes : (ws : List ℕ) → Bytes (wordsBytes ws)
+pub words-bytes : (ws : List ℕ) → Bytes (wordsBytes ws)
 unfolding wordsBytes
 words-bytes [] = λ j. omega arith
 words-bytes (w ∷ ws) = bytes-append (digits 4 w) (wordsBytes ws) (digits-bytes 4 w) (words-bytes ws)
@@ -92,18 +94,19 @@ queue-bytes q =
 
 -- ---- what fits
 
-at-fit : (n : ℕ) (xs : List ℕ) (at : ℕ) → Bytes xs → WordsFit (wordsAt n xs at)
+-- what is read from bytes fits: words,
+pub words-fit : (n : ℕ) (xs : List ℕ) (at : ℕ) → Bytes xs → WordsFit (wordsAt n xs at)
 unfolding wordsAt
-at-fit zero xs at b = tt
-at-fit (suc n) xs at b = (le-bound 4 xs at b, at-fit n xs (at + 4) b)
+words-fit zero xs at b = tt
+words-fit (suc n) xs at b = (le-bound 4 xs at b, words-fit n xs (at + 4) b)
 
--- what is read from bytes fits,
+-- and a queue;
 pub queue-fits : (xs : List ℕ) (at : ℕ) → Bytes xs → QueueFits (queueAt xs at)
 unfolding queueAt
 queue-fits xs at b =
     record {
       many = slots-length xs at;
-      slots = at-fit 128 xs at b;
+      slots = words-fit 128 xs at b;
       head = le-bound 1 xs (at + 516) b;
       count = le-bound 1 xs (at + 517) b;
       held = le-bound 4 xs (at + 512) b;
@@ -114,9 +117,9 @@ each-fits [] h = tt
 each-fits (w ∷ ws) h = (h 0 (omega arith), each-fits ws (λ j l. h (suc j) (omega arith)))
 
 -- and so does a queue in range: the word of a frame has 23 bits, and that of an empty slot is 0
-pub in-range-fits : (mtu capacity : ℕ) (q : Queue) → capacity ≤ 1048576 → QueueOk mtu capacity q → QueueFits q
+pub queue-in-range-fits : (mtu capacity : ℕ) (q : Queue) → capacity ≤ 1048576 → QueueOk mtu capacity q → QueueFits q
 unfolding framesOf
-in-range-fits mtu capacity q m ok =
+queue-in-range-fits mtu capacity q m ok =
     record {
       many = ok .slots;
       slots = each-fits (q .slots) each;
@@ -144,8 +147,8 @@ pub queue-of-bytes : (q : Queue) → QueueFits q → queueAt (queueBytes q) 0 �
 queue-of-bytes q f = queue-back (queueBytes q) 0 q f (stands-whole (queueBytes q))
 
 -- 518 bytes, read and written, are the bytes
-pub bytes-of-queue : (xs : List ℕ) → Bytes xs → length xs ≡ 518 → queueBytes (queueAt xs 0) ≡ xs
+pub bytes-of-queue : (xs : List ℕ) → Bytes xs → length xs ≡ queueLength → queueBytes (queueAt xs 0) ≡ xs
 bytes-of-queue xs b e =
-    let n : length (queueBytes (queueAt xs 0)) ≡ 518 = queue-length (queueAt xs 0) (slots-length xs 0) in
+    let n : length (queueBytes (queueAt xs 0)) ≡ queueLength = queue-length (queueAt xs 0) (slots-length xs 0) in
     sym (put-whole xs (queueBytes (queueAt xs 0)) (omega arith))
     ∙ put-stands xs (queueBytes (queueAt xs 0)) 0 (omega arith) (queue-stand xs b 0 (omega arith))

@@ -9,6 +9,10 @@ use Rattle.wire.specs.Wire.{le, digits, length-digits}
 use Rattle.wire.specs.Parts.{Part, number, laidOut, length-laidOut}
 use Rattle.queue.specs.declared.Queue.{Queue}
 
+-- how many bytes a queue takes
+abbrev pub queueLength : ℕ
+queueLength = 518
+
 -- ---- what is written: slots, bytes held, head and count, one after another
 
 -- words, 4 bytes each
@@ -32,13 +36,13 @@ slotsPart ws e = record { size = 512; bytes = wordsBytes ws; sized = omega (arit
 abbrev pub queueParts : (q : Queue) → length (q .slots) ≡ 128 → List Part
 queueParts q e = slotsPart (q .slots) e ∷ number 4 (q .held) ∷ number 1 (q .head) ∷ number 1 (q .count) ∷ []
 
-pub queue-length : (q : Queue) → length (q .slots) ≡ 128 → length (queueBytes q) ≡ 518
+pub queue-length : (q : Queue) → length (q .slots) ≡ 128 → length (queueBytes q) ≡ queueLength
 unfolding queueBytes
 queue-length q e = length-laidOut (queueParts q e)
 
 -- a queue of 128 slots as one part of a longer layout
 abbrev pub queuePart : (q : Queue) → length (q .slots) ≡ 128 → Part
-queuePart q e = record { size = 518; bytes = queueBytes q; sized = queue-length q e }
+queuePart q e = record { size = queueLength; bytes = queueBytes q; sized = queue-length q e }
 
 -- ---- what is read: each number at its place
 

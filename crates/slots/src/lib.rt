@@ -3,17 +3,16 @@ ghost use mathlib.Core.Path.{_≡_};
 ghost use Prim.Native.Nat.{_+_, _≤_, _<_};
 ghost use lib.ListN.{length};
 ghost use Rattle.wire.specs.Wire.{put};
+ghost use Rattle.queue.specs.Front.{frontOf};
 ghost use Rattle.queue.specs.Queue.{pushed, taken};
-ghost use Rattle.slots.specs.Slots.{wordsBytes, queueBytes, wordsAt, queueAt, slotAnew};
+ghost use Rattle.slots.specs.Slots.{queueLength, wordsBytes, queueBytes, wordsAt, queueAt, slotAnew};
 use queue::Frame;
+use queue::Front;
 use queue::Queue;
-
-// How many bytes a queue takes.
-pub const LENGTH: usize = 518;
 
 // The queue whose bytes stand in `s` from `at` on, in range or not.
 pub fn read(s: &[u8], at: usize) -> Queue
-    requires { ⌜ at + 518 ≤ length (now s) ⌝ }
+    requires { ⌜ at + queueLength ≤ length (now s) ⌝ }
     ensures { λ r. ⌜ r ≡ queueAt (now (s .entry)) at ⌝ }
 {
     let slots = read_words(s, at);
@@ -25,9 +24,23 @@ pub fn read(s: &[u8], at: usize) -> Queue
     }
 }
 
+// The front of that queue. Of its slots only the first frame's is read.
+pub fn front(s: &[u8], at: usize) -> Front
+    requires { ⌜ at + queueLength ≤ length (now s) ⌝ }
+    ensures { λ r. ⌜ r ≡ frontOf (queueAt (now (s .entry)) at) ⌝ }
+{
+    let q = read(s, at);
+    let i = q.head as usize % 128;
+    Front {
+        word: wire::get32(s, at + 4 * i),
+        count: q.count,
+        held: q.held,
+    }
+}
+
 // Writes a queue to the 518 bytes of `s` from `at` on.
 pub fn write(q: Queue, s: &mut [u8], at: usize)
-    requires { ⌜ at + 518 ≤ length (now s) ⌝ }
+    requires { ⌜ at + queueLength ≤ length (now s) ⌝ }
     ensures { λ _. ⌜ (now (s .exit) ≡ put (now (s .entry)) at (queueBytes q)) × (length (q .slots) ≡ 128) ⌝ }
 {
     let slots = q.slots;
@@ -39,7 +52,7 @@ pub fn write(q: Queue, s: &mut [u8], at: usize)
 
 // Pushes a frame to the queue whose bytes stand in `s` from `at` on. One slot is written, and what stands behind the slots.
 pub fn push(f: Frame, s: &mut [u8], at: usize)
-    requires { ⌜ at + 518 ≤ length (now s) ⌝ }
+    requires { ⌜ at + queueLength ≤ length (now s) ⌝ }
     ensures { λ _. ⌜ now (s .exit) ≡ put (now (s .entry)) at (queueBytes (pushed (queueAt (now (s .entry)) at) f)) ⌝ }
 {
     let q = read(s, at);
@@ -51,7 +64,7 @@ pub fn push(f: Frame, s: &mut [u8], at: usize)
 
 // Takes the first frame from the queue whose bytes stand in `s` from `at` on. One slot is written, and what stands behind the slots.
 pub fn take(s: &mut [u8], at: usize)
-    requires { ⌜ at + 518 ≤ length (now s) ⌝ }
+    requires { ⌜ at + queueLength ≤ length (now s) ⌝ }
     ensures { λ _. ⌜ now (s .exit) ≡ put (now (s .entry)) at (queueBytes (taken (queueAt (now (s .entry)) at))) ⌝ }
 {
     let q = read(s, at);
@@ -65,7 +78,7 @@ pub fn take(s: &mut [u8], at: usize)
 
 // Writes one slot of the queue whose bytes stand in `s` from `at` on, and what stands behind the slots.
 fn write_slot(i: usize, word: u32, held: u32, head: u8, count: u8, s: &mut [u8], at: usize)
-    requires { ⌜ (at + 518 ≤ length (now s)) × (i < 128) ⌝ }
+    requires { ⌜ (at + queueLength ≤ length (now s)) × (i < 128) ⌝ }
     ensures { λ _. ⌜ now (s .exit) ≡ put (now (s .entry)) at (queueBytes (slotAnew (queueAt (now (s .entry)) at) i word held head count)) ⌝ }
 {
     wire::put32(s, at + 4 * i, word);

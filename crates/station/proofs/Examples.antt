@@ -16,7 +16,7 @@ use Rattle.shaper.specs.declared.Event.the-variants.{Waiting, Send}
 use Rattle.flow.specs.declared.Which.the-variants.{C, D}
 use Rattle.flow.specs.Range.{flowOk}
 use Rattle.flow.specs.Tick as flow
-use Rattle.flow.specs.Offer.{wayOf, clientBy}
+use Rattle.flow.specs.Offer.{enteredOf, queueFor, wayOf, clientBy}
 use Rattle.flow.specs.Select as selection
 use Rattle.fair.specs.Range.{fairOk}
 use Rattle.fair.specs.Count.{raisedOf}
@@ -28,7 +28,7 @@ use Rattle.station.specs.Answers.{doneBy, chosenBy}
 use Rattle.station.specs.Calls.{freshOf}
 use Rattle.station.specs.Offers.{takenBy}
 use Rattle.station.specs.Hear.{hearOf, toldBy, tellOf}
-use Rattle.station.specs.History.{Call, tick, offerClient, select, age, step, after, recordOf}
+use Rattle.station.specs.History.{Call, tick, offerClient, offerTransit, select, age, step, after, recordOf}
 
 -- mtu 64; each shaper loLimit 100, hiLimit 300, amount 50; 10 ticks per interval, unreservedRate 1,999, default coefficients
 abbrev pub settings : Settings
@@ -58,6 +58,10 @@ choke ttl = ttl ∷ 160 ∷ 0 ∷ 3 ∷ 0 ∷ 0 ∷ 0 ∷ 4 ∷ 0 ∷ 0 ∷ 0 �
 abbrev pub choked : ℕ → Station
 choked ttl = hearOf (freshOf settings) (choke ttl) .station
 
+-- two transit frames of this class, 80 bytes together, and then an interval ends
+abbrev pub loaded : ℕ → List Call
+loaded class = offerTransit class 64 3 0 ∷ offerTransit class 16 3 0 ∷ age ∷ []
+
 pub record Examples : Type 0 where
   -- Shares are floor(1,999 / (4 × 10)) = 49, less than C's setting: 100 + 49 − 64 = 85; D has 100 + 50 − 64 = 86. The others wait for nothing: 150 is cut to 100.
   pub sent-credits : after (freshOf settings) (sent 7) .flow .credits ≡ record { m = 100; a = 100; b = 100; c = 85; d = 86 }
@@ -71,12 +75,15 @@ pub record Examples : Type 0 where
   -- After an interval allowedRateCongested is 125 × 1 × 1, and that frame went. One more of 61 bytes makes 64 + 61 = 125, which is not passed; one of 62 does.
   pub size-61 : step (offerClient 2 61 7) (after (choked 250) busy) .answer .number ≡ 0
   pub size-62 : step (offerClient 2 62 7) (after (choked 250) busy) .answer .number ≡ 7
+  -- Low threshold 64: 80 bytes of class B, in the secondary queue, make the station locally congested; as many of class A, in the primary queue, do not.
+  pub loaded-b : after (freshOf settings) (loaded 1) .fair .congested ≡ 1
+  pub loaded-a : after (freshOf settings) (loaded 0) .fair .congested ≡ 0
   -- A received frame is passed on with its ttl less 1, but for ttl 193: then FULL_RATE, with own address and ttl 255.
   pub told-194 : tellOf (choked 194) .advert ≡ record { ringlet = 1; ttl = 193; high = 3; low = 4; rate = 125 }
   pub told-193 : tellOf (choked 193) .advert ≡ record { ringlet = 1; ttl = 255; high = 1; low = 2; rate = 65535 }
 
 pub examples : Examples
-unfolding test stationOk settingsOk flowOk fairOk queueOk slotsOk slotOk occupied framesFrom sizes firstOf first doneBy takenBy chosenBy toldBy flow.startOf flow.tickOf wayOf clientBy selection.selectOf emptyQueue spaceOf queue.firstOf queue.taken ownRateOf shareOf countedOf raisedOf be heardOf toldOf adjustOf allowedOf allowedcOf partOf smoothedOf shownOf agedOf rampedOf allowanceOf
+unfolding test stationOk settingsOk flowOk fairOk queueOk slotsOk slotOk occupied framesFrom sizes firstOf first doneBy takenBy chosenBy toldBy flow.startOf flow.tickOf enteredOf queueFor wayOf clientBy selection.selectOf emptyQueue spaceOf queue.firstOf queue.pushed queue.taken ownRateOf shareOf countedOf raisedOf be heardOf toldOf adjustOf allowedOf allowedcOf partOf smoothedOf shownOf agedOf rampedOf allowanceOf
 examples =
     record {
       sent-credits = refl;
@@ -87,6 +94,8 @@ examples =
       hops-7 = refl;
       size-61 = refl;
       size-62 = refl;
+      loaded-b = refl;
+      loaded-a = refl;
       told-194 = refl;
       told-193 = refl;
     }

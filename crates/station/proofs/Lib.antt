@@ -4,6 +4,7 @@ pub mod Tick
 pub mod Select
 pub mod Offers
 pub mod Hear
+pub mod Interval
 pub mod Refused
 pub mod Kept
 pub mod History

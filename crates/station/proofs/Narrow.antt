@@ -21,7 +21,7 @@ use Rattle.station.specs.declared.Station.{Station}
 use Rattle.station.specs.Range.{StationOk}
 use Rattle.station.specs.Narrow.{NarrowOwn, Narrow}
 use Rattle.station.specs.Answers.{doneOf, doneBy, chosenBy}
-use Rattle.station.specs.Calls.{freshOf, startOf}
+use Rattle.station.specs.Calls.{freshOf}
 use Rattle.station.specs.Offers.{takenBy}
 use Rattle.station.specs.Hear.{changedOf, hearOf, tellOf}
 use Rattle.station.specs.History.{Call, tick, offerClient, offerTransit, offerControl, select, age, hear, tell, show, step, after}
@@ -74,10 +74,6 @@ narrow-kept old show = old
 -- a fresh station has received address 0
 pub fresh-narrow : (s : Settings) → NarrowOwn s → Narrow (freshOf s)
 fresh-narrow s own = record { own-low = own; low = omega arith }
-
--- start too: a fresh station, or the old one
-pub start-narrow : {st : Station} → Narrow st → (s : Settings) → NarrowOwn s → Narrow (startOf st s .station)
-start-narrow old s own = done-narrow _ old (fresh-narrow s own)
 
 -- ---- over any calls
 

@@ -1,49 +1,55 @@
--- What a selection counts: the origins of flow are those that fair counts by, and each counter has what document 01 says.
+-- What a selection leaves and counts: the queue that the origin names is without its first frame, and each counter has what document 01 says.
 -- Assumes nothing.
 use Prim.Native.Nat.{ℕ, _+_, min}
-use mathlib.Core.Bool.{true, false, false≢true}
-use mathlib.Core.Logic.{_↔_}
+use mathlib.Core.Bool.{true}
 use mathlib.Core.Path.{_≡_, refl, sym, ap, subst, _∙_}
 use native.Mathlib.Omega.{arith}
 use Rattle.decide.specs.Test.{test}
 use Rattle.decide.proofs.Cases.{by-cases, true-or-false}
 use Rattle.rates.specs.Rates.{countedOf}
-use Rattle.flow.specs.declared.Flow.{Flow}
-use Rattle.flow.specs.declared.Line.{Line}
-use Rattle.flow.specs.declared.Line.the-variants.{Control, Primary, Secondary}
-use Rattle.flow.specs.Select.{originOf, leavesStage, nothingOf}
+use Rattle.flow.specs.Select.{nothingOf}
+use Rattle.flow.specs.declared.Pick as picks
+use Rattle.flow.specs.Pick.{sightOf, leftOf}
 use Rattle.flow.proofs.Select.{nothing-exactly}
+use Rattle.flow.proofs.Picking as flow
 use Rattle.fair.specs.declared.Fair.{Fair}
-use Rattle.fair.specs.Count.{beyond, fromStage, fromSecondary, raisedOf, countOf}
+use Rattle.fair.specs.Count.{beyond, raisedOf, countOf}
 use Rattle.fair.proofs.Count.{other-origin}
 use Rattle.station.specs.declared.Station.{Station}
+use Rattle.station.specs.declared.Pick.{Pick}
 use Rattle.station.specs.declared.Selected.{Selected}
 use Rattle.station.specs.Range.{stationOk, StationOk}
-use Rattle.station.specs.Answers.{givenOf}
+use Rattle.station.specs.Answers.{givenOf, chosenOf}
 use Rattle.station.specs.Calls.{selectOf}
+use Rattle.station.specs.Pick.{pickOf, seenAs}
 use Rattle.station.proofs.Range.{facts-in-range}
 use Rattle.station.proofs.Calls.{select-lost, select-done}
 
--- ---- where frames come from, in flow and in fair
+-- ---- the whole of a selection
 
--- the origin of a frame that leaves the stage is the one that counts for addRate,
-pub stage-origin : (f : Flow) → test (fromStage (leavesStage f .origin) 1) ≡ true
-unfolding test
-stage-origin f = refl
+-- what is picked, with the station that it leaves
+abbrev pub leaving : Station → Pick → Selected
+leaving st p =
+    record {
+      number = 0;
+      detail = 0;
+      origin = p .origin;
+      frame = p .frame;
+      station = record { settings = st .settings; flow = leftOf (st .flow) (p .origin) (p .credits) (p .stage); fair = p .fair };
+    }
 
--- and that of no queue is;
-pub queue-origin : (l : Line) → test (fromStage (originOf l) 1) ≡ false
-unfolding test
-queue-origin Control = refl
-queue-origin Primary = refl
-queue-origin Secondary = refl
+-- What is chosen is what is picked, and the station that this leaves.
+pub pick-leaves : (st : Station) → chosenOf st ≡ leaving st (pickOf st)
+pick-leaves st = ap (givenOf st) (flow.pick-leaves (st .settings) (st .flow))
 
--- that of the secondary queue, and of no other, counts for fwRate.
-pub secondary-origin : (l : Line) → (test (fromSecondary (originOf l) 1) ≡ true) ↔ (l ≡ Secondary)
-unfolding test
-secondary-origin Control = (λ e. absurd (false≢true e), λ e. cc)
-secondary-origin Primary = (λ e. absurd (false≢true e), λ e. cc)
-secondary-origin Secondary = (λ e. refl, λ e. refl)
+-- what is picked of the frames and credits, and counted
+abbrev pub counting : Fair → picks.Pick → Pick
+counting f p =
+    record { origin = p .origin; frame = p .frame; credits = p .credits; stage = p .stage; fair = countOf f (p .origin) (p .frame .mark) (p .frame .hops) (p .frame .size) }
+
+-- A station that looks like this one picks the same.
+pub sight-picks : (st : Station) → pickOf (seenAs (st .settings) (sightOf (st .flow)) (st .fair)) ≡ pickOf st
+sight-picks st = ap (counting (st .fair)) (flow.sight-picks (st .settings) (st .flow))
 
 -- ---- nothing
 

@@ -1,6 +1,7 @@
 pub mod Range
 pub mod Answers
 pub mod Calls
+pub mod Pick
 pub mod Offers
 pub mod Hear
 pub mod Show

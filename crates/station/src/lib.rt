@@ -5,6 +5,7 @@ ghost use Rattle.decide.specs.Test.{test};
 ghost use Rattle.station.specs.Range.{stationOk};
 ghost use Rattle.station.specs.Answers.{refusedOf, doneOf, chosenOf, notChosenOf};
 ghost use Rattle.station.specs.Calls.{flagsOk, freshOf, startOf, tickedOf, tickOf, selectOf, agedOf, ageOf};
+ghost use Rattle.station.specs.Pick.{seenAs, pickOf};
 
 mod entering;
 mod hearing;
@@ -14,6 +15,7 @@ use advert::Advert;
 use fair::Fair;
 use flow::Credits;
 use flow::Flow;
+use flow::Sight;
 use queue::Frame;
 use settings::Settings;
 
@@ -39,7 +41,17 @@ pub struct Client {
     pub station: Station,
 }
 
-// What goes next: where it comes from (0 nothing, 1 control, 2 primary, 3 secondary, 4 stage), the frame, and the station afterwards.
+// What goes next: where it comes from (0 nothing, 1 control, 2 primary, 3 secondary, 4 stage), the frame, and what that changes of the station: its credits,
+// its stage's word and its fairness state. Of its queues only the one that is named changes: its first frame leaves.
+pub struct Pick {
+    pub origin: u32,
+    pub frame: Frame,
+    pub credits: Credits,
+    pub stage: u32,
+    pub fair: Fair,
+}
+
+// What goes next: where it comes from, the frame, and the whole station afterwards.
 pub struct Selected {
     pub number: u8,
     pub detail: u32,
@@ -191,21 +203,22 @@ impl Station {
         ensures { λ r. ⌜ r ≡ chosenOf self ⌝ }
     {
         let settings = self.settings;
-        let fair = self.fair;
         let flow = self.flow;
-        let out = flow.select(settings);
-        let frame = out.frame;
-        let rest = out.flow;
-        let counted = fair.count(out.origin, frame.mark, frame.hops, frame.size);
+        let sight = flow.sight();
+        let pick = picked(settings, sight, self.fair);
+        let frame = pick.frame;
+        let credits = pick.credits;
+        let fair = pick.fair;
+        let rest = flow.leave(pick.origin, credits, pick.stage);
         let next = Station {
             settings: settings,
             flow: rest,
-            fair: counted,
+            fair: fair,
         };
         Selected {
             number: 0,
             detail: 0,
-            origin: out.origin,
+            origin: pick.origin,
             frame: frame,
             station: next,
         }
@@ -247,4 +260,22 @@ fn flags_ok(a: u64, b: u64, c: u64) -> bool
     ensures { λ r. ⌜ r ≡ test (flagsOk a b c) ⌝ }
 {
     (a <= 1) & ((b <= 1) & (c <= 1))
+}
+
+// What goes next, by table 6.4, counted where it is eligible: under these settings, by what a selection looks at, and with this fairness state. No queue is built for
+// it. It refuses nothing: whoever asks has tested the range.
+pub fn picked(settings: Settings, sight: Sight, fair: Fair) -> Pick
+    ensures { λ r. ⌜ r ≡ pickOf (seenAs settings sight fair) ⌝ }
+{
+    let out = sight.pick(settings);
+    let chosen = out.frame;
+    let credits = out.credits;
+    let counted = fair.count(out.origin, chosen.mark, chosen.hops, chosen.size);
+    Pick {
+        origin: out.origin,
+        frame: chosen,
+        credits: credits,
+        stage: out.stage,
+        fair: counted,
+    }
 }

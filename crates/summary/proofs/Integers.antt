@@ -1,13 +1,13 @@
 -- Differences of natural numbers as integers: sums, orders, the smaller and the larger. `omega` reads no integer, so each goes by the signs, once, here.
 -- Assumes nothing.
 use Prim.Native.Nat.{ℕ, suc, _+_, _-_, _≤_, _<_, min, max}
-use mathlib.Core.Bool.{Bool, true, false, cond, not, true≢false}
-use mathlib.Core.Logic.{_⊎_, inl, inr, ⊎-elim}
+use mathlib.Core.Bool.{true, false, not}
+use mathlib.Core.Logic.{_⊎_, ⊎-elim}
 use mathlib.Core.Path.{_≡_, refl, sym, ap, _∙_}
 use native.Mathlib.Omega.{arith}
 use borrow.Author.Tests.{lt-ltb, le-ltb, le-leb, lt-leb}
 use lib.Dec.{leb, ltb}
-use lib.IntN.{ℤ, pos, negsuc, subℕ, natAbs, _+ℤ_, _-ℤ_, negℤ}
+use lib.IntN.{ℤ, pos, negsuc, subℕ, _+ℤ_, _-ℤ_, negℤ}
 use lib.Signed.{leZ, ltZ}
 use Rattle.decide.proofs.Cases.{by-cases, le-or, min-is, max-is}
 use Rattle.plain.proofs.Ceiling.{sub-pos, sub-neg}

@@ -1,13 +1,13 @@
 -- The paper's signed formulas are those by natural numbers: the join, the end credit, the range.
 -- Assumes nothing.
-use Prim.Native.Nat.{ℕ, _+_, _-_, _*_, _≤_, _<_, min, max}
-use mathlib.Core.Bool.{Bool, true, false, cond, not, _&&_, _||_, true≢false}
+use Prim.Native.Nat.{ℕ, _+_, _-_, _*_, _≤_, _<_, max}
+use mathlib.Core.Bool.{Bool, true, false, _&&_, _||_, true≢false}
 use mathlib.Core.Logic.{_⊎_, inl, inr, ⊎-elim}
 use mathlib.Core.Path.{_≡_, refl, sym, ap, _∙_}
 use native.Mathlib.Omega.{arith}
-use borrow.Author.Tests.{leb-true, ltb-true, le-leb, lt-leb, lt-ltb, le-ltb, not-true, not-false}
+use borrow.Author.Tests.{leb-true, ltb-true, le-leb, lt-leb, lt-ltb, not-true, not-false}
 use lib.Dec.{leb, ltb}
-use lib.IntN.{ℤ, pos, negsuc, subℕ, natAbs, _+ℤ_, _-ℤ_, negℤ}
+use lib.IntN.{pos, subℕ, natAbs, _+ℤ_, negℤ}
 use lib.Signed.{leZ, ltZ}
 use Rattle.decide.specs.Test.{Holds, test, both, either, and-i, or-r, facts, passes}
 use Rattle.decide.proofs.Cases.{by-cases, true-or-false}
@@ -15,14 +15,13 @@ use Rattle.shaper.specs.Limits.{limitsOk, sameLimits}
 use Rattle.plain.specs.declared.Plain.{Plain}
 use Rattle.plain.specs.Plain.{plainNeed, plainDepth, plainJoined, plainEnd}
 use Rattle.plain.specs.Range.{plainRange, Sound, Same, Small}
-use Rattle.plain.specs.Ceiling.{depthBelow}
 use Rattle.plain.proofs.Laws.{in-range-sound, depth-least, depth-is, need-is, plain-eq, Ends, ends}
 use Rattle.plain.proofs.Ceiling.{depth-ceiling, ceiling-depth}
 use Rattle.summary.specs.declared.Summary.{Summary}
-use Rattle.summary.specs.Summary.{smallerℤ, largerℤ, gain, ceilingOf, needℤ, joined, endℤ}
+use Rattle.summary.specs.Summary.{gain, ceilingOf, needℤ, joined, endℤ}
 use Rattle.summary.specs.Range.{countsOk, ceilingOk, needOk, inRange}
 use Rattle.summary.specs.Plain.{plainFrom, signedFrom}
-use Rattle.summary.proofs.Integers.{sub-eq, sub-add, sub-le, sub-order, pos-sub, pos-less, pos-add, less-sub, neg-is, below-not, smaller-is, larger-pos, smaller-pos}
+use Rattle.summary.proofs.Integers.{sub-add, sub-le, sub-order, pos-sub, pos-less, pos-add, less-sub, neg-is, below-not, smaller-is, larger-pos, smaller-pos}
 
 -- ---- a summary and its natural numbers
 
@@ -69,7 +68,7 @@ module _ (p : Plain) (c : ℕ) (sound : Sound p) (most : c ≤ p .limits .hi) (e
 
 -- ---- the range
 
-pub same-bool : (x y : Bool) → (x ≡ true → y ≡ true) → (y ≡ true → x ≡ true) → x ≡ y
+same-bool : (x y : Bool) → (x ≡ true → y ≡ true) → (y ≡ true → x ≡ true) → x ≡ y
 same-bool true y f g = sym (f refl)
 same-bool false true f g = g refl
 same-bool false false f g = refl

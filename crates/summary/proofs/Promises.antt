@@ -6,10 +6,9 @@ use mathlib.Core.List.{List, [], _∷_, _++_}
 use mathlib.Core.Logic.{_⊎_, inl, inr, ⊎-elim}
 use mathlib.Core.Path.{_≡_, refl, sym, ap, _∙_}
 use native.Mathlib.Omega.{arith}
-use lib.IntN.{ℤ, pos, subℕ}
 use lib.ListN.{length}
 use Rattle.decide.specs.Test.{Holds, test, passes}
-use Rattle.decide.proofs.Cases.{by-cases, le-or}
+use Rattle.decide.proofs.Cases.{le-or}
 use Rattle.shaper.specs.declared.Limits.{Limits}
 use Rattle.shaper.specs.declared.Event.{Event}
 use Rattle.shaper.specs.declared.Event.the-variants.{Waiting, Idle, Send}
@@ -17,7 +16,7 @@ use Rattle.shaper.specs.Limits.{limitsOk, sameLimits}
 use Rattle.shaper.specs.Credit.{AllValid, Permitted, endCredit, accruedOf, sentOf}
 use Rattle.plain.specs.declared.Plain.{Plain}
 use Rattle.plain.specs.Plain.{plainEmpty, plainSingle, plainJoined, plainOf, plainEnd}
-use Rattle.plain.specs.Range.{plainRange, Same}
+use Rattle.plain.specs.Range.{Same}
 use Rattle.plain.proofs.Laws.{in-range-sound, sound-in-range, joined-sound, joined-assoc, empty-left, empty-right}
 use Rattle.plain.proofs.Meaning.{single-limits, plain-limits, events-length, plain-accrued, plain-sent, alike, plain-sound, plain-append, permitted-need, need-permitted, end-credit, sent-bound}
 use Rattle.summary.specs.declared.Summary.{Summary}

@@ -1,6 +1,5 @@
 -- A summary and the natural numbers that its proofs go by: the ceiling is hiLimit less the depth.
 -- Assumes nothing.
-use Prim.Native.Nat.{ℕ}
 use lib.IntN.{subℕ}
 use Rattle.plain.specs.declared.Plain.{Plain}
 use Rattle.plain.specs.Ceiling.{depthBelow}

@@ -9,20 +9,18 @@ use Rattle.decide.specs.Test.{Holds, split, _≡?_}
 use Rattle.decide.proofs.Cases.{by-cases}
 use Rattle.shaper.specs.declared.Limits.{Limits}
 use Rattle.shaper.specs.declared.Event.{Event}
-use Rattle.shaper.specs.declared.Event.the-variants.{Send}
+use Rattle.shaper.specs.declared.Event.the-variants.{Waiting, Idle, Send}
 use Rattle.shaper.specs.Limits.{limitsOk}
-use Rattle.shaper.specs.Credit.{AllValid}
+use Rattle.shaper.specs.Credit.{Valid, AllValid}
+use Rattle.shaper.specs.Kind.{kindOf, numberOf}
 use Rattle.plain.specs.declared.Plain.{Plain}
 use Rattle.plain.specs.Plain.{plainEmpty, plainSingle, plainDepth, plainJoined, plainOf}
-use Rattle.plain.specs.Range.{plainRange, Sound, Same}
-use Rattle.plain.proofs.Laws.{sound-in-range, need-is, plain-eq, joined-sound, joined-assoc, empty-left, empty-right}
+use Rattle.plain.specs.Range.{Sound, Same}
+use Rattle.plain.proofs.Laws.{need-is, plain-eq, joined-sound, joined-assoc, empty-left, empty-right}
 use Rattle.plain.proofs.Meaning.{single-limits, plain-limits, alike, single-sound, plain-sound}
 use Rattle.tally.specs.declared.Tally.{Tally}
-use Rattle.tally.specs.Tally.{AnEvent, base, startOf, pickOf, fallOf, barOf, stepOf, plainAt, Within, Ready}
+use Rattle.tally.specs.Tally.{base, startOf, pickOf, fallOf, barOf, stepOf, plainAt, Within, Ready}
 use Rattle.tally.proofs.Cases.{pick-send, pick-tick, fall-max, bar-never, bar-level}
-use Rattle.shaper.specs.Kind.{eventOf}
-use Rattle.shaper.proofs.Kind.{event-1, event-2, event-3}
-use Rattle.tally.proofs.Events.{kinds, number-max}
 
 -- ---- bounds, whatever the events hold
 
@@ -119,54 +117,55 @@ module _ (l : Limits) (n : ℕ) (t : Tally) (p : Ready l n t) (v : ℕ) (hv : v 
       (λ h. never-need (l .lo) (l .hi) _ _ _ _ (omega arith) (h .0) (h .1))
       (λ h. some-need (l .lo) (l .hi) (t .accrued) _ _ _ _ (w .level-max) (h .0) (h .1)))
 
-module _ (l : Limits) (n : ℕ) (t : Tally) (p : Ready l n t) (k v : ℕ) (e : AnEvent l k v) where
+-- no number of an event is above 65,535
+number-max : (l : Limits) → Holds (limitsOk l) → (e : Event) → Valid l e → numberOf e ≤ 65535
+number-max l ok (Waiting x) v = v
+number-max l ok (Idle x) v = v
+number-max l ok (Send z) v = omega arith
+
+module _ (l : Limits) (n : ℕ) (t : Tally) (p : Ready l n t) where
+  -- Join of 1 then 2, where 2 is one event.
+  pub step-joined : (e : Event) → Valid l e → plainAt l (n + 1) (stepOf (l .hi - l .lo) (kindOf e) (numberOf e) t) ≡ plainJoined (plainAt l n t) (plainSingle l e)
+  unfolding pickOf fallOf
+  step-joined (Waiting x) v = tick-step l n t p x v 0
+  step-joined (Idle x) v = tick-step l n t p x v (l .hi - l .lo)
+  step-joined (Send z) v = send-step l n t p z (number-max l (p .sound .0) (Send z) v)
+
+module _ (l : Limits) (n : ℕ) (t : Tally) (p : Ready l n t) (e : Event) (ok : Valid l e) where
   abbrev next : Tally
-  next = stepOf (l .hi - l .lo) k v t
+  next = stepOf (l .hi - l .lo) (kindOf e) (numberOf e) t
 
   abbrev single : Plain
-  single = plainSingle l (eventOf k v)
-
-  small : v ≤ 65535
-  small = number-max l k v e (p .sound .0)
-
-  -- Join of 1 then 2, where 2 is one event.
-  pub step-joined : plainAt l (n + 1) next ≡ plainJoined (plainAt l n t) single
-  unfolding pickOf fallOf
-  step-joined =
-      by-cases (kinds l k v e)
-      (λ h. rw (h, event-1 v) (tick-step l n t p v small 0))
-      (λ g. by-cases g
-      (λ h. rw (h, event-2 v) (tick-step l n t p v small (l .hi - l .lo)))
-      (λ h. rw (h, event-3 v) (send-step l n t p v small)))
+  single = plainSingle l e
 
   single-is-sound : Sound single
-  single-is-sound = single-sound l (p .sound .0) (eventOf k v) (e .valid)
+  single-is-sound = single-sound l (p .sound .0) e ok
 
   single-same : Same (plainAt l n t) single
-  single-same = alike l (plainAt l n t) single refl (single-limits l (eventOf k v))
+  single-same = alike l (plainAt l n t) single refl (single-limits l e)
 
   pub step-sound : Sound (plainAt l (n + 1) next)
-  step-sound = subst (λ (s : Plain). Sound s) (sym step-joined) (joined-sound (plainAt l n t) single (p .sound) single-is-sound single-same)
+  step-sound = subst (λ (s : Plain). Sound s) (sym (step-joined l n t p e ok)) (joined-sound (plainAt l n t) single (p .sound) single-is-sound single-same)
 
   -- a walk goes on
   pub step-ready : n < 1000000 → Ready l (n + 1) next
   step-ready h =
       record {
         few = omega arith;
-        within = step-within (l .hi - l .lo) k v n t (p .within) (rise-max (p .sound .0)) small;
+        within = step-within (l .hi - l .lo) (kindOf e) (numberOf e) n t (p .within) (rise-max (p .sound .0)) (number-max l (p .sound .0) e ok);
         sound = step-sound;
       }
     where
       rise-max : Holds (limitsOk l) → l .hi - l .lo ≤ 1048576
-      rise-max ok = omega arith
+      rise-max h = omega arith
 
   -- an event goes over from what is left to what is tallied, and the summary of the whole stays
-  pub step-rest : (es : List Event) → AllValid l es → plainJoined (plainAt l n t) (plainOf l (eventOf k v ∷ es)) ≡ plainJoined (plainAt l (n + 1) next) (plainOf l es)
+  pub step-rest : (es : List Event) → AllValid l es → plainJoined (plainAt l n t) (plainOf l (e ∷ es)) ≡ plainJoined (plainAt l (n + 1) next) (plainOf l es)
   step-rest es a =
       sym
       (joined-assoc (plainAt l n t) single (plainOf l es) (p .sound) single-is-sound (plain-sound l (p .sound .0) es a) single-same
-      (alike l single (plainOf l es) (single-limits l (eventOf k v)) (plain-limits l es)))
-      ∙ ap (λ (s : Plain). plainJoined s (plainOf l es)) (sym step-joined)
+      (alike l single (plainOf l es) (single-limits l e) (plain-limits l es)))
+      ∙ ap (λ (s : Plain). plainJoined s (plainOf l es)) (sym (step-joined l n t p e ok))
 
 -- ---- the beginning and the end
 
@@ -190,7 +189,3 @@ start-rest l ok es a =
 -- and after the last none
 pub end-rest : (l : Limits) (n : ℕ) (t : Tally) → Ready l n t → plainJoined (plainAt l n t) (plainOf l []) ≡ plainAt l n t
 end-rest l n t p = empty-right (plainAt l n t) (p .sound)
-
--- what a walk ends with is a summary in the paper's range
-pub ready-in-range : (l : Limits) (n : ℕ) (t : Tally) → Ready l n t → Holds (plainRange (plainAt l n t))
-ready-in-range l n t p = sound-in-range (plainAt l n t) (p .sound) (p .few)

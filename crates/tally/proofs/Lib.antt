@@ -1,3 +1,2 @@
 mod Cases
-pub mod Events
 pub mod Laws

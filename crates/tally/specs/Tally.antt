@@ -5,19 +5,9 @@ use Prim.Native.Nat.{ℕ, _+_, _-_, _*_, _≤_, min, max}
 use mathlib.Core.Bool.{cond}
 use lib.Dec.{eqb, leb}
 use Rattle.shaper.specs.declared.Limits.{Limits}
-use Rattle.shaper.specs.Credit.{Valid}
-use Rattle.shaper.specs.Kind.{eventOf}
 use Rattle.plain.specs.declared.Plain.{Plain}
 use Rattle.plain.specs.Range.{Sound}
 use Rattle.tally.specs.declared.Tally.{Tally}
-
--- ---- events by number
-
--- kind 1 to 3, and the number in its range: amount 0 to 65,535, size 16 to mtu
-pub record AnEvent (l : Limits) (k v : ℕ) : Type 0 where
-  pub kind-min : 1 ≤ k
-  pub kind-max : k ≤ 3
-  pub valid : Valid l (eventOf k v)
 
 -- ---- the tally
 

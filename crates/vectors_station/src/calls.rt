@@ -58,7 +58,7 @@ fn numbered(station: Station, name: &[u8], row: Row) -> Station {
 // The 30 words of the settings, each of 4 bytes; another number of words is another length.
 fn start(station: Station, row: Row) -> Station {
     let words = row.values;
-    if row.wrong | !are_words(words) {
+    if row.wrong | (MOST < row.largest) {
         return wrong(station, b"start", b"numbers of 32 bits are wanted");
     }
     if row.count != Settings::WORDS {
@@ -174,18 +174,6 @@ fn refused(station: Station, name: &[u8], number: u8) -> Station {
 fn wrong(station: Station, name: &[u8], what: &[u8]) -> Station {
     script::print::wrong(name, what);
     station
-}
-
-// Whether each number has 32 bits at most.
-fn are_words(values: [u64; 32]) -> bool {
-    let mut i = 0;
-    while i < 32 {
-        if MOST < values[i] {
-            return false;
-        }
-        i += 1;
-    }
-    true
 }
 
 // The settings of these words, the first 30 of them.

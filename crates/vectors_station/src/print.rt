@@ -43,7 +43,7 @@ pub fn told(told: Told) {
     if refusal != 0 {
         return refused(refusal);
     }
-    let mut room = [0u8; 12];
+    let mut room = [0u8; advert::LENGTH];
     advert::write(told.advert, &mut room);
     text(b" ");
     script::print::hex(&room);

@@ -1,18 +1,17 @@
 -- Laws of numbers in bytes, each over the number of bytes n. A law of a place is one of `Places`, carried over by `le-same` or
 -- `be-same`. Assumes nothing.
 use mathlib.Core.Path.{_≡_, refl, sym, ap, subst, _∙_}
-use mathlib.Core.Logic.{_⊎_, ⊎-elim}
 use mathlib.Core.List.{List, [], _∷_, _++_, reverse, reverse-cons, reverse-append}
 use Prim.Native.Nat.{ℕ, zero, suc, _+_, _*_, _/_, _%_, _^_, _≤_, _<_}
 use native.Mathlib.Omega.{arith}
 use native.Mathlib.Nat.{zero-add, add-zero, suc-add, add-suc, add-comm, add-assoc, pow-suc, pow-succ', mul-assoc}
-use native.Mathlib.Nat.{div-add-mod, div-one, div-div-eq-div-mul, eq-or-lt-of-le}
-use lib.ListN.{getD, length, take, drop, length-append, List·getD-append}
+use native.Mathlib.Nat.{div-add-mod, div-one, div-div-eq-div-mul}
+use lib.ListN.{getD, length, drop}
 use lib.Seq.{getD-at}
 use Rattle.wire.specs.Wire.{le, be, digits, digitsBe, put, Bytes, length-digits, length-digitsBe}
 use Rattle.wire.proofs.Puts.{put-put}
-use Rattle.wire.proofs.Places.{Same, same-skip, same-left, same-drop, same-put-other}
-use Rattle.wire.proofs.Places.{Stands, stands-between, stands-put, stands-taken, put-stands, bytes-reverse}
+use Rattle.wire.proofs.Places.{Same, same-skip, same-left, same-drop}
+use Rattle.wire.proofs.Places.{Stands, stands-put, put-stands, bytes-reverse}
 
 -- ---- a number is read from its bytes alone
 
@@ -65,12 +64,6 @@ pub be-stands : (n v : ℕ) (xs : List ℕ) (at : ℕ) → v < 256 ^ n → Stand
 be-stands n v xs at h s =
     be-same n xs (digitsBe n v) at 0 (λ i l. rw zero-add (s i (omega (arith, length-digitsBe n v)))) ∙ be-alone n v h
 
-pub le-digits : (n v : ℕ) (q : List ℕ) → v < 256 ^ n → le n (digits n v ++ q) 0 ≡ v
-le-digits n v q h = le-stands n v (digits n v ++ q) 0 h (stands-between [] (digits n v) q)
-
-pub be-digits : (n v : ℕ) (q : List ℕ) → v < 256 ^ n → be n (digitsBe n v ++ q) 0 ≡ v
-be-digits n v q h = be-stands n v (digitsBe n v ++ q) 0 h (stands-between [] (digitsBe n v) q)
-
 -- get after put
 pub le-put : (n v at : ℕ) (xs : List ℕ) → v < 256 ^ n → at + n ≤ length xs → le n (put xs at (digits n v)) at ≡ v
 le-put n v at xs h l = le-stands n v (put xs at (digits n v)) at h (stands-put xs (digits n v) at (omega (arith, length-digits n v)))
@@ -80,18 +73,11 @@ be-put n v at xs h l = be-stands n v (put xs at (digitsBe n v)) at h (stands-put
 
 -- ---- places
 
-pub le-skip : (n : ℕ) (p q : List ℕ) (k : ℕ) → le n (p ++ q) (length p + k) ≡ le n q k
-le-skip n p q k = le-same n (p ++ q) q (length p + k) k (same-skip n p q k)
-
 pub le-append-left : (n : ℕ) (p q : List ℕ) (at : ℕ) → at + n ≤ length p → le n (p ++ q) at ≡ le n p at
 le-append-left n p q at h = le-same n (p ++ q) p at at (same-left n p q at h)
 
 pub le-drop : (n k : ℕ) (xs : List ℕ) (at : ℕ) → le n (drop k xs) at ≡ le n xs (k + at)
 le-drop n k xs at = le-same n (drop k xs) xs at (k + at) (same-drop n k xs at)
-
--- a get is not changed by a put at another place
-pub le-put-other : (n at k : ℕ) (xs bs : List ℕ) → at + length bs ≤ length xs → (k + n ≤ at) ⊎ (at + length bs ≤ k) → le n (put xs at bs) k ≡ le n xs k
-le-put-other n at k xs bs h g = le-same n (put xs at bs) xs k k (same-put-other n at k xs bs h g)
 
 -- ---- bounds
 
@@ -111,13 +97,6 @@ cons-stands : (xs bs : List ℕ) (at a : ℕ) → getD xs at 0 ≡ a → Stands 
 cons-stands xs bs at a e s zero l = simp add-zero e
 cons-stands xs bs at a e s (suc i) l = simp add-suc (simp suc-add at (s i (omega arith)))
 
-snoc-stands : (xs bs : List ℕ) (at a : ℕ) → Stands xs at bs → getD xs (at + length bs) 0 ≡ a → Stands xs at (bs ++ (a ∷ []))
-snoc-stands xs bs at a s e i l =
-    let h : i ≤ length bs = omega (arith, length-append bs (a ∷ [])) in
-    ⊎-elim (λ f. ap (λ (j : ℕ). getD xs (at + j) 0) f ∙ e ∙ sym (getD-at bs a [] 0 i (sym f)))
-    (λ g. s i g ∙ sym (List·getD-append bs (a ∷ []) 0 i g))
-    (eq-or-lt-of-le h)
-
 pub digits-stand : (n : ℕ) (xs : List ℕ) (at : ℕ) → Bytes xs → Stands xs at (digits n (le n xs at))
 unfolding le digits
 digits-stand zero xs at b = λ i l. omega arith
@@ -127,21 +106,6 @@ digits-stand (suc n) xs at b =
     let m : getD xs at 0 ≡ v % 256 = omega (arith, b at) in
     subst (λ (w : ℕ). Stands xs at ((v % 256) ∷ digits n w)) (sym d)
     (cons-stands xs (digits n (le n xs (suc at))) at (v % 256) m (digits-stand n xs (suc at) b))
-
-pub digitsBe-stand : (n : ℕ) (xs : List ℕ) (at : ℕ) → Bytes xs → Stands xs at (digitsBe n (be n xs at))
-unfolding be digits digitsBe
-digitsBe-stand zero xs at b = λ i l. omega arith
-digitsBe-stand (suc n) xs at b =
-    let v : ℕ = 256 * be n xs at + getD xs (at + n) 0 in
-    let d : v / 256 ≡ be n xs at = omega (arith, b (at + n)) in
-    let m : getD xs (at + n) 0 ≡ v % 256 = omega (arith, b (at + n)) in
-    rw (reverse-cons, d)
-    (snoc-stands xs (digitsBe n (be n xs at)) at (v % 256) (digitsBe-stand n xs at b) (rw (length-digitsBe n (be n xs at)) m))
-
-pub digits-le : (n : ℕ) (xs : List ℕ) (at : ℕ) → Bytes xs → at + n ≤ length xs → digits n (le n xs at) ≡ take n (drop at xs)
-digits-le n xs at b h =
-    let e : length (digits n (le n xs at)) ≡ n = length-digits n (le n xs at) in
-    stands-taken xs (digits n (le n xs at)) at (omega arith) (digits-stand n xs at b) ∙ ap (λ (k : ℕ). take k (drop at xs)) e
 
 -- put of what was got changes nothing
 pub put-le : (n : ℕ) (xs : List ℕ) (at : ℕ) → Bytes xs → at + n ≤ length xs → put xs at (digits n (le n xs at)) ≡ xs

@@ -1,15 +1,13 @@
 -- Where bytes stand: the same bytes at two places (`Same`), and given bytes at a place (`Stands`). Each law serves both orders,
 -- since a number is read from the bytes at its place alone. Assumes nothing.
 use mathlib.Core.Path.{_≡_, refl, sym, ap, _∙_}
-use mathlib.Core.Logic.{_⊎_, inl, inr}
 use mathlib.Core.List.{List, [], _∷_, _++_, append-assoc, reverse, reverse-cons}
 use Prim.Native.Nat.{ℕ, zero, suc, _+_, _≤_, _<_}
 use native.Mathlib.Omega.{arith}
 use native.Mathlib.Nat.{zero-add, add-assoc}
-use lib.ListN.{getD, length, take, drop, set, length-take, length-drop, take-append-drop, List·getD-append}
-use lib.Seq.{sets, getD-set-other, getD-append-add, getD-drop, getD-take, length-take-le, take-add, ext-getD}
+use lib.ListN.{getD, length, take, drop, length-take, length-drop, take-append-drop, List·getD-append}
+use lib.Seq.{getD-append-add, getD-drop, getD-take, length-take-le, take-add, ext-getD}
 use Rattle.wire.specs.Wire.{put, Bytes}
-use Rattle.wire.proofs.Puts.{put-sets}
 
 -- the n bytes of xs from at on are those of ys from k on
 abbrev pub Same : ℕ → List ℕ → ℕ → List ℕ → ℕ → Type 0
@@ -30,18 +28,6 @@ same-left n p q at h i l = List·getD-append p q 0 (at + i) (omega arith)
 pub same-drop : (n k : ℕ) (xs : List ℕ) (at : ℕ) → Same n (drop k xs) at xs (k + at)
 same-drop n k xs at i h = rw add-assoc (getD-drop k xs (at + i) 0)
 
-getD-sets-other : (vs l : List ℕ) (i j : ℕ) → (j < i) ⊎ (i + length vs ≤ j) → getD (sets l i vs) j 0 ≡ getD l j 0
-getD-sets-other [] l i j h = refl
-getD-sets-other (a ∷ vs) l i j (inl h) =
-    getD-sets-other vs (set l i a) (suc i) j (inl (omega arith)) ∙ getD-set-other l i j a 0 (λ e. omega arith)
-getD-sets-other (a ∷ vs) l i j (inr h) =
-    getD-sets-other vs (set l i a) (suc i) j (inr (omega arith)) ∙ getD-set-other l i j a 0 (λ e. omega arith)
-
--- a put leaves what stands at another place
-pub same-put-other : (n at k : ℕ) (xs bs : List ℕ) → at + length bs ≤ length xs → (k + n ≤ at) ⊎ (at + length bs ≤ k) → Same n (put xs at bs) k xs k
-same-put-other n at k xs bs h (inl g) i l = rw (put-sets xs bs at h) (getD-sets-other bs xs at (k + i) (inl (omega arith)))
-same-put-other n at k xs bs h (inr g) i l = rw (put-sets xs bs at h) (getD-sets-other bs xs at (k + i) (inr (omega arith)))
-
 -- bytes stand between what is before and what is behind them
 pub stands-between : (p bs q : List ℕ) → Stands (p ++ (bs ++ q)) (length p) bs
 stands-between p bs q i h = getD-append-add p (bs ++ q) i 0 ∙ List·getD-append bs q 0 i h
@@ -59,7 +45,7 @@ stands-put xs bs at h i l =
     ∙ stands-between (take at xs) bs (drop (at + length bs) xs) i l)
 
 -- bytes that stand at a place are what is taken from there
-pub stands-taken : (xs bs : List ℕ) (at : ℕ) → at + length bs ≤ length xs → Stands xs at bs → bs ≡ take (length bs) (drop at xs)
+stands-taken : (xs bs : List ℕ) (at : ℕ) → at + length bs ≤ length xs → Stands xs at bs → bs ≡ take (length bs) (drop at xs)
 stands-taken xs bs at h s =
     ext-getD 0 bs (take (length bs) (drop at xs)) (simp (length-take, length-drop) (omega arith))
     (λ i l. sym (getD-take (length bs) (drop at xs) i 0 l ∙ getD-drop at xs i 0 ∙ s i l))
@@ -79,22 +65,13 @@ bytes-append [] q b c j = c j
 bytes-append (x ∷ p) q b c zero = b zero
 bytes-append (x ∷ p) q b c (suc j) = bytes-append p q (λ i. b (suc i)) c j
 
-pub bytes-take : (n : ℕ) (xs : List ℕ) → Bytes xs → Bytes (take n xs)
-bytes-take zero xs b j = omega arith
-bytes-take (suc n) [] b j = omega arith
-bytes-take (suc n) (x ∷ xs) b zero = b zero
-bytes-take (suc n) (x ∷ xs) b (suc j) = bytes-take n xs (λ i. b (suc i)) j
+bytes-one : (x : ℕ) → x < 256 → Bytes (x ∷ [])
+bytes-one x h zero = h
+bytes-one x h (suc j) = omega arith
 
 pub bytes-drop : (n : ℕ) (xs : List ℕ) → Bytes xs → Bytes (drop n xs)
 bytes-drop n xs b j = rw getD-drop (b (n + j))
 
 pub bytes-reverse : (xs : List ℕ) → Bytes xs → Bytes (reverse xs)
 bytes-reverse [] b = b
-bytes-reverse (x ∷ xs) b = rw (reverse-cons x xs) (bytes-append (reverse xs) (x ∷ []) (bytes-reverse xs (λ i. b (suc i))) (bytes-take 1 (x ∷ xs) b))
-
-pub bytes-put : (xs bs : List ℕ) (at : ℕ) → Bytes xs → Bytes bs → Bytes (put xs at bs)
-unfolding put
-bytes-put xs bs at b c =
-    bytes-append (take at xs ++ bs) (drop (at + length bs) xs)
-    (bytes-append (take at xs) bs (bytes-take at xs b) c)
-    (bytes-drop (at + length bs) xs b)
+bytes-reverse (x ∷ xs) b = rw (reverse-cons x xs) (bytes-append (reverse xs) (x ∷ []) (bytes-reverse xs (λ i. b (suc i))) (bytes-one x (b zero)))

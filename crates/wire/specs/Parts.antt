@@ -20,6 +20,10 @@ number w v = record { size = w; bytes = digits w v; sized = length-digits w v }
 abbrev pub numberBe : ℕ → ℕ → Part
 numberBe w v = record { size = w; bytes = digitsBe w v; sized = length-digitsBe w v }
 
+-- bytes as one part, however many they are
+abbrev pub bytesPart : List ℕ → Part
+bytesPart bs = record { size = length bs; bytes = bs; sized = refl }
+
 -- the bytes of parts, one after another
 abbrev pub laidOut : List Part → List ℕ
 laidOut [] = []

@@ -89,8 +89,8 @@ module _ (stations own target links : ℕ) (p : Placed stations own target links
     undelivered home =
         of-course stations links target (sideOf home) (Near stations own links) (stays-near stations own links (p .station) broken)
         (λ left c. c .delivered ≡ false)
-        (λ left at d s f. ends d (λ t. elsewhere at s (f t)))
-        (λ left k rest u r. r)
+        (λ left at d s f h. ends d (λ t. elsewhere at s (f t)))
+        (λ left k on to s u r. r)
         (2 * stations)
         atHome
         own

@@ -3,19 +3,21 @@
 use mathlib.Core.Path.{_≡_, refl, sym, ap, ap₂, _∙_}
 use mathlib.Core.Bool.{Bool, true, false, cond}
 use mathlib.Core.List.{[], _∷_}
+use mathlib.Core.Logic.{_⊎_, inl, inr, ⊎-elim}
 use Prim.Native.Nat.{ℕ, zero, suc, _+_, _*_, _/_, _%_, _≤_, _<_}
 use native.Mathlib.Omega.{arith}
 use lib.Dec.{eqb}
 use lib.ListN.{length}
 use Rattle.decide.specs.Test.{test}
 use Rattle.decide.specs.Refusal.{fault, firstOf, Given}
-use Rattle.decide.proofs.Refusal.{in-order}
-use Rattle.ring.specs.Choosing.{badSize, badWord, badIndex, placeFaults, Placed}
-use Rattle.ring.proofs.Faults.{then, then-none, place-then, exactly-by, placed as placed-of}
+use Rattle.ring.specs.Choosing.{placeFaults, refusedOr, Placed}
+use Rattle.ring.proofs.Faults.{then, then-none, place-then, exactly-by, unrefused, placed as placed-of}
 use Rattle.wrap.specs.declared.Outcome.{Outcome}
 use Rattle.wrap.specs.declared.Outcome.the-variants.{Moved, Refused}
-use Rattle.wrap.specs.Walking.{Course, atHome, walkOf, sideOf, wholeOf, badHome, pathFaults, refusedOr, movedOf, pathOf, numberOf}
+use Rattle.wrap.specs.Walking.{Course, atHome, packedOf, sideOf, wholeOf, badHome, pathFaults, outcomeOf, pathOf, pathNumber}
 use Rattle.wrap.proofs.Courses.{Usable, short, all-usable}
+use Rattle.wrap.proofs.Early.{delivered-early}
+use Rattle.wrap.proofs.Lost.{undelivered-hops}
 
 -- whether delivered, and the hops, from twice the hops and 1 more where delivered
 apart : (d : Bool) (hops : ℕ) → Moved (eqb ((2 * (0 + hops) + cond d 1 0) % 2) 1) ((2 * (0 + hops) + cond d 1 0) / 2) ≡ Moved d hops
@@ -30,7 +32,7 @@ module _ (stations own target links home : ℕ) where
   whole = wholeOf stations own target links home
 
   abbrev answer : ℕ → Outcome
-  answer n = refusedOr n (movedOf whole)
+  answer n = refusedOr Refused n (outcomeOf whole)
 
   abbrev row : Bool → ℕ
   row b = cond b 3 0
@@ -52,20 +54,20 @@ module _ (stations own target links home : ℕ) where
     pub refused-home : test (badHome home) ≡ true → Refused 3 ≡ pathOf stations own target links home
     refused-home f = sym (after f)
 
-    pub found : test (badHome home) ≡ false → movedOf whole ≡ pathOf stations own target links home
+    pub found : test (badHome home) ≡ false → outcomeOf whole ≡ pathOf stations own target links home
     found f = sym (after f)
 
     -- a walk's one number is taken apart again
-    pub moved : test (badHome home) ≡ false → {w : ℕ} → w ≡ walkOf 0 whole → Moved (eqb (w % 2) 1) (w / 2) ≡ pathOf stations own target links home
+    pub moved : test (badHome home) ≡ false → {w : ℕ} → w ≡ packedOf 0 whole → Moved (eqb (w % 2) 1) (w / 2) ≡ pathOf stations own target links home
     moved f e = ap (λ (x : ℕ). Moved (eqb (x % 2) 1) (x / 2)) e ∙ apart (whole .delivered) (length (whole .links)) ∙ found f
 
   -- ---- "Given exactly when"
 
-  numbered : (n : ℕ) → numberOf (answer n) ≡ n
+  numbered : (n : ℕ) → pathNumber (answer n) ≡ n
   numbered zero = refl
   numbered (suc n) = refl
 
-  pub number-first : numberOf (pathOf stations own target links home) ≡ firstOf (pathFaults stations own target links home)
+  pub number-first : pathNumber (pathOf stations own target links home) ≡ firstOf (pathFaults stations own target links home)
   unfolding pathOf
   number-first = numbered (firstOf (pathFaults stations own target links home))
 
@@ -74,25 +76,24 @@ module _ (stations own target links home : ℕ) where
       × (Given (pathFaults stations own target links home) n → pathOf stations own target links home ≡ Refused n)
   unfolding pathOf
   refused-exactly zero h = absurd (omega arith)
-  refused-exactly (suc n) h = exactly-by (pathFaults stations own target links home) refl answer numberOf numbered (suc n) h
+  refused-exactly (suc n) h = exactly-by (pathFaults stations own target links home) refl answer pathNumber numbered (suc n) h
 
   -- ---- the path's length
 
   -- an answer with hops is that of the whole course, between two stations of a ring
   told : (delivered : Bool) (hops : ℕ) → pathOf stations own target links home ≡ Moved delivered hops
-      → Placed stations own target links × (Moved delivered hops ≡ movedOf whole)
+      → Placed stations own target links × (Moved delivered hops ≡ outcomeOf whole)
   told delivered hops e =
-      let g = go (then place (row (test (badHome home)))) (sym opened ∙ e) in
+      let g = unrefused Refused pathNumber (λ n. refl) (outcomeOf whole) (Moved delivered hops) refl (then place (row (test (badHome home)))) (sym opened ∙ e) in
       (placed-of stations own target links (then-none place (row (test (badHome home))) (g .0)), g .1)
-    where
-      go : (n : ℕ) → answer n ≡ Moved delivered hops → (n ≡ 0) × (Moved delivered hops ≡ movedOf whole)
-      go zero p = (refl, sym p)
-      go (suc n) p = let z : _≡_ {A = ℕ} 0 1 = cc in absurd (omega arith)
 
-  -- The hops moved are the path's length, at most twice the stations, delivered or not; they fit a byte; and every link of the path is usable.
+  -- The hops moved are the path's length, at most twice the stations: fewer where the frame is delivered, else all of them, or none. They fit a byte, and every
+  -- link of the path is usable.
   pub record PathLength (delivered : Bool) (hops : ℕ) : Type 0 where
     pub counted : hops ≡ length (wholeOf stations own target links home .links)
     pub within : hops ≤ 2 * stations
+    pub early : delivered ≡ true → hops < 2 * stations
+    pub lost : delivered ≡ false → (hops ≡ 0) ⊎ (hops ≡ 2 * stations)
     pub small : hops < 127
     pub delivers : delivered ≡ wholeOf stations own target links home .delivered
     pub crosses : Usable links (wholeOf stations own target links home .links)
@@ -104,24 +105,15 @@ module _ (stations own target links home : ℕ) where
       let n : hops ≡ length (whole .links) = cc in
       let l = short stations links target (sideOf home) (2 * stations) atHome own in
       let p = t .0 in
+      let same-end : delivered ≡ whole .delivered = cc in
       record {
         counted = n;
         within = omega arith;
+        early = λ d. let e = delivered-early stations links target (sideOf home) own (p .station) (sym same-end ∙ d) in omega arith;
+        lost =
+            λ d. ⊎-elim (λ z. inl (n ∙ z)) (λ z. inr (n ∙ z))
+            (undelivered-hops stations links target (sideOf home) (2 * stations) own (p .station) (p .differ) (sym same-end ∙ d));
         small = omega arith;
-        delivers = cc;
+        delivers = same-end;
         crosses = all-usable stations links target (sideOf home) (2 * stations) atHome own;
       }
-
-  -- a number that is given is 1 or 3
-  pub refused-small : (n : ℕ) → pathOf stations own target links home ≡ Refused n → n ≤ 3
-  refused-small n e =
-      let f = sym (ap numberOf e) ∙ number-first ∙ in-order (pathFaults stations own target links home) refl in
-      let b = four (test (badSize stations)) (test (badWord stations links)) (test (badIndex stations own target)) (test (badHome home)) in
-      omega (arith, f, b)
-    where
-      four : (a b c d : Bool) → cond a 1 (cond b 3 (cond c 3 (cond d 3 0))) ≤ 3
-      four true b c d = omega arith
-      four false true c d = omega arith
-      four false false true d = omega arith
-      four false false false true = omega arith
-      four false false false false = omega arith

@@ -1,5 +1,8 @@
 pub mod Courses
 mod Steps
+pub mod Early
+pub mod Lost
 pub mod Answers
 pub mod Undelivered
+pub mod Passing
 pub mod Agreement

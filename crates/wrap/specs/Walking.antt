@@ -10,7 +10,7 @@ use Rattle.decide.specs.Refusal.{Fault, fault, firstOf}
 use Rattle.ring.specs.declared.Way.{Way}
 use Rattle.ring.specs.declared.Way.the-variants.{Left, Right}
 use Rattle.ring.specs.Links.{otherOf, nextOf, linkOf, aheadOf}
-use Rattle.ring.specs.Choosing.{placeFaults}
+use Rattle.ring.specs.Choosing.{placeFaults, refusedOr}
 use Rattle.wrap.specs.declared.Outcome.{Outcome}
 use Rattle.wrap.specs.declared.Outcome.the-variants.{Moved, Refused}
 
@@ -24,8 +24,8 @@ abbrev pub ended : Bool → Course
 ended d = record { links = []; delivered = d }
 
 -- a hop over a link, and then the rest
-abbrev pub over : ℕ → Course → Course
-over link rest = record { links = link ∷ rest .links; delivered = rest .delivered }
+abbrev pub across : ℕ → Course → Course
+across link rest = record { links = link ∷ rest .links; delivered = rest .delivered }
 
 -- where a frame moves: on its home side, or on the opposite ringlet
 pub data Ringlet : Type 0 where
@@ -36,7 +36,7 @@ pub data Ringlet : Type 0 where
 module _ (stations links target : ℕ) (home : Way) where
   -- a hop on a side from a station, and then the rest from the station there
   abbrev hop : Way → ℕ → (ℕ → Course) → Course
-  hop way at rest = over (linkOf way stations at) (rest (nextOf way stations at))
+  hop way at rest = across (linkOf way stations at) (rest (nextOf way stations at))
 
   -- The rest of the course from a station, with so many hops left.
   -- On its home side it moves on until the link ahead is unusable, then turns to the opposite ringlet, and back again at the next break.
@@ -73,28 +73,24 @@ abbrev pub pathFaults : ℕ → ℕ → ℕ → ℕ → ℕ → List Fault
 pathFaults stations own target links home =
     placeFaults stations own target links ++ (fault 3 (test (badHome home)) ∷ [])
 
--- The number of the first fault alone, or the answer where there is none.
-abbrev pub refusedOr : ℕ → Outcome → Outcome
-refusedOr zero answer = answer
-refusedOr (suc n) answer = Refused (suc n)
-
 -- The answer holds whether the frame is delivered, and the hops moved, equal to the path's length.
-abbrev pub movedOf : Course → Outcome
-movedOf course = Moved (course .delivered) (length (course .links))
+abbrev pub outcomeOf : Course → Outcome
+outcomeOf course = Moved (course .delivered) (length (course .links))
 
 -- The path, for any numbers at all.
 unfoldable pub pathOf : ℕ → ℕ → ℕ → ℕ → ℕ → Outcome
 pathOf stations own target links home =
-    refusedOr (firstOf (pathFaults stations own target links home)) (movedOf (wholeOf stations own target links home))
+    refusedOr Refused (firstOf (pathFaults stations own target links home)) (outcomeOf (wholeOf stations own target links home))
 
 -- Document 01's number of an answer: 0 where the path was walked.
-abbrev pub numberOf : Outcome → ℕ
-numberOf (Moved delivered hops) = 0
-numberOf (Refused n) = n
+abbrev pub pathNumber : Outcome → ℕ
+pathNumber (Moved delivered hops) = 0
+pathNumber (Refused n) = n
 
--- what a walk answers of the rest of a course, with so many hops behind it: twice the hops of both, and 1 more where the frame is delivered
-abbrev pub walkOf : ℕ → Course → ℕ
-walkOf moved rest = 2 * (moved + length (rest .links)) + cond (rest .delivered) 1 0
+-- what a walk answers of the rest of a course, with so many hops behind it, packed into one number: twice the hops of both, and 1 more where the frame
+-- is delivered
+abbrev pub packedOf : ℕ → Course → ℕ
+packedOf moved rest = 2 * (moved + length (rest .links)) + cond (rest .delivered) 1 0
 
 -- a station of a ring of at most 63
 pub record Stops (stations at : ℕ) : Type 0 where

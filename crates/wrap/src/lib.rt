@@ -3,7 +3,7 @@ ghost use mathlib.Core.Path.{_≡_};
 ghost use mathlib.Core.Bool.{false};
 ghost use Prim.Native.Nat.{_+_};
 ghost use Rattle.ring.specs.Links.{otherOf, nextOf, linkOf, aheadOf};
-ghost use Rattle.wrap.specs.Walking.{Stops, Walks, atHome, opposite, courseOf, walkOf, sideOf, pathOf};
+ghost use Rattle.wrap.specs.Walking.{Stops, Walks, atHome, opposite, courseOf, packedOf, sideOf, pathOf};
 use ring::Way;
 
 // What becomes of a wrap-marked frame; or the number of the refusal.
@@ -44,7 +44,7 @@ fn home_walk(
     moved: u64,
 ) -> u64
     requires { ⌜ Walks stations (moved + left) at × (turn ≡ 0 → aheadOf (otherOf home) stations links at ≡ false) ⌝ }
-    ensures { λ r. ⌜ r ≡ walkOf moved (courseOf stations links target home left atHome at) ⌝ }
+    ensures { λ r. ⌜ r ≡ packedOf moved (courseOf stations links target home left atHome at) ⌝ }
 {
     if at == target {
         return 2 * moved + 1;
@@ -75,7 +75,7 @@ fn opposite_walk(
     moved: u64,
 ) -> u64
     requires { ⌜ Walks stations (moved + left) at × (turn ≡ 0 → (aheadOf home stations links at ≡ false) × (at ≡ target → ⊥)) ⌝ }
-    ensures { λ r. ⌜ r ≡ walkOf moved (courseOf stations links target home left opposite at) ⌝ }
+    ensures { λ r. ⌜ r ≡ packedOf moved (courseOf stations links target home left opposite at) ⌝ }
 {
     if left == 0 {
         return 2 * moved;

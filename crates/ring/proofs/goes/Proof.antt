@@ -9,29 +9,29 @@ use Rattle.ring.proofs.goes.Tie as tie
 preferred-requires : tie.Need-preferred-requires
 preferred-requires c κs = search needs
 
-sent-requires : tie.Need-sent-requires
-sent-requires c κs = search needs
+along-requires : tie.Need-along-requires
+along-requires c κs = search needs
 
 returns : tie.Need-returns
 returns c =
     let start = c .before .before in
     let a = start .before .args in
-    c .sent .ensures
+    c .along .ensures
     ∙ goes-regardless (a .stations) (a .own) (a .target) (a .links) (a .side) (a .protection) (a .ring) (start .preferred .result) (start .preferred .ensures)
     (c .before .if1 .taken)
 
 reaches-requires : tie.Need-reaches-requires
 reaches-requires c κs = search needs
 
-sent-requires-2 : tie.Need-sent-requires-2
-sent-requires-2 c κs = search needs
+along-requires-2 : tie.Need-along-requires-2
+along-requires-2 c κs = search needs
 
 returns-2 : tie.Need-returns-2
 returns-2 c =
     let one = c .before .before in
     let start = one .before .before in
     let a = start .before .args in
-    c .sent2 .ensures
+    c .along2 .ensures
     ∙ goes-first (a .stations) (a .own) (a .target) (a .links) (a .side) (a .protection) (a .ring) (start .preferred .result) (start .preferred .ensures)
     (sym (one .reaches .ensures) ∙ c .before .if2 .taken)
 
@@ -41,8 +41,8 @@ other-requires c κs = search needs
 reaches-requires-2 : tie.Need-reaches-requires-2
 reaches-requires-2 c κs = search needs
 
-sent-requires-3 : tie.Need-sent-requires-3
-sent-requires-3 c κs = search needs
+along-requires-3 : tie.Need-along-requires-3
+along-requires-3 c κs = search needs
 
 returns-3 : tie.Need-returns-3
 returns-3 c =
@@ -51,7 +51,7 @@ returns-3 c =
     let one = turned .before .before in
     let start = one .before .before in
     let a = start .before .args in
-    c .sent3 .ensures
+    c .along3 .ensures
     ∙ goes-second (a .stations) (a .own) (a .target) (a .links) (a .side) (a .protection) (a .ring) (start .preferred .result) (start .preferred .ensures)
     (one .before .if1 .left)
     (sym (one .reaches .ensures) ∙ turned .before .if2 .left)
@@ -78,13 +78,13 @@ goes-spec =
     tie.close
     (tie.spec
     preferred-requires
-    sent-requires
+    along-requires
     returns
     reaches-requires
-    sent-requires-2
+    along-requires-2
     returns-2
     other-requires
     reaches-requires-2
-    sent-requires-3
+    along-requires-3
     returns-3
     returns-4)

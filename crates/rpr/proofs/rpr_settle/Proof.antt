@@ -1,24 +1,17 @@
--- A slice of another length is 2; else the outcome is laid into the answer's bytes, which the credit at the end fits.
+-- A slice of another length is 2; else the outcome is packed, or the number of the refusal alone.
 -- Assumes nothing.
-use Prim.Native.Nat.{_≤_}
 use mathlib.Core.Path.{_≡_, sym, ap, _∙_}
-use native.Mathlib.Omega.{arith}
-use borrow.Author.Needs.{needs}
 use Rattle.summary.specs.declared.Outcome.{Outcome}
 use Rattle.summary.specs.Answer.{settleOf}
 use Rattle.sheet.specs.Sheet.{summaryAt}
-use Rattle.rpr.proofs.Credit.{end-most}
 use Rattle.rpr.proofs.Rows.{settle-length, settle-whole}
+use borrow.Author.Needs.{needs}
 use Rattle.rpr.proofs.rpr_settle.Statement.{statement}
 use Rattle.rpr.proofs.rpr_settle.Tie as tie
 
 -- what the summary said
 said : (c : tie.After-settle) → c .settle .result ≡ settleOf (summaryAt (c .before .before .before .before .args .summary .now)) (c .before .before .before .before .args .start)
 said c = c .settle .ensures ∙ ap (λ s. settleOf s (c .before .before .before .before .args .start)) (c .before .read .ensures)
-
--- a credit at the end fits four bytes
-small : (c : tie.After-known-told) → c .before .outcome .given .0 .0 ≤ 1048576
-small c = end-most _ _ _ (sym (said (c .before .before .before)) ∙ c .before .outcome .given .1)
 
 returns : tie.Need-returns
 returns c = settle-length _ _ (c .if1 .taken)
@@ -32,11 +25,8 @@ settle-requires c κs = search needs
 enum-known-outcome : tie.Need-enum-known-outcome
 enum-known-outcome c = search needs
 
-mul-result : tie.Need-mul-result
-mul-result c = let h = small c in omega arith
-
-add-result : tie.Need-add-result
-add-result c = let h = small c in omega arith
+permitted-requires : tie.Need-permitted-requires
+permitted-requires c κs = search needs
 
 enum-told : tie.Need-enum-told
 enum-told c = search needs
@@ -45,7 +35,9 @@ enum-known-outcome-2 : tie.Need-enum-known-outcome-2
 enum-known-outcome-2 c = search needs
 
 returns-2 : tie.Need-returns-2
-returns-2 c = settle-whole _ _ (c .before .before .before .before .before .if1 .left) (Outcome.Permitted _) (sym (c .before .outcome .given .1) ∙ said (c .before .before .before))
+returns-2 c =
+    c .permitted .ensures
+    ∙ settle-whole _ _ (c .before .before .before .before .before .before .if1 .left) (Outcome.Permitted _) (sym (c .before .before .outcome .given .1) ∙ said (c .before .before .before .before))
 
 returns-3 : tie.Need-returns-3
 returns-3 c = settle-whole _ _ (c .before .before .before .before .if1 .left) Outcome.NotPermitted (sym (c .enum-told .given .1) ∙ said (c .before .before))
@@ -61,8 +53,7 @@ rpr-settle-spec =
     read-requires
     settle-requires
     enum-known-outcome
-    mul-result
-    add-result
+    permitted-requires
     enum-told
     enum-known-outcome-2
     returns-2

@@ -1,5 +1,6 @@
 -- Each field is read at its place.
 -- Assumes nothing.
+use mathlib.Core.Path.{refl}
 use mir.Facts.{toZ-ofZ}
 use mir.Syntax.{w64}
 use Rattle.sheet.specs.Sheet.{summaryAt}
@@ -40,7 +41,7 @@ returns c =
     let coded : _ = c .before in
     let back = toZ-ofZ {w = w64} {z = coded .signed64 .result} (record { sfits = coded .signed64 .ok }) in
     let settings : _ = coded .before .before .before .before in
-    rw (c .get644 .ensures, back, coded .signed64 .ensures, coded .before .get643 .ensures, coded .before .before .get642 .ensures, coded .before .before .before .get64 .ensures, settings .get324 .ensures, settings .before .get323 .ensures, settings .before .before .get322 .ensures, settings .before .before .before .get32 .ensures)
+    rw (c .get644 .ensures, back, coded .signed64 .ensures, coded .before .get643 .ensures, coded .before .before .get642 .ensures, coded .before .before .before .get64 .ensures, settings .get324 .ensures, settings .before .get323 .ensures, settings .before .before .get322 .ensures, settings .before .before .before .get32 .ensures) refl
 
 pub read-spec : {M : Type 1} → statement M
 read-spec =

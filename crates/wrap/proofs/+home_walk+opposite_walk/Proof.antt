@@ -3,7 +3,7 @@
 use borrow.Author.Needs.{needs}
 use mathlib.Core.Path.{sym, ap, _∙_}
 use native.Mathlib.Omega.{arith}
-use Rattle.wrap.specs.Walking.{atHome, opposite, walkOf}
+use Rattle.wrap.specs.Walking.{atHome, opposite, packedOf}
 use Rattle.wrap.proofs.Steps.{arrived, used, used-away, onward, moves, turned-away, caught-home, moves-away, turned-back, behind, caught-away}
 use Prim.Native.Nat.{ℕ, _+_, _-_, _*_, _<_}
 use borrow.Fn.Kinds.{In}
@@ -143,7 +143,7 @@ home-walk-returns-5 t c =
     let a = seen .before .before .before .args in
     let broken = sym (seen .ahead .ensures) ∙ c .before .before .if3 .left in
     c .opposite-walk .ensures
-    ∙ ap (walkOf (a .moved)) (sym (turned-away (a .stations) (a .links) (a .target) (a .home) (a .left) (a .at) (a .moved) (seen .before .if2 .left) (seen .before .before .if1 .left) broken))
+    ∙ ap (packedOf (a .moved)) (sym (turned-away (a .stations) (a .links) (a .target) (a .home) (a .left) (a .at) (a .moved) (seen .before .if2 .left) (seen .before .before .if1 .left) broken))
 
 opposite-walk-mul-result : (t : ℕ) → opposite-walk-lts.Need-mul-result (opposite-walk-calls t) (opposite-walk-at t) opposite-walk.Post
 opposite-walk-mul-result t c = search needs
@@ -236,7 +236,7 @@ opposite-walk-returns-4 t c =
     (seen .ahead .result)
     (seen .ahead .ensures)
     (c .before .before .if2 .left) in
-    c .home-walk .ensures ∙ ap (walkOf (a .moved)) (sym back)
+    c .home-walk .ensures ∙ ap (packedOf (a .moved)) (sym back)
 
 pub +home-walk+opposite-walk-spec : {M : Type 1} → statement M
 +home-walk+opposite-walk-spec = close μ-home-walk μ-opposite-walk (λ t. home-walk-lts.spec (home-walk-calls t)

@@ -6,7 +6,7 @@ use native.Mathlib.Omega.{arith}
 use Rattle.decide.specs.Test.{test}
 use Rattle.ring.specs.declared.Way.{Way}
 use Rattle.ring.proofs.Faults.{placed}
-use Rattle.wrap.specs.Walking.{atHome, courseOf, walkOf}
+use Rattle.wrap.specs.Walking.{atHome, courseOf, packedOf}
 use Rattle.wrap.proofs.Answers.{refused-place, refused-home, moved}
 use borrow.Author.Needs.{needs}
 use Rattle.wrap.proofs.path.Statement.{statement}
@@ -52,7 +52,7 @@ returns-3 c =
     let a = asked .before .args in
     moved (a .stations) (a .own) (a .target) (a .links) (a .home) (sym (asked .misplaced .ensures) ∙ c .before .before .before .if1 .left) (c .before .before .if2 .left)
     (c .home-walk .ensures
-    ∙ ap (λ (w : Way). walkOf 0 (courseOf (a .stations) (a .links) (a .target) w (2 * a .stations) atHome (a .own))) (c .before .side .ensures))
+    ∙ ap (λ (w : Way). packedOf 0 (courseOf (a .stations) (a .links) (a .target) w (2 * a .stations) atHome (a .own))) (c .before .side .ensures))
 
 pub path-spec : {M : Type 1} → statement M
 path-spec =

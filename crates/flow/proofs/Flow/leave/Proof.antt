@@ -1,24 +1,15 @@
--- What is taken from the queue.
+-- Credits and stage are those that are handed over, and the queues those without the frame.
 -- Assumes nothing.
+use mathlib.Core.Path.{refl}
 use borrow.Author.Needs.{needs}
 use Rattle.flow.proofs.Flow.leave.Statement.{statement}
 use Rattle.flow.proofs.Flow.leave.Tie as tie
 
-queue-requires : tie.Need-queue-requires
-queue-requires c κs = search needs
-
-take-requires : tie.Need-take-requires
-take-requires c κs = search needs
-
-with-queue-requires : tie.Need-with-queue-requires
-with-queue-requires c κs = search needs
-
-origin-requires : tie.Need-origin-requires
-origin-requires c κs = search needs
+without-named-requires : tie.Need-without-named-requires
+without-named-requires c κs = search needs
 
 returns : tie.Need-returns
-returns c = rw (c .origin .ensures, c .before .with-queue .ensures, c .before .before .before .before .take .ensures, c .before .before .before .before .before .queue .ensures)
+returns c = rw (c .without-named .ensures) refl
 
 pub leave-spec : {M : Type 1} → statement M
-leave-spec =
-    tie.close (tie.spec queue-requires take-requires with-queue-requires origin-requires returns)
+leave-spec = tie.close (tie.spec without-named-requires returns)

@@ -1,5 +1,6 @@
 -- The stores are those of `pushed`, one for one.
 -- Assumes nothing.
+use mathlib.Core.Path.{refl}
 use borrow.Author.Needs.{needs}
 use Rattle.queue.specs.Queue.{pushed}
 use Rattle.queue.proofs.Queue.push.Statement.{statement}
@@ -31,7 +32,7 @@ add-next-2 c = search needs
 
 returns : tie.Need-returns
 unfolding pushed
-returns c = rw (c .before .before .word .ensures)
+returns c = rw (c .before .before .word .ensures) refl
 
 pub push-spec : {M : Type 1} → statement M
 push-spec =

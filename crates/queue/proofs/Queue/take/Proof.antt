@@ -1,5 +1,6 @@
 -- The stores are those of `taken`, one for one; counting down stops at 0, as `-` does.
 -- Assumes nothing.
+use mathlib.Core.Path.{refl}
 use borrow.Author.Needs.{needs}
 use Rattle.queue.specs.Queue.{firstOf, taken}
 use Rattle.queue.proofs.Queue.take.Statement.{statement}
@@ -55,7 +56,7 @@ cast-next-4 c = search needs
 
 returns : tie.Need-returns
 unfolding firstOf taken
-returns c = rw (c .less2 .ensures, c .before .before .less .ensures, c .before .before .before .of .ensures)
+returns c = rw (c .less2 .ensures, c .before .before .less .ensures, c .before .before .before .of .ensures) refl
 
 pub take-spec : {M : Type 1} → statement M
 take-spec =

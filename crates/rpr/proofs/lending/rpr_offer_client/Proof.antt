@@ -43,11 +43,8 @@ write-credits-requires c κs = search needs
 write-stage-requires : tie.Need-write-stage-requires
 write-stage-requires c κs = search needs
 
-cast-result-2 : tie.Need-cast-result-2
-cast-result-2 c = search needs
-
-mul-result : tie.Need-mul-result
-mul-result c = search needs
+marked-requires : tie.Need-marked-requires
+marked-requires c κs = search needs
 
 same-length-2 : tie.Need-same-length-2
 same-length-2 c = search needs
@@ -66,7 +63,7 @@ returns-3 c =
     taken-left xs _ _ _ _ said (left .if2 .left) (λ (f : Flow). stageIn (creditsIn xs f) f)
     (client-written xs (λ j. tested .before .slice-known .given j .fits) (tested .if1 .left) _ _ _) in
     let both = staged .write-stage .ensures ∙ ap (λ (l : List ℕ). stageIn l (called .offer-client .result .station .flow)) (charged .write-credits .ensures) in
-    whole-gives _ xs _ (tested .if1 .left) _ _ _ (b .0, both ∙ b .1)
+    whole-gives _ xs _ (tested .if1 .left) _ _ _ (c .marked .ensures ∙ b .0, both ∙ b .1)
 
 pub rpr-offer-client-spec : {M : Type 1} → statement M
 rpr-offer-client-spec =
@@ -80,7 +77,6 @@ rpr-offer-client-spec =
     returns-2
     write-credits-requires
     write-stage-requires
-    cast-result-2
-    mul-result
+    marked-requires
     same-length-2
     returns-3)

@@ -1,14 +1,12 @@
 -- A slice of another length is 2; else what the station said is handed back: a refusal alone, or the control queue written.
 -- Assumes nothing.
-use mathlib.Core.Path.{_∙_}
 use Rattle.flow.specs.declared.Line.the-variants.{Control}
 use Rattle.flow.specs.Offer.{controlFrame}
 use Rattle.station.specs.declared.Station.{Station}
 use Rattle.layout.specs.Layout.{pushedAt}
 use Rattle.rpr.specs.Station.{offerControlAnswer, offerControlAfter}
-use Rattle.rpr.proofs.Shape.{turned-down}
-use Rattle.rpr.proofs.Given.{not-whole, whole-gives, done-back}
-use Rattle.rpr.proofs.Written.{done-left, offer-written}
+use Rattle.rpr.proofs.Given.{not-whole}
+use Rattle.rpr.proofs.Written.{done-refused, done-carried, offer-written}
 use borrow.Author.Needs.{needs}
 use Rattle.rpr.proofs.lending.rpr_offer_control.Statement.{statement}
 use Rattle.rpr.proofs.lending.rpr_offer_control.Tie as tie
@@ -35,8 +33,7 @@ returns-2 c =
     let called : _ = c .before .before .before in
     let tested : _ = called .before .before .before in
     let said = rw (called .before .read .ensures) at (called .offer-control .ensures) in
-    whole-gives _ (tested .before .before .args .station .now) _ (tested .if1 .left) _ _ _
-    (done-back _ _ _ _ _ said (turned-down _ _ _ _ (c .before .if2 .taken)))
+    done-refused (tested .before .before .args .station .now) _ (tested .if1 .left) _ _ said (c .before .if2 .taken)
 
 push-frame-requires : tie.Need-push-frame-requires
 push-frame-requires c κs = search needs
@@ -54,10 +51,8 @@ returns-3 c =
     let a : _ = tested .before .before .args in
     let xs : _ = a .station .now in
     let said = rw (called .before .read .ensures) at (called .offer-control .ensures) in
-    let b =
-    done-left xs _ _ _ _ said (left .if2 .left) (λ (st : Station). pushedAt xs Control (controlFrame (a .size)))
-    (offer-written xs (λ j. tested .before .slice-known .given j .fits) (tested .if1 .left) Control (controlFrame (a .size))) in
-    whole-gives _ xs _ (tested .if1 .left) _ _ _ (b .0, pushed .push-frame .ensures ∙ b .1)
+    done-carried xs _ (tested .if1 .left) _ _ said (left .if2 .left) (λ (st : Station). pushedAt xs Control (controlFrame (a .size)))
+    (offer-written xs (λ j. tested .before .slice-known .given j .fits) (tested .if1 .left) Control (controlFrame (a .size))) (pushed .push-frame .ensures)
 
 pub rpr-offer-control-spec : {M : Type 1} → statement M
 rpr-offer-control-spec =

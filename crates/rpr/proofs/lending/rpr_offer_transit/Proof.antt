@@ -1,15 +1,14 @@
 -- A slice of another length is 2; else what the station said is handed back: a refusal alone, or the queue of the class written.
 -- Assumes nothing.
-use mathlib.Core.Path.{ap, _∙_}
+use mathlib.Core.Path.{_≡_, ap, _∙_}
 use Rattle.flow.specs.declared.Line.{Line}
 use Rattle.flow.specs.Offer.{queueFor}
 use Rattle.station.specs.declared.Station.{Station}
 use Rattle.station.specs.Offers.{givenFrame}
 use Rattle.layout.specs.Layout.{pushedAt}
 use Rattle.rpr.specs.Station.{offerTransitAnswer, offerTransitAfter}
-use Rattle.rpr.proofs.Shape.{turned-down}
-use Rattle.rpr.proofs.Given.{not-whole, whole-gives, done-back}
-use Rattle.rpr.proofs.Written.{done-left, to-primary, to-secondary, offer-written}
+use Rattle.rpr.proofs.Given.{not-whole}
+use Rattle.rpr.proofs.Written.{done-refused, done-carried, to-primary, to-secondary, offer-written}
 use borrow.Author.Needs.{needs}
 use Rattle.rpr.proofs.lending.rpr_offer_transit.Statement.{statement}
 use Rattle.rpr.proofs.lending.rpr_offer_transit.Tie as tie
@@ -36,8 +35,7 @@ returns-2 c =
     let called : _ = c .before .before .before in
     let tested : _ = called .before .before .before in
     let said = rw (called .before .read .ensures) at (called .offer-transit .ensures) in
-    whole-gives _ (tested .before .before .args .station .now) _ (tested .if1 .left) _ _ _
-    (done-back _ _ _ _ _ said (turned-down _ _ _ _ (c .before .if2 .taken)))
+    done-refused (tested .before .before .args .station .now) _ (tested .if1 .left) _ _ said (c .before .if2 .taken)
 
 push-frame-requires : tie.Need-push-frame-requires
 push-frame-requires c κs = search needs
@@ -57,11 +55,10 @@ returns-3 c =
     let xs : _ = a .station .now in
     let x : _ = givenFrame (a .class) (a .size) (a .hops) (a .eligible) in
     let said = rw (called .before .read .ensures) at (called .offer-transit .ensures) in
-    let b =
-    done-left xs _ _ _ _ said (left .if2 .left) (λ (st : Station). pushedAt xs (queueFor (a .class)) x)
-    (offer-written xs (λ j. tested .before .slice-known .given j .fits) (tested .if1 .left) (queueFor (a .class)) x) in
-    let there = pushed .push-frame .ensures ∙ ap (λ (l : Line). pushedAt xs l x) (to-primary (a .class) (chosen .if3 .taken)) in
-    whole-gives _ xs _ (tested .if1 .left) _ _ _ (b .0, there ∙ b .1)
+    let wrote : _ ≡ pushedAt xs Line.Primary x = pushed .push-frame .ensures in
+    let there = wrote ∙ ap (λ (l : Line). pushedAt xs l x) (to-primary (a .class) (chosen .if3 .taken)) in
+    done-carried xs _ (tested .if1 .left) _ _ said (left .if2 .left) (λ (st : Station). pushedAt xs (queueFor (a .class)) x)
+    (offer-written xs (λ j. tested .before .slice-known .given j .fits) (tested .if1 .left) (queueFor (a .class)) x) there
 
 push-frame-requires-2 : tie.Need-push-frame-requires-2
 push-frame-requires-2 c κs = search needs
@@ -81,11 +78,9 @@ returns-4 c =
     let xs : _ = a .station .now in
     let x : _ = givenFrame (a .class) (a .size) (a .hops) (a .eligible) in
     let said = rw (called .before .read .ensures) at (called .offer-transit .ensures) in
-    let b =
-    done-left xs _ _ _ _ said (left .if2 .left) (λ (st : Station). pushedAt xs (queueFor (a .class)) x)
-    (offer-written xs (λ j. tested .before .slice-known .given j .fits) (tested .if1 .left) (queueFor (a .class)) x) in
     let there = pushed .push-frame2 .ensures ∙ ap (λ (l : Line). pushedAt xs l x) (to-secondary (a .class) (chosen .if3 .left)) in
-    whole-gives _ xs _ (tested .if1 .left) _ _ _ (b .0, there ∙ b .1)
+    done-carried xs _ (tested .if1 .left) _ _ said (left .if2 .left) (λ (st : Station). pushedAt xs (queueFor (a .class)) x)
+    (offer-written xs (λ j. tested .before .slice-known .given j .fits) (tested .if1 .left) (queueFor (a .class)) x) there
 
 pub rpr-offer-transit-spec : {M : Type 1} → statement M
 rpr-offer-transit-spec =

@@ -1,12 +1,14 @@
--- A slice of another length is 2; else what the station said is handed back: a refusal alone, or what the frame changed as it left written. The frame
--- fits its bytes of the answer.
+-- A slice of another length is 2, a station out of range is 1; else what is picked is answered, and what the frame changed as it left is written.
 -- Assumes nothing.
-use mathlib.Core.Path.{_∙_}
+use Rattle.decide.specs.Test.{left, taken}
+use Rattle.station.specs.Range.{stationOk}
+use Rattle.layout.specs.Layout.{stationAt, stationBytes}
+use Rattle.layout.proofs.Round.{bytes-of-state}
 use Rattle.rpr.specs.Station.{selectAnswer, selectAfter}
-use Rattle.rpr.proofs.Shape.{turned-down}
-use Rattle.rpr.proofs.Given.{not-whole, whole-gives, chosen-back}
-use Rattle.rpr.proofs.Chosen.{select-small}
-use Rattle.rpr.proofs.Written.{chosen-left, selectedIn, select-written}
+use mathlib.Core.Path.{sym, ap, _∙_}
+use Rattle.rpr.proofs.Given.{not-whole, select-refused, select-given}
+use Rattle.rpr.proofs.Chosen.{nothing-chosen}
+use Rattle.rpr.proofs.Written.{select-written}
 use borrow.Author.Needs.{needs}
 use Rattle.rpr.proofs.lending.rpr_select.Statement.{statement}
 use Rattle.rpr.proofs.lending.rpr_select.Tie as tie
@@ -18,11 +20,8 @@ returns c = let xs = c .before .before .args .station .now in not-whole _ xs _ _
 read-requires : tie.Need-read-requires
 read-requires c κs = search needs
 
-select-requires : tie.Need-select-requires
-select-requires c κs = search needs
-
-cast-result : tie.Need-cast-result
-cast-result c = search needs
+in-range-requires : tie.Need-in-range-requires
+in-range-requires c κs = search needs
 
 same-length : tie.Need-same-length
 same-length c = search needs
@@ -30,11 +29,30 @@ same-length c = search needs
 returns-2 : tie.Need-returns-2
 unfolding selectAnswer selectAfter
 returns-2 c =
-    let called : _ = c .before .before .before in
-    let tested : _ = called .before .before .before in
-    let said = rw (called .before .read .ensures) at (called .select .ensures) in
-    whole-gives _ (tested .before .before .args .station .now) _ (tested .if1 .left) _ _ _
-    (chosen-back _ _ _ _ said (turned-down _ _ _ _ (c .before .if2 .taken)))
+    let asked : _ = c .before in
+    let tested : _ = asked .before .before .before in
+    let xs : _ = tested .before .before .args .station .now in
+    let out = rw (asked .before .read .ensures) at (taken (stationOk _) (asked .in-range .ensures) (c .if2 .taken)) in
+    select-refused xs (tested .if1 .left) (stationAt xs) _ _ out
+
+pick-requires : tie.Need-pick-requires
+pick-requires c κs = search needs
+
+same-length-2 : tie.Need-same-length-2
+same-length-2 c = search needs
+
+returns-3 : tie.Need-returns-3
+unfolding selectAnswer selectAfter
+returns-3 c =
+    let called : _ = c .before .before in
+    let ranged : _ = called .before .before in
+    let asked : _ = ranged .before in
+    let tested : _ = asked .before .before .before in
+    let xs : _ = tested .before .before .args .station .now in
+    let o = rw (asked .before .read .ensures) at (left (stationOk _) (asked .in-range .ensures) (ranged .if2 .left)) in
+    let none = nothing-chosen (stationAt xs) o (rw (called .pick .ensures) at (c .if3 .taken)) in
+    select-given xs (tested .if1 .left) (stationAt xs) _ _ o (none .0)
+    (sym (bytes-of-state xs (λ j. tested .before .slice-known .given j .fits) (tested .if1 .left)) ∙ ap stationBytes (none .1))
 
 take-frame-requires : tie.Need-take-frame-requires
 take-frame-requires c κs = search needs
@@ -45,31 +63,33 @@ write-credits-requires c κs = search needs
 write-stage-requires : tie.Need-write-stage-requires
 write-stage-requires c κs = search needs
 
-write-fair-requires : tie.Need-write-fair-requires
-write-fair-requires c κs = search needs
+write-counters-requires : tie.Need-write-counters-requires
+write-counters-requires c κs = search needs
 
 selected-requires : tie.Need-selected-requires
-selected-requires c κs = rw (c .before .before .before .before .before .before .before .before .before .before .before .before .before .before .before .before .before .before .before .before .before .select .ensures) (select-small _)
+selected-requires c κs = search needs
 
-same-length-2 : tie.Need-same-length-2
-same-length-2 c = search needs
+same-length-3 : tie.Need-same-length-3
+same-length-3 c = search needs
 
-returns-3 : tie.Need-returns-3
+returns-4 : tie.Need-returns-4
 unfolding selectAnswer selectAfter
-returns-3 c =
-    let fair : _ = c .before .before .before .before in
-    let stage : _ = fair .before .before .before .before in
+returns-4 c =
+    let counters : _ = c .before .before .before .before in
+    let stage : _ = counters .before .before .before .before .before in
     let credits : _ = stage .before .before .before .before in
     let queue : _ = credits .before .before .before .before in
-    let left : _ = queue .before .before .before .before in
-    let called : _ = left .before .before in
-    let tested : _ = called .before .before .before in
+    let moved : _ = queue .before .before in
+    let called : _ = moved .before .before in
+    let ranged : _ = called .before .before in
+    let asked : _ = ranged .before in
+    let tested : _ = asked .before .before .before in
     let xs : _ = tested .before .before .args .station .now in
-    let said = rw (called .before .read .ensures) at (called .select .ensures) in
-    let b =
-    chosen-left xs _ _ _ said (left .if2 .left) (selectedIn xs) (select-written xs (λ j. tested .before .slice-known .given j .fits) (tested .if1 .left)) in
-    let all = rw (stage .write-stage .ensures, credits .write-credits .ensures, queue .take-frame .ensures) at (fair .write-fair .ensures) in
-    whole-gives _ xs _ (tested .if1 .left) _ _ _ (c .selected .ensures ∙ b .0, all ∙ b .1)
+    let said = called .pick .ensures in
+    let all = rw (stage .write-stage .ensures, credits .write-credits .ensures, queue .take-frame .ensures) at (counters .write-counters .ensures) in
+    select-given xs (tested .if1 .left) (stationAt xs) _ _ (rw (asked .before .read .ensures) at (left (stationOk _) (asked .in-range .ensures) (ranged .if2 .left)))
+    (rw said at (c .selected .ensures))
+    (rw said at all ∙ select-written xs (λ j. tested .before .slice-known .given j .fits) (tested .if1 .left))
 
 pub rpr-select-spec : {M : Type 1} → statement M
 rpr-select-spec =
@@ -77,14 +97,16 @@ rpr-select-spec =
     (tie.spec
     returns
     read-requires
-    select-requires
-    cast-result
+    in-range-requires
     same-length
     returns-2
+    pick-requires
+    same-length-2
+    returns-3
     take-frame-requires
     write-credits-requires
     write-stage-requires
-    write-fair-requires
+    write-counters-requires
     selected-requires
-    same-length-2
-    returns-3)
+    same-length-3
+    returns-4)

@@ -2,6 +2,7 @@
 -- Assumes nothing.
 use Rattle.decide.specs.Test.{test}
 use mathlib.Core.Bool.{and-assoc}
+use mathlib.Core.Path.{refl}
 use borrow.Author.Needs.{needs}
 use Rattle.settings.proofs.Queues.in_range.Statement.{statement}
 use Rattle.settings.proofs.Queues.in_range.Tie as tie
@@ -27,6 +28,7 @@ returns c =
     let d : _ = c .before .before .before in
     simp
     (c .before .capacity-ok3 .ensures, c .before .before .capacity-ok2 .ensures, d .capacity-ok .ensures, d .before .wide .ensures .0, and-assoc)
+    refl
 
 pub in-range-spec : {M : Type 1} → statement M
 in-range-spec =

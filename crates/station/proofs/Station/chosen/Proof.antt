@@ -1,31 +1,28 @@
--- The frame is the one that the table selects, and is counted.
+-- What is picked by what a selection looks at (`sight-picks`), and the station that this leaves (`pick-leaves`).
 -- Assumes nothing.
-use mathlib.Core.Path.{ap, _∙_}
-use Rattle.flow.specs.declared.Selected as flow
-use Rattle.fair.specs.declared.Fair.{Fair}
-use Rattle.station.specs.declared.Station.{Station}
-use Rattle.station.specs.declared.Selected.{Selected}
-use Rattle.station.specs.Answers.{givenOf}
+use mathlib.Core.Path.{_≡_, sym, _∙_}
+use Rattle.station.specs.Pick.{pickOf}
+use Rattle.station.proofs.Select.{pick-leaves, sight-picks}
 use borrow.Author.Needs.{needs}
 use Rattle.station.proofs.Station.chosen.Statement.{statement}
 use Rattle.station.proofs.Station.chosen.Tie as tie
 
--- this is selected, and leaves the fairness state so
-abbrev leaving : Station → flow.Selected → Fair → Selected
-leaving st r f =
-    record { number = 0; detail = 0; origin = r .origin; frame = r .frame; station = record { settings = st .settings; flow = r .flow; fair = f } }
+sight-requires : tie.Need-sight-requires
+sight-requires c κs = search needs
 
-select-requires : tie.Need-select-requires
-select-requires c κs = search needs
+picked-requires : tie.Need-picked-requires
+picked-requires c κs = search needs
 
-count-requires : tie.Need-count-requires
-count-requires c κs = search needs
+leave-requires : tie.Need-leave-requires
+leave-requires c κs = search needs
 
 returns : tie.Need-returns
 returns c =
-    let out = c .before .before .before in
-    let st = out .before .before .before .before .args .self in
-    ap (leaving st (out .select .result)) (c .count .ensures) ∙ ap (givenOf st) (out .select .ensures)
+    let out = c .before .before .before .before in
+    let seen = out .before in
+    let st = seen .before .before .before .args .self in
+    let e : out .picked .result ≡ pickOf st = rw (seen .sight .ensures) at (out .picked .ensures) ∙ sight-picks st in
+    rw (c .leave .ensures, e) (sym (pick-leaves st))
 
 pub chosen-spec : {M : Type 1} → statement M
-chosen-spec = tie.close (tie.spec select-requires count-requires returns)
+chosen-spec = tie.close (tie.spec sight-requires picked-requires leave-requires returns)

@@ -1,38 +1,49 @@
-//! "Counters stop at 2,147,483,647."
+//! "Counters stop at 2,147,483,647", and what intervals make of counters that have
+//! stopped.
 
+use super::life::Life;
 use super::{library, Trial};
 use model::make_station;
 use model::report::Outcome;
+use model::station::aging::Rates;
 use model::station::layout;
-use model::station::MOST_RATE;
+use model::station::{Station, MOST_RATE};
 use model::station_call::Call;
 
-/// Settings of the largest frames, with room and credit for them.
+/// The received rate while downstream is congested. Times the largest weight and unit it
+/// just passes 32 bits: what they would keep of the product is a small number.
+const RECEIVED: u16 = 16_449;
+
+/// Settings of the largest frames, with room and credit for them, the largest weight and
+/// unit and the slowest coefficients.
 fn largest() -> [u32; 30] {
     let mut words = make_station::words(&[(3, 9_216), (19, 9_216), (20, 9_216), (21, 18_432)]);
     for at in [4, 7, 10, 13, 16] {
         words[at..at + 3].copy_from_slice(&[65_536, 1_048_576, 65_535]);
     }
-    words[23..].copy_from_slice(&[1, 1, 1, MOST_RATE as u32, 1, 16, 16]);
+    words[23..].copy_from_slice(&[255, 1_024, 1, MOST_RATE as u32, 16, 512, 512]);
     words
 }
 
-/// Sends the largest frames until all four counters have stopped. Answers how many
-/// calls that was; they aren't in the tally.
-pub fn stopping() -> Outcome<u64> {
-    let mut trial = Trial::new(0);
-    let Some(mut life) = trial.start(&largest())? else {
-        return Err("the largest settings are refused".to_string());
-    };
-    let clear = Call::Hear(vec![255, 0xa0, 0, 0, 0, 0, 0, 9, 0, 0, 255, 255]);
-    let congest = Call::Hear(vec![255, 0xa0, 0, 0, 0, 0, 0, 9, 0, 0, 0, 9]);
+/// A fairness frame with this rate.
+fn frame(rate: u16) -> Call {
+    let [high, low] = rate.to_be_bytes();
+    Call::Hear(vec![255, 0xa0, 0, 0, 0, 0, 0, 9, 0, 0, high, low])
+}
+
+/// An eligible transit frame of the largest size.
+const TRANSIT: Call = Call::Transit([2, 9_216, 2, 1]);
+
+/// Sends the largest frames until all four counters have stopped. How many calls that
+/// was.
+fn stop(life: &mut Life) -> Outcome<u64> {
     let round = [
-        clear,
+        frame(65_535),
         Call::Tick([0, 0, 1]),
         Call::Client([2, 9_216, 2]),
-        congest,
+        frame(RECEIVED),
         Call::Select,
-        Call::Transit([2, 9_216, 2, 1]),
+        TRANSIT,
         Call::Select,
     ];
     let mut made = 0;
@@ -49,8 +60,68 @@ pub fn stopping() -> Outcome<u64> {
             made += 1;
         }
     }
+    let note = format!("# {made} calls until all counters have stopped");
+    life.script.push(note);
+    Ok(made)
+}
+
+/// Intervals while downstream is congested, both ways, only locally and not at all, with
+/// rates that rise again in the end.
+fn age(trial: &mut Trial, life: &mut Life) -> Outcome<()> {
+    let calls = [
+        Call::Age,
+        TRANSIT,
+        Call::Age,
+        frame(1),
+        Call::Age,
+        frame(65_535),
+        Call::Age,
+        Call::Select,
+        Call::Age,
+        Call::Age,
+    ];
+    for call in &calls {
+        let answer = life.make(&mut trial.random, call)?;
+        if answer as u8 != 0 {
+            return Err(life.fault(&format!("{call} is refused: {answer:#x}")));
+        }
+        life.compare(&mut trial.random)?;
+    }
+    Ok(())
+}
+
+/// The stopped counters aged and smoothed with every coefficient, from smoothed rates of
+/// 0 and of the most that there is.
+fn age_each(trial: &mut Trial, stopped: &Station) -> Outcome<()> {
+    for age_coef in [1, 2, 4, 8, 16] {
+        for slow in [16, 32, 64, 128, 256, 512] {
+            for smoothed in [0, MOST_RATE - 1, MOST_RATE] {
+                let mut station = stopped.clone();
+                station.settings.age_coef = age_coef;
+                station.settings.lp_coef = slow;
+                station.settings.ramp_up = slow;
+                station.smoothed = Rates::each([smoothed; 4]);
+                let Some(mut life) = Life::of_bytes(&layout::write(&station)) else {
+                    return Err("stopped counters are out of range".to_string());
+                };
+                age(trial, &mut life)?;
+            }
+        }
+    }
+    Ok(())
+}
+
+/// Stops the counters by calls alone, and ages what is left. Answers how many calls it
+/// took to stop them; none of these are in the tally.
+pub fn stopping() -> Outcome<u64> {
+    let mut trial = Trial::new(0);
+    let Some(mut life) = trial.start(&largest())? else {
+        return Err("the largest settings are refused".to_string());
+    };
+    let made = stop(&mut life)?;
     life.compare(&mut trial.random)?;
-    life.make(&mut trial.random, &Call::Age)?;
-    life.compare(&mut trial.random)?;
+    let stopped = life.model.clone();
+    age(&mut trial, &mut life)?;
+    age_each(&mut trial, &stopped)?;
     Ok(made)
 }

@@ -1,0 +1,160 @@
+-- Stations start and act so, by the laws beside each call.
+-- Assumes nothing.
+use Prim.Native.Nat.{ℕ, _≤_}
+use mathlib.Core.Bool.{Bool, true, false, _&&_}
+use mathlib.Core.List.{[], _∷_, _++_}
+use mathlib.Core.Logic.{_↔_}
+use mathlib.Core.Path.{_≡_, refl, sym, ap, subst, _∙_}
+use borrow.Author.Tests.{eqb-true, eq-eqb, ne-eqb}
+use lib.Dec.{eqb}
+use Rattle.decide.specs.Test.{test, both, and-i, passes}
+use Rattle.decide.proofs.Cases.{by-cases, true-or-false}
+use Rattle.settings.specs.declared.Settings.{Settings}
+use Rattle.queue.specs.declared.Frame.{Frame}
+use Rattle.queue.specs.declared.Queue.{Queue}
+use Rattle.queue.specs.Frame.{frameOk, FrameOk}
+use Rattle.queue.specs.Queue.{emptyQueue, framesOf, pushed, spaceOf}
+use Rattle.queue.proofs.Word.{frame-holds}
+use Rattle.rates.specs.Rates.{ownRateOf}
+use Rattle.flow.specs.declared.Entered.{Entered}
+use Rattle.flow.specs.declared.Flow.{Flow}
+use Rattle.flow.specs.declared.Line.{Line}
+use Rattle.flow.specs.declared.Line.the-variants.{Control, Primary, Secondary}
+use Rattle.flow.specs.declared.Which.{Which}
+use Rattle.flow.specs.Which.{permitsAll}
+use Rattle.flow.specs.Parts.{queueOf, capacityOf, stageHolds, withCredits, withQueue}
+use Rattle.flow.specs.Offer.{queueFor, controlFrame, needsOf, markOf}
+use Rattle.flow.specs.Tick as flow
+use Rattle.flow.proofs.Held.{Staged, staged}
+use Rattle.flow.proofs.Range.{start-credit, start-queue, start-stage}
+use Rattle.flow.proofs.Offer.{enter-taken}
+use Rattle.flow.proofs.Frames.{start-frames, enter-appends}
+use Rattle.fair.proofs.Count.{over-exactly}
+use Rattle.station.specs.declared.Station.{Station}
+use Rattle.station.specs.declared.Done.{Done}
+use Rattle.station.specs.Range.{stationOk, StationOk}
+use Rattle.station.specs.Answers.{withFlow, doneOf}
+use Rattle.station.specs.Calls.{flagsOk, tickOf}
+use Rattle.station.specs.Offers.{givenFrame, offerOf, overFor, wayFor}
+use Rattle.station.specs.History.{Answer}
+use Rattle.station.proofs.Range.{facts-in-range}
+use Rattle.station.proofs.Calls.{start-done, tick-done, select-done}
+use Rattle.station.proofs.Interval.{age-ages}
+use Rattle.station.proofs.Offers.{offer-taken, client-occupied, client-denied, client-passing, client-entered}
+use Rattle.station.proofs.Hear.{hear-whole, listen-done, tell-done}
+use Rattle.station.proofs.History.{trace-creditless}
+use Rattle.paper.specs.Acts.{Starts, Brings, Passes, Stages, Acts, Traces}
+
+pub starts : (s : Settings) → Starts s
+unfolding ownRateOf emptyQueue
+starts s =
+    record {
+      credits = start-credit s;
+      slots = λ l. ap (λ (q : Queue). q .slots) (start-queue s l);
+      queues = start-frames s;
+      stage = start-stage s;
+      rates = refl;
+      settings = refl;
+      whatever = λ st ok. start-done st s ok;
+    }
+
+-- a flow with one queue anew
+module _ (f : Flow) (q : Queue) where
+  other-queue : (l k : Line) → (k ≡ l → ⊥) → queueOf (withQueue f l q) k ≡ queueOf f k
+  other-queue Control Control n = absurd (n refl)
+  other-queue Control Primary n = refl
+  other-queue Control Secondary n = refl
+  other-queue Primary Control n = refl
+  other-queue Primary Primary n = absurd (n refl)
+  other-queue Primary Secondary n = refl
+  other-queue Secondary Control n = refl
+  other-queue Secondary Primary n = refl
+  other-queue Secondary Secondary n = absurd (n refl)
+
+  other-parts : (l : Line) → (withQueue f l q .credits ≡ f .credits) × (withQueue f l q .stage ≡ f .stage)
+  other-parts Control = (refl, refl)
+  other-parts Primary = (refl, refl)
+  other-parts Secondary = (refl, refl)
+
+module _ {st : Station} (ok : StationOk st) where
+  in-range : test (stationOk st) ≡ true
+  in-range = facts-in-range st ok
+
+  -- a frame in range passes the test
+  tested : {x : Frame} → FrameOk (st .settings .mtu) x → test (frameOk (st .settings .mtu) x) ≡ true
+  tested {x} frame = passes (frameOk (st .settings .mtu) x) (frame-holds (st .settings .mtu) x frame)
+
+  brings : (l : Line) (x : Frame) → FrameOk (st .settings .mtu) x → x .size ≤ spaceOf (queueOf (st .flow) l) (capacityOf (st .settings) l) → Brings st l x (offerOf st l x)
+  brings l x frame fits =
+      let q = pushed (queueOf (st .flow) l) x in
+      let parts = other-parts (st .flow) q l in
+      subst (Brings st l x)
+      (sym (offer-taken st l x in-range (tested frame) fits))
+      (record {
+        number = refl;
+        last =
+            subst (λ (e : Entered). framesOf (queueOf (e .flow) l) ≡ framesOf (queueOf (st .flow) l) ++ (x ∷ []))
+            (enter-taken (st .settings) (st .flow) l x fits) (enter-appends (st .settings) (st .flow) (ok .settings) (ok .flow) l x frame fits);
+        others = other-queue (st .flow) q l;
+        kept = (parts .0, parts .1, refl, refl);
+      })
+
+  empty : (Staged (st .flow) → ⊥) → stageHolds (st .flow) ≡ false
+  empty none = by-cases (true-or-false (stageHolds (st .flow))) (λ h. absurd (none (staged (st .flow) .0 h))) (λ h. h)
+
+  module _ (class size hops : ℕ) (frame : FrameOk (st .settings .mtu) (givenFrame class size hops 0)) where
+    -- what is asked for 7: the frame is eligible, and would pass the rate
+    abbrev asked : Bool
+    asked = eqb (markOf (wayFor st class)) 1 && overFor st size hops
+
+    asked-exactly : (asked ≡ true) ↔ ((markOf (wayFor st class) ≡ 1) × Passes (st .fair) size hops)
+    asked-exactly =
+        let marked = markOf (wayFor st class) in
+        let over = over-exactly (st .fair) size hops in (
+          λ e. let p = both (eqb marked 1) (overFor st size hops) e in (eqb-true marked 1 (p .0), over .0 (p .1)),
+          λ p. and-i (eqb marked 1) (overFor st size hops) (eq-eqb marked 1 (p .0)) (over .1 (p .1)),
+        )
+
+    stages : Stages st class size hops (wayFor st class)
+    stages =
+        record {
+          full = λ some. client-occupied st class size hops in-range (tested frame) (staged (st .flow) .1 some);
+          barred = λ none lacks. client-denied st class size hops in-range (tested frame) (empty none)
+              (by-cases (true-or-false (permitsAll (st .settings) (st .flow .credits) (needsOf (wayFor st class)))) (λ p. absurd (lacks p)) (λ p. p));
+          passing = λ none may marked past. client-passing st class size hops in-range (tested frame) (empty none) may (asked-exactly .1 (marked, past));
+          taken = λ none may no. client-entered st class size hops in-range (tested frame) (empty none) may
+              (by-cases (true-or-false asked) (λ e. absurd (no (asked-exactly .0 e))) (λ e. e));
+        }
+
+  tick-credits : (a b c : ℕ) → test (flagsOk a b c) ≡ true
+      → tickOf st a b c ≡ doneOf (withFlow st (withCredits (st .flow) (tickOf st a b c .station .flow .credits)))
+  unfolding flow.tickOf
+  tick-credits a b c flags =
+      subst (λ (r : Done). r ≡ doneOf (withFlow st (withCredits (st .flow) (r .station .flow .credits)))) (sym (tick-done st a b c in-range flags)) refl
+
+  pub acts : Acts st
+  acts =
+      record {
+        tick = tick-credits;
+        transit = λ class size hops eligible. brings (queueFor class) (givenFrame class size hops eligible);
+        control = λ size. brings Control (controlFrame size);
+        client = stages;
+        select = select-done st in-range;
+        age = age-ages ok;
+        hear = λ frame w r t o. hear-whole st frame w ∙ listen-done st _ r in-range t o;
+        tell = tell-done st in-range;
+      }
+
+pub traces : (st : Station) (w : Which) (r : Answer) → Traces st w r
+traces st w r =
+    record {
+      tick = λ a b c e. rw (eq-eqb (r .number) 0 e);
+      no-tick = λ a b c n. rw (ne-eqb (r .number) 0 n);
+      client = λ class size hops e. rw (eq-eqb (r .number) 0 e);
+      no-client = λ class size hops n. rw (ne-eqb (r .number) 0 n);
+      control = λ e. rw (eq-eqb (r .origin) 1 e);
+      secondary = λ e t. rw (e, t);
+      needy = λ e t. rw (e, t);
+      elsewhere = λ m n. rw (ne-eqb (r .origin) 1 m, ne-eqb (r .origin) 3 n);
+      creditless = λ c k. trace-creditless w c r st k;
+    }

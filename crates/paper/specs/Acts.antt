@@ -1,0 +1,170 @@
+-- How a station starts, what each call makes of a station in range where it is carried out (which rule is applied to which of its parts), and what each call is
+-- to a shaper's record, for the second condition. Assumes nothing.
+use Prim.Native.Nat.{ℕ, _+_, _*_, _-_, _/_, _≤_, _<_, min}
+use mathlib.Core.Bool.{true, false}
+use mathlib.Core.List.{List, [], _∷_, _++_}
+use mathlib.Core.Path.{_≡_}
+use lib.Dec.{eqb}
+use lib.ListN.{replicate}
+use Rattle.decide.specs.Test.{test}
+use Rattle.shaper.specs.Credit as shaper
+use Rattle.settings.specs.declared.Settings.{Settings}
+use Rattle.settings.specs.Range.{settingsOk}
+use Rattle.queue.specs.declared.Frame.{Frame}
+use Rattle.queue.specs.Frame.{FrameOk, wordOf}
+use Rattle.queue.specs.Queue.{framesOf, sizes, spaceOf}
+use Rattle.advert.specs.Frame.{whole, advertIn}
+use Rattle.flow.specs.declared.Credits.{Credits}
+use Rattle.flow.specs.declared.Line.{Line}
+use Rattle.flow.specs.declared.Line.the-variants.{Control}
+use Rattle.flow.specs.declared.Way.{Way}
+use Rattle.flow.specs.declared.Which.{Which}
+use Rattle.flow.specs.declared.Which.the-variants.{M, D}
+use Rattle.flow.specs.Which.{bucketOf, creditOf, permitsAll, sends, fed}
+use Rattle.flow.specs.Parts.{queueOf, capacityOf, withCredits, withStage}
+use Rattle.flow.specs.Tick.{waits}
+use Rattle.flow.specs.Offer.{queueFor, wayOf, needsOf, markOf, clientFrame}
+use Rattle.flow.specs.Events.{wayBack}
+use Rattle.flow.specs.Select as flow
+use Rattle.flow.proofs.Held.{Staged}
+use Rattle.fair.specs.declared.Fair.{Fair}
+use Rattle.fair.specs.Age as interval
+use Rattle.fair.specs.Range.{ttlOk}
+use Rattle.fair.specs.Count.{countOf}
+use Rattle.fair.specs.Advertise.{ownRinglet, ownAddress, heardOf, toldOf}
+use Rattle.station.specs.declared.Station.{Station}
+use Rattle.station.specs.declared.Done.{Done}
+use Rattle.station.specs.Answers.{withFlow, withFair, doneOf}
+use Rattle.station.specs.Calls.{freshOf, startOf, flagsOk, tickOf, selectOf, ageOf}
+use Rattle.station.specs.Offers.{turnedOf, offerTransitOf, offerControlOf, offerClientOf}
+use Rattle.station.specs.Hear.{hearOf, tellOf}
+use Rattle.station.specs.History as history
+use Rattle.station.specs.History.{Call, Answer, trace}
+use Rattle.station.proofs.Tick.{amountFor}
+
+-- ---- start
+
+pub record Starts (s : Settings) : Type 0 where
+  -- Credit starts at loLimit.
+  pub credits : (w : Which) → creditOf (freshOf s .flow .credits) w ≡ bucketOf s w .lo
+  -- Each queue has 128 slots, all empty at the start, and so is the stage.
+  pub slots : (l : Line) → queueOf (freshOf s .flow) l .slots ≡ replicate 128 0
+  pub queues : (l : Line) → framesOf (queueOf (freshOf s .flow) l) ≡ []
+  pub stage : freshOf s .flow .stage ≡ 0
+  -- Counters and smoothed rates start at 0, own rate by its formula, other rates at unreservedRate, with no congestion, received ttl 255, received address
+  -- and rate 0.
+  pub rates : freshOf s .fair
+      ≡ record {
+        counters = record { add = 0; fw = 0; addc = 0; fwc = 0 };
+        smoothed = record { add = 0; fw = 0; addc = 0; fwc = 0 };
+        local = s .fairness .unreserved;
+        allowed = s .fairness .unreserved;
+        allowedc = s .fairness .unreserved;
+        own = min (s .fairness .unreserved / (s .fairness .weight * s .fairness .unit)) 65534;
+        congested = 0;
+        downstream = 0;
+        ttl = 255;
+        high = 0;
+        low = 0;
+        rate = 0;
+      }
+  pub settings : freshOf s .settings ≡ s
+  -- It is so whatever the station was.
+  pub whatever : (st : Station) → test (settingsOk s) ≡ true → startOf st s ≡ doneOf (freshOf s)
+
+-- ---- calls on a station in range
+
+-- the frame stands last in the queue, and nothing else changes
+pub record Brings (st : Station) (l : Line) (x : Frame) (r : Done) : Type 0 where
+  pub number : r .number ≡ 0
+  pub last : framesOf (queueOf (r .station .flow) l) ≡ framesOf (queueOf (st .flow) l) ++ (x ∷ [])
+  pub others : (k : Line) → (k ≡ l → ⊥) → queueOf (r .station .flow) k ≡ queueOf (st .flow) k
+  pub kept : (r .station .flow .credits ≡ st .flow .credits) × (r .station .flow .stage ≡ st .flow .stage)
+      × (r .station .fair ≡ st .fair) × (r .station .settings ≡ st .settings)
+
+-- each shaper that a client's frame needs, going in this way, permits
+abbrev pub Permits : Station → Way → Type 0
+Permits st way = permitsAll (st .settings) (st .flow .credits) (needsOf way) ≡ true
+
+-- downstream congested, hops > hopsToCongestion = 256 − ttl, and addRateCongested + size > allowedRateCongested
+abbrev pub Passes : Fair → ℕ → ℕ → Type 0
+Passes f size hops = ((f .downstream ≡ 1) × (256 - f .ttl < hops)) × (f .allowedc < f .counters .addc + size)
+
+-- A client's frame in range, where it goes in this way. A client gives no mark.
+pub record Stages (st : Station) (class size hops : ℕ) (way : Way) : Type 0 where
+  -- The stage holds one client frame.
+  pub full : Staged (st .flow) → offerClientOf st class size hops ≡ turnedOf st 5
+  -- Client A needs .. A. Client B needs .. B and D .. Excess B and C need C and D.
+  pub barred : (Staged (st .flow) → ⊥) → (Permits st way → ⊥) → offerClientOf st class size hops ≡ turnedOf st 6
+  -- If downstream congested, an eligible client frame with hops > hopsToCongestion gets 7 when addRateCongested + size > allowedRateCongested.
+  pub passing : (Staged (st .flow) → ⊥) → Permits st way → markOf way ≡ 1 → Passes (st .fair) size hops → offerClientOf st class size hops ≡ turnedOf st 7
+  -- Else the frame lies in the stage, with its mark, and each needed shaper has one send of its size.
+  pub taken : (Staged (st .flow) → ⊥) → Permits st way → ((markOf way ≡ 1) × Passes (st .fair) size hops → ⊥)
+      → offerClientOf st class size hops
+      ≡ record {
+        number = 0;
+        detail = 0;
+        mark = markOf way;
+        station =
+            withFlow st
+            (withStage (withCredits (st .flow) (fed (st .settings) (st .flow .credits) (sends (needsOf way) size))) (wordOf (clientFrame way class size hops)));
+      }
+
+pub record Acts (st : Station) : Type 0 where
+  -- A tick changes credits alone.
+  pub tick : (a b c : ℕ) → test (flagsOk a b c) ≡ true
+      → tickOf st a b c ≡ doneOf (withFlow st (withCredits (st .flow) (tickOf st a b c .station .flow .credits)))
+  -- Transit A goes to the primary queue, B and C to the secondary.
+  pub transit : (class size hops eligible : ℕ)
+      → let x : Frame = record { size = size; hops = hops; class = class; mark = eligible } in
+      FrameOk (st .settings .mtu) x → size ≤ spaceOf (queueOf (st .flow) (queueFor class)) (capacityOf (st .settings) (queueFor class))
+      → Brings st (queueFor class) x (offerTransitOf st class size hops eligible)
+  -- Control frames, given by size alone (class A, 1 hop), go to the control queue.
+  pub control : (size : ℕ)
+      → let x : Frame = record { size = size; hops = 1; class = 0; mark = 0 } in
+      FrameOk (st .settings .mtu) x → size ≤ spaceOf (st .flow .control) (st .settings .queues .control)
+      → Brings st Control x (offerControlOf st size)
+  -- A client's frame goes in by the credits of the station.
+  pub client : (class size hops : ℕ) → FrameOk (st .settings .mtu) (record { size = size; hops = hops; class = class; mark = 0 })
+      → Stages st class size hops (wayOf (st .settings) (st .flow .credits) class)
+  -- The selected frame is counted by where it came from, its mark, hops and size.
+  pub select :
+      let r = flow.selectOf (st .settings) (st .flow) in
+      selectOf st ≡ record {
+        number = 0;
+        detail = 0;
+        origin = r .origin;
+        frame = r .frame;
+        station = record {
+          settings = st .settings;
+          flow = r .flow;
+          fair = countOf (st .fair) (r .origin) (r .frame .mark) (r .frame .hops) (r .frame .size);
+        };
+      }
+  -- An aging interval looks at the bytes of the secondary queue.
+  pub age : ageOf st ≡ doneOf (withFair st (interval.ageOf (st .fair) (st .settings) (sizes (framesOf (st .flow .secondary)))))
+  -- A whole frame of the other ringlet, with a ttl in range and another's address, is heard.
+  pub hear : (frame : List ℕ) → test (whole frame) ≡ true → test (ownRinglet (st .settings) (advertIn frame)) ≡ false
+      → test (ttlOk (advertIn frame .ttl)) ≡ true → test (ownAddress (st .settings) (advertIn frame)) ≡ false
+      → hearOf st frame ≡ doneOf (withFair st (heardOf (st .fair) (advertIn frame)))
+  -- What is told is told of the station's own fair rates.
+  pub tell : tellOf st ≡ record { number = 0; detail = 0; advert = toldOf (st .fair) (st .settings) }
+
+-- ---- a shaper's record: what a call with this answer is to it
+
+pub record Traces (st : Station) (w : Which) (r : Answer) : Type 0 where
+  -- one event per tick,
+  pub tick : (a b c : ℕ) → r .number ≡ 0
+      → trace w (history.tick a b c) r st ≡ shaper.tickOf (waits (st .flow) (eqb a 1) (eqb b 1) (eqb c 1) w) (amountFor st w) ∷ []
+  pub no-tick : (a b c : ℕ) → (r .number ≡ 0 → ⊥) → trace w (history.tick a b c) r st ≡ []
+  -- one send per charge: of a client's frame that was taken, to the shapers that it needs by its class and mark;
+  pub client : (class size hops : ℕ) → r .number ≡ 0
+      → trace w (history.offerClient class size hops) r st ≡ sends (needsOf (wayBack class (r .mark))) size w
+  pub no-client : (class size hops : ℕ) → (r .number ≡ 0 → ⊥) → trace w (history.offerClient class size hops) r st ≡ []
+  -- of a selected frame, to M where it is a control frame, and to D where it is a secondary one and mtu ≤ its queue's space.
+  pub control : r .origin ≡ 1 → trace w history.select r st ≡ sends (M ∷ []) (r .frame .size) w
+  pub secondary : r .origin ≡ 3 → test (flow.needy (st .settings) (st .flow)) ≡ false → trace w history.select r st ≡ sends (D ∷ []) (r .frame .size) w
+  pub needy : r .origin ≡ 3 → test (flow.needy (st .settings) (st .flow)) ≡ true → trace w history.select r st ≡ []
+  pub elsewhere : (r .origin ≡ 1 → ⊥) → (r .origin ≡ 3 → ⊥) → trace w history.select r st ≡ []
+  -- No credit is asked: the record is not made from what it is to be compared with.
+  pub creditless : (c : Call) (k : Credits) → trace w c r (withFlow st (withCredits (st .flow) k)) ≡ trace w c r st
