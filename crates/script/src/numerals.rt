@@ -93,7 +93,7 @@ impl Row {
         if count < ROOM {
             next.values[count] = n;
             next.count = count + 1;
-            next.largest = larger(self.largest, n);
+            next.largest = decide::larger(self.largest, n);
         }
         next
     }
@@ -103,10 +103,6 @@ impl Row {
         next.wrong = true;
         next
     }
-}
-
-fn larger(a: u64, b: u64) -> u64 {
-    if a < b { b } else { a }
 }
 
 // The number that all characters spell as digits of a base. No digit at all is wrong, and so is a number that does not fit.

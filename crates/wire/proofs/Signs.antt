@@ -31,12 +31,7 @@ signed-unsigned (negsuc m) h =
     let e : 18446744073709551615 - (18446744073709551615 - m) ≡ m = omega arith in
     signed-high (18446744073709551615 - m) (omega arith) ∙ ap negsuc e
 
--- the ranges of both
-pub signed-bound : (n : ℕ) → n < 18446744073709551616 → mag (signedOf n) < 9223372036854775808
-signed-bound n h =
-    ⊎-elim (λ g. rw (signed-high n (omega arith)) (omega arith)) (λ l. rw (signed-low n (omega arith)) (omega arith))
-    (eq-zero-or-pos (9223372036854775808 - n))
-
+-- what is stored fits 64 bits
 pub unsigned-bound : (z : ℤ) → mag z < 9223372036854775808 → unsignedOf z < 18446744073709551616
 unfolding unsignedOf
 unsigned-bound (pos n) h = omega arith

@@ -1,6 +1,6 @@
 -- An undelivered path takes all 2 × stations hops, or none. A frame that has moved came over a usable link, which lies behind it; so only at the start can both
 -- links of its station be unusable. Assumes nothing.
-use mathlib.Core.Path.{_≡_, refl, sym, ap, _∙_}
+use mathlib.Core.Path.{_≡_, sym, ap, _∙_}
 use mathlib.Core.Bool.{true, false, true≢false}
 use mathlib.Core.Logic.{_⊎_, inl, inr}
 use Prim.Native.Nat.{ℕ, zero, suc, _<_}
@@ -8,16 +8,11 @@ use lib.ListN.{length}
 use Rattle.decide.proofs.Cases.{by-cases, true-or-false}
 use Rattle.ring.specs.declared.Way.{Way}
 use Rattle.ring.specs.declared.Way.the-variants.{Left, Right}
-use Rattle.ring.specs.Links.{usable, otherOf, nextOf, linkOf, aheadOf}
+use Rattle.ring.specs.Links.{usable, otherOf, aheadOf}
 use Rattle.ring.proofs.Around.{nextOf-lt}
-use Rattle.ring.proofs.Hops.{back}
+use Rattle.ring.proofs.Links.{both-ends}
 use Rattle.wrap.specs.Walking.{Course, Ringlet, atHome, courseOf}
 use Rattle.wrap.proofs.Courses.{of-course, used-home, stuck}
-
--- the link behind a station is the one that was crossed
-behind : (way : Way) (n at : ℕ) → at < n → linkOf (otherOf way) n (nextOf way n at) ≡ linkOf way n at
-behind Left n at h = refl
-behind Right n at h = back Right n at h
 
 module _ (stations links target : ℕ) (home : Way) where
   abbrev course : ℕ → Ringlet → ℕ → Course
@@ -44,7 +39,7 @@ module _ (stations links target : ℕ) (home : Way) where
       record {
         station = nextOf-lt way stations at (s .station);
         way = otherOf way;
-        link = ap (usable links) (behind way stations at (s .station)) ∙ u;
+        link = ap (usable links) (sym (both-ends way stations at (s .station))) ∙ u;
       })
       (λ left c. c .delivered ≡ false → length (c .links) ≡ left)
       (λ left at d s t f e. by-cases (f e) (λ z. sym z) (λ c. absurd (never-caught home (s .way) at (s .link) (c .0) (c .1))))
