@@ -7,9 +7,9 @@ use mathlib.Core.Path.{_≡_, refl, _∙_}
 use native.Mathlib.Omega.{arith}
 use native.Mathlib.Nat.{add-zero, add-assoc}
 use lib.ListN.{length, drop}
-use Rattle.decide.specs.Test.{Holds}
+use Rattle.decide.specs.Test.{Holds, test}
 use Rattle.shaper.specs.declared.Limits.{Limits}
-use Rattle.shaper.specs.Limits.{limitsOk}
+use Rattle.shaper.specs.Limits.{limitsOk, mostEvents}
 use Rattle.wire.specs.Wire.{le, Bytes}
 use Rattle.tally.specs.declared.Tally.{Tally}
 use Rattle.tally.specs.Tally.{stepOf, Ready}
@@ -43,7 +43,7 @@ module _ (l : Limits) (xs : List ℕ) (from n : ℕ) (t : Tally) where
   passed-none p = record { ready = rw add-zero p; same = rw (add-zero n, add-zero from) }
 
   -- one, whose fields are good
-  pub passed-one : Ready l n t → n < 1000000 → Bytes xs → from + 6 ≤ length xs → GoodAt (l .mtu) xs from →
+  pub passed-one : Ready l n t → n < mostEvents → Bytes xs → from + 6 ≤ length xs → GoodAt (l .mtu) xs from →
       Passed l xs from n t 1 (stepOf (l .hi - l .lo) (le 2 xs (from + 2)) (le 2 xs (from + 4)) t)
   passed-one p few b h g = record { ready = rest-good-ready l n t p xs from few b g; same = rest-good l n t p xs from few b h g }
 
@@ -54,7 +54,7 @@ module _ (l : Limits) (xs : List ℕ) (from n : ℕ) (t : Tally) where
       record { ready = rw (add-assoc n m k) at (q .ready); same = p .same ∙ (rw (z, add-assoc n m k) at (q .same)) }
 
   -- one that the decoder finds; what is left begins where the decoder says
-  pub passed-found : Ready l n t → n < 1000000 → Bytes xs → (k v c next : ℕ) → stepAt (l .mtu) xs from ≡ Stands k v c next →
+  pub passed-found : Ready l n t → n < mostEvents → Bytes xs → (k v c next : ℕ) → stepAt (l .mtu) xs from ≡ Stands k v c next →
       (next ≡ from + 6) × Passed l xs from n t 1 (stepOf (l .hi - l .lo) k v t)
   passed-found p few b k v c next e =
       let s = step-stands (l .mtu) xs from k v c next e in
@@ -64,13 +64,13 @@ module _ (l : Limits) (xs : List ℕ) (from n : ℕ) (t : Tally) where
 -- ---- what stops a walk, and what the test with no branch tells
 
 -- any byte after the millionth event gives 9
-pub rest-late : (l : Limits) (n : ℕ) (t : Tally) (xs : List ℕ) (at : ℕ) → n ≡ 1000000 → at < length xs → restOf l n t (drop at xs) ≡ Refused 9
+pub rest-late : (l : Limits) (n : ℕ) (t : Tally) (xs : List ℕ) (at : ℕ) → n ≡ mostEvents → at < length xs → restOf l n t (drop at xs) ≡ Refused 9
 rest-late l n t xs at e h = rw e (rest-over l t xs at h)
 
 -- an event that adds no fault is good
-pub flaw-none : (mtu len kind num : ℕ) → _≡_ {A = ℕ} (cond (good mtu len kind num) 0 1) 0 → Good mtu len kind num
-flaw-none mtu len kind num e = by (good mtu len kind num) refl
+pub flaw-none : (mtu len kind num : ℕ) → _≡_ {A = ℕ} (cond (test (good mtu len kind num)) 0 1) 0 → Good mtu len kind num
+flaw-none mtu len kind num e = by (test (good mtu len kind num)) refl
   where
-    by : (b : Bool) → good mtu len kind num ≡ b → Good mtu len kind num
+    by : (b : Bool) → test (good mtu len kind num) ≡ b → Good mtu len kind num
     by true t = good-facts mtu len kind num t
     by false t = let z : _≡_ {A = ℕ} 1 0 = rw t at e in absurd (omega arith)

@@ -29,11 +29,11 @@ valid-right l [] ys v = v
 valid-right l (e ∷ xs) ys v = valid-right l xs ys (v .1)
 
 -- a part of a well-formed record is one
-part-left : (l : Limits) (xs ys : List Event) → WellFormed l (xs ++ ys) → WellFormed l xs
+pub part-left : (l : Limits) (xs ys : List Event) → WellFormed l (xs ++ ys) → WellFormed l xs
 part-left l xs ys w =
     record { settings = w .settings; valid = valid-left l xs ys (w .valid); few = omega (arith, w .few, length-append xs ys) }
 
-part-right : (l : Limits) (xs ys : List Event) → WellFormed l (xs ++ ys) → WellFormed l ys
+pub part-right : (l : Limits) (xs ys : List Event) → WellFormed l (xs ++ ys) → WellFormed l ys
 part-right l xs ys w =
     record { settings = w .settings; valid = valid-right l xs ys (w .valid); few = omega (arith, w .few, length-append xs ys) }
 

@@ -12,10 +12,11 @@ use Rattle.summary.specs.declared.Answer.{Answer}
 use Rattle.summary.specs.Summary.{summaryOf}
 use Rattle.record.specs.Record.{written, WellFormed}
 use Rattle.record.specs.Read.{Read, unreadable, whole, readRecord}
+use Rattle.record.specs.Cause.{Cause}
 use Rattle.record.proofs.Written.{written-read, read-written}
 use Rattle.record.proofs.Earliest.{no-bytes}
-use Rattle.record.proofs.Means.{Cause, unreadable-means, means-unreadable}
-use Rattle.account.specs.Account.{summarized, summarizeOf}
+use Rattle.record.proofs.Means.{unreadable-means, means-unreadable}
+use Rattle.account.specs.Account.{summarized, summarizeOf, Accounted}
 
 -- ---- refused
 
@@ -45,14 +46,6 @@ summarize-none = summarize-unreadable [] 2 .1 no-bytes
 pub summarize-written : (l : Limits) (es : List Event) → WellFormed l es → summarizeOf (written l es) ≡ Answer.Summed (summaryOf l es)
 unfolding summarizeOf
 summarize-written l es w = ap summarized (written-read l es w)
-
--- the record behind a summary
-pub record Accounted (xs : List ℕ) (s : Summary) : Type 0 where
-  pub settings : Limits
-  pub events : List Event
-  pub well-formed : WellFormed settings events
-  pub bytes : xs ≡ written settings events
-  pub sums : s ≡ summaryOf settings events
 
 summed-read : (xs : List ℕ) (s : Summary) → Bytes xs → (r : Read) → readRecord xs ≡ r → summarized r ≡ Answer.Summed s → Accounted xs s
 summed-read xs s b (unreadable n) e h = let z : _≡_ {A = ℕ} 0 1 = cc in absurd (omega arith)

@@ -8,7 +8,7 @@ use lib.ListN.{length, drop}
 use Rattle.decide.specs.Test.{Holds}
 use Rattle.shaper.specs.declared.Limits.{Limits}
 use Rattle.shaper.specs.declared.Event.{Event}
-use Rattle.shaper.specs.Limits.{limitsOk}
+use Rattle.shaper.specs.Limits.{limitsOk, mostEvents}
 use Rattle.shaper.specs.Credit.{Valid, AllValid}
 use Rattle.shaper.specs.Kind.{kindOf, numberOf, eventOf}
 use Rattle.wire.specs.Wire.{le, Bytes}
@@ -56,7 +56,7 @@ unfolding summarizeOf restOf
 rest-start xs l b e =
     let h = header-stands xs l e in
     ap summarized (h .goes-on)
-    ∙ start-by l (h .in-range) (readFrom (l .mtu) 1000000 (drop 14 xs)) (valid-read l 1000000 (drop 14 xs) (bytes-drop 14 xs b))
+    ∙ start-by l (h .in-range) (readFrom (l .mtu) mostEvents (drop 14 xs)) (valid-read l mostEvents (drop 14 xs) (bytes-drop 14 xs b))
 
 -- one that does not
 pub rest-unreadable : (xs : List ℕ) (n : ℕ) → headerOf xs ≡ Unreadable n → summarizeOf xs ≡ Answer.Refused n
@@ -84,15 +84,15 @@ module _ (l : Limits) (n : ℕ) (t : Tally) (p : Ready l n t) where
   -- at the end the tally is the summary
   pub rest-end : (xs : List ℕ) (at : ℕ) → length xs ≤ at → restOf l n t (drop at xs) ≡ Answer.Summed (signedFrom (plainAt l n t))
   unfolding restOf
-  rest-end xs at h = rw (read-end (l .mtu) (1000000 - n) xs at h) (ap (λ q. Answer.Summed (signedFrom q)) (end-rest l n t p))
+  rest-end xs at h = rw (read-end (l .mtu) (mostEvents - n) xs at h) (ap (λ q. Answer.Summed (signedFrom q)) (end-rest l n t p))
 
   step-by : (e : Event) → Valid l e → (r : Events) → ValidEvents l r →
       rested l (plainAt l n t) (onward 0 e r) ≡ rested l (plainAt l (n + 1) (stepOf (l .hi - l .lo) (kindOf e) (numberOf e) t)) r
   step-by e v (faulty m) w = refl
   step-by e v (events es) w = ap (λ q. Answer.Summed (signedFrom q)) (step-rest l n t p e v es w)
 
-  module _ (xs : List ℕ) (at : ℕ) (few : n < 1000000) where
-    left-is : 1000000 - n ≡ suc (1000000 - (n + 1))
+  module _ (xs : List ℕ) (at : ℕ) (few : n < mostEvents) where
+    left-is : mostEvents - n ≡ suc (mostEvents - (n + 1))
     left-is = omega arith
 
     -- good fields at a place: the event is counted, and what stands behind it is left
@@ -100,7 +100,7 @@ module _ (l : Limits) (n : ℕ) (t : Tally) (p : Ready l n t) where
     unfolding restOf
     rest-good b h g =
         let f = fields-at xs at l g in
-        let left = 1000000 - (n + 1) in
+        let left = mostEvents - (n + 1) in
         rw (left-is, read-good (l .mtu) xs at left h g)
         (rw (f .0, f .1) at (step-by (eventAt xs at) (valid-at xs at l g b) (readFrom (l .mtu) left (drop (at + 6) xs)) (valid-read l left (drop (at + 6) xs) (bytes-drop (at + 6) xs b))))
 
@@ -112,9 +112,9 @@ module _ (l : Limits) (n : ℕ) (t : Tally) (p : Ready l n t) where
     -- a fault at a place
     pub rest-faulty : (f : ℕ) → stepAt (l .mtu) xs at ≡ Faulty f → restOf l n t (drop at xs) ≡ Answer.Refused f
     unfolding restOf
-    rest-faulty f e = rw (left-is, step-faulty (l .mtu) xs at f e .stops (1000000 - (n + 1)))
+    rest-faulty f e = rw (left-is, step-faulty (l .mtu) xs at f e .stops (mostEvents - (n + 1)))
 
 -- any byte after the millionth event gives 9
-pub rest-over : (l : Limits) (t : Tally) (xs : List ℕ) (at : ℕ) → at < length xs → restOf l 1000000 t (drop at xs) ≡ Answer.Refused 9
+pub rest-over : (l : Limits) (t : Tally) (xs : List ℕ) (at : ℕ) → at < length xs → restOf l mostEvents t (drop at xs) ≡ Answer.Refused 9
 unfolding restOf
 rest-over l t xs at h = rw (read-over (l .mtu) xs at h)

@@ -1,9 +1,14 @@
 -- What a record comes to: the summary of its events, event by event, or the number of its earliest fault.
 -- Assumes nothing.
-use mathlib.Core.List.{List}
 use Prim.Native.Nat.{ℕ}
+use mathlib.Core.List.{List}
+use mathlib.Core.Path.{_≡_}
+use Rattle.shaper.specs.declared.Limits.{Limits}
+use Rattle.shaper.specs.declared.Event.{Event}
+use Rattle.summary.specs.declared.Summary.{Summary}
 use Rattle.summary.specs.declared.Answer.{Answer}
 use Rattle.summary.specs.Summary.{summaryOf}
+use Rattle.record.specs.Record.{written, WellFormed}
 use Rattle.record.specs.Read.{Read, unreadable, whole, readRecord}
 
 abbrev pub summarized : Read → Answer
@@ -12,3 +17,11 @@ summarized (whole l es) = Answer.Summed (summaryOf l es)
 
 unfoldable pub summarizeOf : List ℕ → Answer
 summarizeOf xs = summarized (readRecord xs)
+
+-- the record behind a summary
+pub record Accounted (xs : List ℕ) (s : Summary) : Type 0 where
+  pub settings : Limits
+  pub events : List Event
+  pub well-formed : WellFormed settings events
+  pub bytes : xs ≡ written settings events
+  pub sums : s ≡ summaryOf settings events

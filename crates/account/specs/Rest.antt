@@ -5,6 +5,7 @@ use mathlib.Core.Path.{_≡_}
 use Prim.Native.Nat.{ℕ, _+_, _*_, _-_}
 use lib.ListN.{drop}
 use Rattle.shaper.specs.declared.Limits.{Limits}
+use Rattle.shaper.specs.Limits.{mostEvents}
 use Rattle.plain.specs.declared.Plain.{Plain}
 use Rattle.plain.specs.Plain.{plainJoined, plainOf}
 use Rattle.tally.specs.declared.Tally.{Tally}
@@ -19,7 +20,7 @@ rested l p (faulty n) = Answer.Refused n
 rested l p (events es) = Answer.Summed (signedFrom (plainJoined p (plainOf l es)))
 
 unfoldable pub restOf : Limits → ℕ → Tally → List ℕ → Answer
-restOf l n t ys = rested l (plainAt l n t) (readFrom (l .mtu) (1000000 - n) ys)
+restOf l n t ys = rested l (plainAt l n t) (readFrom (l .mtu) (mostEvents - n) ys)
 
 -- m events from a place on were tallied and none has a fault: what is left behind them has the answer of what was left before
 pub record Passed (l : Limits) (xs : List ℕ) (from n : ℕ) (t : Tally) (m : ℕ) (u : Tally) : Type 0 where

@@ -3,10 +3,9 @@ ghost use mathlib.Core.Path.{_≡_};
 ghost use mathlib.Core.Bool.{cond};
 ghost use Prim.Native.Nat.{_+_, _≤_};
 ghost use lib.ListN.{length, drop};
-ghost use Rattle.decide.specs.Test.{Holds};
-ghost use Rattle.shaper.specs.Limits.{limitsOk};
-ghost use Rattle.tally.specs.Tally.{startOf, plainAt, Ready};
-ghost use Rattle.summary.specs.Plain.{signedFrom};
+ghost use Rattle.decide.specs.Test.{Holds, test};
+ghost use Rattle.shaper.specs.Limits.{limitsOk, mostEvents};
+ghost use Rattle.tally.specs.Tally.{startOf, Ready};
 ghost use Rattle.record.specs.Read.{good};
 ghost use Rattle.account.specs.Account.{summarizeOf};
 ghost use Rattle.account.specs.Rest.{restOf, Passed};
@@ -18,10 +17,13 @@ use summary::Summary;
 use tally::Tally;
 
 // The most events that a record may have.
-const MAX_EVENTS: u64 = 1000000;
+const MAX_EVENTS: u64 = Summary::MAX_EVENTS as u64;
 
 // How many blocks of 64 events that is.
-const MAX_BLOCKS: u64 = 15625;
+const MAX_BLOCKS: u64 = MAX_EVENTS / 64;
+
+// The smallest size of a send.
+const MIN_SIZE: u64 = Summary::MIN_SIZE as u64;
 
 // A block that was tallied: the tally behind it, and how many of its events have a fault.
 struct Tallied {
@@ -66,7 +68,7 @@ fn events(s: &[u8], limits: Limits) -> Answer
 
 // The tally of the 64 events from a place on, with no branch on what they hold.
 fn block(s: &[u8], from: usize, limits: Limits, n: u64, start: Tally) -> Tallied
-    requires { ⌜ (from + 384 ≤ length (now s)) × Ready limits n start × (n + 64 ≤ 1000000) ⌝ }
+    requires { ⌜ (from + 384 ≤ length (now s)) × Ready limits n start × (n + 64 ≤ mostEvents) ⌝ }
     ensures { λ r. ⌜ (r .bad ≡ 0 → Passed limits (now (s .entry)) from n start 64 (r .tally)) ⌝ }
 {
     let mtu = limits.mtu as u64;
@@ -88,10 +90,10 @@ fn block(s: &[u8], from: usize, limits: Limits, n: u64, start: Tally) -> Tallied
 
 // 0 where an event's fields have no fault, else 1.
 fn flaw(mtu: u64, length: u64, kind: u64, number: u64) -> u64
-    ensures { λ r. ⌜ (r ≡ cond (good mtu length kind number) 0 1) × (r ≤ 1) ⌝ }
+    ensures { λ r. ⌜ (r ≡ cond (test (good mtu length kind number)) 0 1) × (r ≤ 1) ⌝ }
 {
     if (length == 6)
-        & (((1 <= kind) & (kind <= 3)) & ((kind < 3) | ((16 <= number) & (number <= mtu))))
+        & (((1 <= kind) & (kind <= 3)) & ((kind < 3) | ((MIN_SIZE <= number) & (number <= mtu))))
     {
         0
     } else {
@@ -124,7 +126,9 @@ fn walk(s: &[u8], from: usize, limits: Limits, count: u64, start: Tally) -> Answ
                 n += 1;
                 at = next;
             }
-            Step::End => return Answer::Summed(total(limits, n, t)),
+            Step::End => {
+                return Answer::Summed(summary::signed(tally::finish(limits, n, t)));
+            }
             Step::Faulty(fault) => {
                 if n == MAX_EVENTS {
                     return Answer::Refused(9);
@@ -132,24 +136,6 @@ fn walk(s: &[u8], from: usize, limits: Limits, count: u64, start: Tally) -> Answ
                 return Answer::Refused(fault);
             }
         }
-    }
-}
-
-// The summary of the n events that were tallied.
-fn total(limits: Limits, n: u64, t: Tally) -> Summary
-    requires { ⌜ Ready limits n t ⌝ }
-    ensures { λ r. ⌜ r ≡ signedFrom (plainAt limits n t) ⌝ }
-{
-    let sums = tally::finish(limits, n, t);
-    let events = n as u32;
-    let ceiling = plain::ceiling_of(limits.hi, sums.depth);
-    Summary {
-        limits: limits,
-        events: events,
-        accrued: sums.accrued,
-        sent: sums.sent,
-        ceiling: ceiling,
-        need: sums.need,
     }
 }
 

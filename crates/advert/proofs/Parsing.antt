@@ -4,9 +4,9 @@ use mathlib.Core.Bool.{true, false}
 use mathlib.Core.List.{List}
 use Prim.Native.Nat.{ℕ}
 use Rattle.decide.specs.Test.{test}
-use Rattle.decide.specs.Refusal.{first, firstOf}
+use Rattle.decide.specs.Refusal.{first, firstOf, RefusedExactly}
 use Rattle.decide.proofs.Cases.{by-cases, true-or-false}
-use Rattle.decide.proofs.Refusal.{RefusedExactly, refused-exactly}
+use Rattle.decide.proofs.Refusal.{refused-exactly}
 use Rattle.advert.specs.declared.Parsed.the-variants.{Frame, Refused}
 use Rattle.advert.specs.Frame.{whole, advertIn, parsedOf, parsedNumber, parseFaults}
 

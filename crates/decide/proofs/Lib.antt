@@ -2,3 +2,5 @@ pub mod Cases
 pub mod Tests
 pub mod Chain
 pub mod Refusal
+pub mod Order
+pub mod Refused

@@ -1,14 +1,14 @@
 -- The laws of `firstOf`: it gives a number exactly when a row that bears it applies and none before it does; and rows that are written in the order of
 -- their ranks may be tried one after the other. Assumes nothing.
 use Prim.Native.Nat.{ℕ, _≤_, _<_}
-use mathlib.Core.Bool.{Bool, true, false, cond, not, _&&_, _||_, true≢false}
+use mathlib.Core.Bool.{Bool, true, false, cond, not, _||_, true≢false}
 use mathlib.Core.List.{List, [], _∷_}
 use mathlib.Core.Logic.{_⊎_, inl, inr, ⊎-elim}
 use mathlib.Core.Path.{_≡_, refl, sym, ap, _∙_}
 use native.Mathlib.Omega.{arith}
 use borrow.Author.Tests.{leb-true, leb-false, eqb-true, le-leb, eq-eqb, not-true}
 use lib.Dec.{leb, eqb}
-use Rattle.decide.specs.Refusal.{Fault, First, nothing, row, earlier, first, numberOf, firstOf, Among, Given, Free, alike, ranked, notBefore, inOrder, chained}
+use Rattle.decide.specs.Refusal.{Fault, First, nothing, row, earlier, first, numberOf, firstOf, Among, Given, GivenExactly, RefusedExactly, Free, alike, ranked, notBefore, inOrder, chained}
 use Rattle.decide.specs.Test.{both, either}
 
 -- ---- the row that counts
@@ -117,21 +117,13 @@ gives-by fs (row f) n r s g =
     let q = g .none-before f (s .among) (s .applies) in
     ranked-number f (g .cause) fs r (s .among) (g .among) (omega arith) ∙ g .bears
 
--- "Given exactly when": the answer is n exactly when a row with n applies and none before it does.
-pub record Exactly (fs : List Fault) (n : ℕ) : Type 0 where
-  pub has-cause : firstOf fs ≡ n → Given fs n
-  pub is-given : Given fs n → firstOf fs ≡ n
-
-pub first-exact : (fs : List Fault) → ranked fs ≡ true → (n : ℕ) → 0 < n → Exactly fs n
+-- the answer is n exactly when a row with n applies and none before it does
+pub first-exact : (fs : List Fault) → ranked fs ≡ true → (n : ℕ) → 0 < n → GivenExactly fs n
 unfolding firstOf
 first-exact fs r n h =
     record { has-cause = given-by fs (first fs) n h (says fs); is-given = gives-by fs (first fs) n r (says fs) }
 
--- the same of the number that a call answers, which is that of its rows
-pub record RefusedExactly (number : ℕ) (fs : List Fault) : Type 0 where
-  pub has-cause : (n : ℕ) → 0 < n → number ≡ n → Given fs n
-  pub is-given : (n : ℕ) → 0 < n → Given fs n → number ≡ n
-
+-- and so is the number that a call answers, which is that of its rows
 pub refused-exactly : (fs : List Fault) → ranked fs ≡ true → (number : ℕ) → number ≡ firstOf fs → RefusedExactly number fs
 refused-exactly fs r number e =
     record {

@@ -1,2 +1,3 @@
 pub mod Test
 pub mod Refusal
+pub mod Size

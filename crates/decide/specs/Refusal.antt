@@ -1,7 +1,7 @@
 -- Refusals: of several faults, which one counts. Each call of the library lists its faults as rows, and its answer's number is `firstOf` of them.
 -- Assumes nothing.
-use Prim.Native.Nat.{ℕ, suc, _*_, _≤_, _<_}
-use mathlib.Core.Bool.{Bool, true, false, cond, not, _&&_, _||_}
+use Prim.Native.Nat.{ℕ, zero, suc, _*_, _≤_, _<_}
+use mathlib.Core.Bool.{Bool, true, cond, not, _&&_, _||_}
 use mathlib.Core.List.{List, [], _∷_}
 use mathlib.Core.Logic.{_⊎_}
 use mathlib.Core.Path.{_≡_}
@@ -51,6 +51,12 @@ numberOf (row f) = f .number
 unfoldable pub firstOf : List Fault → ℕ
 firstOf fs = numberOf (first fs)
 
+-- Each [refusal] returns its number alone: what a call comes to by the number of its rows. At 0 it is carried out, at any other number it is the
+-- refusal, which is made of that number; what the refusal leaves stands in `refused`.
+unfoldable pub refusedOr : {A : Type 0} → (ℕ → A) → ℕ → A → A
+refusedOr refused zero done = done
+refusedOr refused (suc n) done = refused (suc n)
+
 -- ---- what the laws say of rows
 
 abbrev pub Among : Fault → List Fault → Type 0
@@ -64,6 +70,16 @@ pub record Given (fs : List Fault) (n : ℕ) : Type 0 where
   pub bears : cause .number ≡ n
   pub applies : cause .applies ≡ true
   pub none-before : (g : Fault) → Among g fs → g .applies ≡ true → cause .rank ≤ g .rank
+
+-- "Given exactly when": the number of the rows is n exactly when a row with n applies and none before it does.
+pub record GivenExactly (fs : List Fault) (n : ℕ) : Type 0 where
+  pub has-cause : firstOf fs ≡ n → Given fs n
+  pub is-given : Given fs n → firstOf fs ≡ n
+
+-- the same of the number that a call answers, which is that of its rows
+pub record RefusedExactly (number : ℕ) (fs : List Fault) : Type 0 where
+  pub has-cause : (n : ℕ) → 0 < n → number ≡ n → Given fs n
+  pub is-given : (n : ℕ) → 0 < n → Given fs n → number ≡ n
 
 -- no row applies
 abbrev pub Free : List Fault → Type 0

@@ -1,13 +1,12 @@
 -- A refusal leaves what lies behind the reference as it was: where an entry point answers another number than 0, what its contract says of the exit is what was there at entry.
 -- Assumes nothing.
 use mathlib.Core.List.{List}
-use mathlib.Core.Path.{_≡_, refl}
-use Prim.Native.Nat.{ℕ, zero, suc, _<_}
-use native.Mathlib.Omega.{arith}
-use Rattle.decide.specs.Refusal.{firstOf}
+use mathlib.Core.Path.{_≡_}
+use Prim.Native.Nat.{ℕ, _<_}
 use Rattle.wire.specs.Wire.{Bytes}
 use Rattle.shaper.specs.declared.Shaper.{Shaper}
-use Rattle.shaper.specs.Shaper.{chargeFaults, chargedOf, chargeOf}
+use Rattle.shaper.specs.Shaper.{chargeOf}
+use Rattle.shaper.proofs.Charge as charge
 use Rattle.station.specs.declared.Station.{Station}
 use Rattle.station.specs.Calls.{tickOf, selectOf, ageOf}
 use Rattle.station.specs.Offers.{offerClientOf, offerTransitOf, offerControlOf}
@@ -38,10 +37,5 @@ module _ (st : Station) where
   pub hear-leaves : (frame : List ℕ) → Bytes frame → 0 < briefOf (hearOf st frame) .number → hearOf st frame .station ≡ st
   hear-leaves frame bytes = refused-leaves (hear frame bytes) st
 
-charged-leaves : (n : ℕ) (s : Shaper) (z : ℕ) → 0 < chargedOf n s z .number → chargedOf n s z .shaper ≡ s
-unfolding chargedOf
-charged-leaves zero s z h = absurd (omega arith)
-charged-leaves (suc n) s z h = refl
-
 pub charge-leaves : (s : Shaper) (size : ℕ) → 0 < chargeBriefOf (chargeOf s size) .number → chargeOf s size .shaper ≡ s
-charge-leaves s size h = charged-leaves (firstOf (chargeFaults s)) s size h
+charge-leaves s size = charge.charge-leaves s size

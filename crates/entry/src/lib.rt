@@ -10,7 +10,7 @@ use queue::Frame;
 use shaper::Shaper;
 use station::Station;
 
-// What most calls answer: 0 or the number of the refusal.
+// What most calls answer: 0 or the number of the refusal. `detail`, here and below, is what a refusal says beside its number: 0, as none says more.
 pub struct Brief {
     pub number: u8,
     pub detail: u32,

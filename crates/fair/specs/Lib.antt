@@ -3,3 +3,4 @@ pub mod Start
 pub mod Count
 pub mod Age
 pub mod Advertise
+pub mod ReadBack

@@ -5,7 +5,7 @@ use mathlib.Core.List.{List, [], _∷_, _++_, flatten}
 use mathlib.Core.Path.{_≡_, refl, sym, ap, _∙_}
 use Rattle.wire.specs.Wire.{Bytes}
 use Rattle.summary.specs.declared.Answer.{Answer}
-use Rattle.record.proofs.Means.{Cause}
+use Rattle.record.specs.Cause.{Cause}
 use Rattle.account.specs.Account.{summarizeOf}
 use Rattle.account.proofs.Promises.{summarize-refused-exactly}
 use Rattle.feed.specs.declared.Feed.{Feed}

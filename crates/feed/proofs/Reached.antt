@@ -14,7 +14,7 @@ use Rattle.wire.specs.Wire.{Bytes}
 use Rattle.wire.proofs.Places.{bytes-append}
 use Rattle.shaper.specs.declared.Limits.{Limits}
 use Rattle.shaper.specs.declared.Event.{Event}
-use Rattle.shaper.specs.Limits.{limitsOk}
+use Rattle.shaper.specs.Limits.{limitsOk, mostEvents}
 use Rattle.shaper.specs.Kind.{eventOf}
 use Rattle.shaper.proofs.Credit.{valid-append}
 use Rattle.summary.specs.declared.Summary.{Summary}
@@ -57,7 +57,7 @@ Fails n xs = (ys : List ℕ) → summarizeOf (xs ++ ys) ≡ Answer.Refused n
 -- what a stage with the bytes q held says of the bytes xs
 abbrev pub Told : Stage → List ℕ → List ℕ → Type 0
 Told Heading q xs = (q ≡ xs) × (length q < 14)
-Told (Summing s) q xs = Passed s q xs × ((length q < 6) × ((length q ≡ 0) ⊎ (s .events < 1000000)))
+Told (Summing s) q xs = Passed s q xs × ((length q < 6) × ((length q ≡ 0) ⊎ (s .events < mostEvents)))
 Told (Stopped n) q xs = Fails n xs
 
 abbrev pub heldOf : Feed → List ℕ
@@ -79,7 +79,7 @@ opens xs h b = by (headerOf xs) refl
     by (Unreadable n) e = λ ys. rest-unreadable (xs ++ ys) n (header-front xs ys (omega arith) ∙ e)
     by (Settings l) e =
         let g = header-stands xs l e in
-        let r : readRecord xs ≡ whole l [] = g .goes-on ∙ ap (under l) (read-end (l .mtu) 1000000 xs 14 (omega arith)) in
+        let r : readRecord xs ≡ whole l [] = g .goes-on ∙ ap (under l) (read-end (l .mtu) mostEvents xs 14 (omega arith)) in
         let w = read-written xs l [] b r in
         rw (empty-made l (passes (limitsOk l) (g .in-range)))
         (record { limits = l; done = []; well = w .1; sum = refl; fed = w .0 ∙ sym (append-nil (written l [])) }, (omega arith, inl refl))
@@ -103,13 +103,13 @@ module _ (s : Summary) (q xs : List ℕ) (p : Passed s q xs) where
       ∙ ap summarized (f ys)
 
   -- any byte after the millionth event gives 9
-  over : 1000000 ≤ s .events → 0 < length q → Fails 9 xs
+  over : mostEvents ≤ s .events → 0 < length q → Fails 9 xs
   over many some =
       let n = events-are in
       fails 9 (λ ys. over-million (p .limits) (p .done) (q ++ ys) (p .well) (omega (arith, p .well .few)) (omega (arith, length-append q ys)))
 
   -- one event more
-  stands : (k v c next : ℕ) → length q ≡ 6 → length (p .done) < 1000000 → Bytes q → stepAt (p .limits .mtu) q 0 ≡ Stands k v c next →
+  stands : (k v c next : ℕ) → length q ≡ 6 → length (p .done) < mostEvents → Bytes q → stepAt (p .limits .mtu) q 0 ≡ Stands k v c next →
       Told (stageOf (countedOf s (eventOf k v))) [] xs
   stands k v c next six few b e =
       let l = p .limits in
@@ -134,10 +134,10 @@ module _ (s : Summary) (q xs : List ℕ) (p : Passed s q xs) where
         (omega arith, inl refl),
       )
 
-  steps : length q ≡ 6 → s .events < 1000000 → Bytes q → Told (passedBy s (stepAt (s .limits .mtu) q 0)) [] xs
+  steps : length q ≡ 6 → s .events < mostEvents → Bytes q → Told (passedBy s (stepAt (s .limits .mtu) q 0)) [] xs
   steps six room b = by (stepAt (s .limits .mtu) q 0) (ap (λ (l : Limits). stepAt (l .mtu) q 0) (sym limits-are))
     where
-      few : length (p .done) < 1000000
+      few : length (p .done) < mostEvents
       few = omega (arith, events-are)
 
       by : (t : Step) → stepAt (p .limits .mtu) q 0 ≡ t → Told (passedBy s t) [] xs
@@ -197,7 +197,7 @@ module _ (f : Feed) (xs : List ℕ) (b : ℕ) (r : Reached f xs) (small : b < 25
         sum = old .sum;
         fed = ap (λ z. z ++ (b ∷ [])) (old .fed) ∙ append-assoc (written (old .limits) (old .done)) (heldOf f) (b ∷ []);
       } in
-      by-cases (le-or 1000000 (s .events))
+      by-cases (le-or mostEvents (s .events))
       (λ h. rw (byte-over f b s e h)
       (record { full = r .full; place = r .place; bytes = r .bytes; told = over s (heldOf f ++ (b ∷ [])) (xs ++ (b ∷ [])) p h (omega (arith, long)) }))
       (λ few. by-cases (le-or 5 (f .held))
@@ -256,7 +256,7 @@ module _ (f : Feed) (xs : List ℕ) (r : Reached f xs) where
       finish-whole f s e zero-held
       ∙ ap Answer.Summed (p .sum)
       ∙ sym (ap summarized (ap readRecord (p .fed ∙ ap (λ z. written (p .limits) (p .done) ++ z) none ∙ append-nil (written (p .limits) (p .done))) ∙ written-read (p .limits) (p .done) (p .well))))
-      (λ h. let few : s .events < 1000000 = by-cases (t .1 .1) (λ z. absurd (omega (arith, held-length))) (λ z. z) in
+      (λ h. let few : s .events < mostEvents = by-cases (t .1 .1) (λ z. absurd (omega (arith, held-length))) (λ z. z) in
       finish-cut f s e h
       ∙ sym (ap summarized (ap readRecord (p .fed) ∙ cut-short (p .limits) (p .done) (heldOf f) (p .well) (omega (arith, events-are s (heldOf f) xs p)) (omega (arith, held-length)) (t .1 .0))))
 

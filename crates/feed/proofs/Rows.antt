@@ -11,6 +11,7 @@ use lib.Seq.{drop-cons}
 use Rattle.shaper.specs.declared.Limits.{Limits}
 use Rattle.shaper.specs.declared.Event.{Event}
 use Rattle.shaper.specs.declared.Event.the-variants.{Send}
+use Rattle.shaper.specs.Limits.{mostEvents}
 use Rattle.shaper.specs.Kind.{eventOf}
 use Rattle.summary.specs.declared.Summary.{Summary}
 use Rattle.summary.specs.declared.Answer.{Answer}
@@ -77,14 +78,14 @@ module _ (f : Feed) (b : ℕ) where
   byte-heading p = rw p
 
   -- any byte after the millionth event gives 9
-  pub byte-over : (s : Summary) → f .stage ≡ Summing s → 1000000 ≤ s .events → fedByte f b ≡ stoppedAt f 9
+  pub byte-over : (s : Summary) → f .stage ≡ Summing s → mostEvents ≤ s .events → fedByte f b ≡ stoppedAt f 9
   unfolding fedByte
-  byte-over s p h = rw (p, le-leb 1000000 (s .events) h)
+  byte-over s p h = rw (p, le-leb mostEvents (s .events) h)
 
   -- an event has 6 bytes
-  pub byte-event : (s : Summary) → f .stage ≡ Summing s → s .events < 1000000 → fedByte f b ≡ heldByte 5 f b
+  pub byte-event : (s : Summary) → f .stage ≡ Summing s → s .events < mostEvents → fedByte f b ≡ heldByte 5 f b
   unfolding fedByte
-  byte-event s p h = rw (p, lt-leb 1000000 (s .events) h)
+  byte-event s p h = rw (p, lt-leb mostEvents (s .events) h)
 
   -- a byte after a fault changes nothing
   pub byte-stopped : (n : ℕ) → f .stage ≡ Stopped n → fedByte f b ≡ f

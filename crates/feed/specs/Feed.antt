@@ -6,6 +6,7 @@ use mathlib.Core.List.{List, [], _∷_}
 use lib.Dec.{eqb, leb, ltb}
 use lib.ListN.{set, take}
 use Rattle.shaper.specs.declared.Event.{Event}
+use Rattle.shaper.specs.Limits.{mostEvents}
 use Rattle.shaper.specs.Kind.{eventOf}
 use Rattle.summary.specs.declared.Summary.{Summary}
 use Rattle.summary.specs.declared.Answer.{Answer}
@@ -67,7 +68,7 @@ stoppedAt f n = record { stage = Stopped n; pending = f .pending; held = f .held
 -- A header has 14 bytes and an event 6. Within a record the earliest fault counts, and any byte after the millionth event gives 9.
 abbrev pub fedAt : Stage → Feed → ℕ → Feed
 fedAt Heading f b = heldByte 13 f b
-fedAt (Summing s) f b = cond (leb 1000000 (s .events)) (stoppedAt f 9) (heldByte 5 f b)
+fedAt (Summing s) f b = cond (leb mostEvents (s .events)) (stoppedAt f 9) (heldByte 5 f b)
 fedAt (Stopped n) f b = f
 
 unfoldable pub fedByte : Feed → ℕ → Feed

@@ -1,15 +1,15 @@
 -- Each call feeds each shaper the events that it is to it: a tick one event, a charge one send to each shaper that was asked and permitted, all else
 -- nothing. Assumes nothing.
-use Prim.Native.Nat.{ℕ, zero, suc, _≤_}
+use Prim.Native.Nat.{ℕ, _≤_}
 use mathlib.Core.Bool.{Bool, true, false, cond, _&&_}
 use mathlib.Core.List.{List, [], _∷_, _++_}
 use mathlib.Core.Path.{_≡_, refl, ap, sym, subst, _∙_}
 use native.Mathlib.Omega.{arith}
 use borrow.Author.Tests.{ltb-true, lt-ltb}
 use lib.Dec.{eqb}
-use Rattle.decide.specs.Refusal.{firstOf}
 use Rattle.decide.specs.Test.{facts}
 use Rattle.decide.proofs.Cases.{by-cases, true-or-false}
+use Rattle.decide.proofs.Refused.{of-answer}
 use Rattle.shaper.specs.declared.Event.{Event}
 use Rattle.shaper.specs.declared.Event.the-variants.{Send}
 use Rattle.shaper.specs.Credit.{AllValid, Permitted, endCredit}
@@ -23,6 +23,7 @@ use Rattle.settings.specs.declared.Settings.{Settings}
 use Rattle.settings.specs.Range.{SettingsOk}
 use Rattle.flow.specs.declared.Client.{Client}
 use Rattle.flow.specs.declared.Credits.{Credits}
+use Rattle.flow.specs.declared.Entered.{Entered}
 use Rattle.flow.specs.declared.Flow.{Flow}
 use Rattle.flow.specs.declared.Line.{Line}
 use Rattle.flow.specs.declared.Line.the-variants.{Control, Primary, Secondary}
@@ -34,7 +35,7 @@ use Rattle.flow.specs.Which.{creditOf, limitsFor, permitsAll, member, se
 use Rattle.flow.specs.Parts.{queueOf, stageHolds, withQueue}
 use Rattle.flow.specs.Range.{FlowOk}
 use Rattle.flow.specs.Tick.{waits, amountOf, tickEvents, tickOf}
-use Rattle.flow.specs.Offer.{enterFaults, enteredOf, enterOf, needsOf, markOf, wayOf, refusedOf, clientAs, clientOf}
+use Rattle.flow.specs.Offer.{enterOf, needsOf, markOf, wayOf, refusedOf, clientAs, clientOf}
 use Rattle.flow.specs.Select.{controlReady, secondaryReady, selectOf}
 use Rattle.flow.specs.Events.{noEvents, clientEvents, selectEvents, Feeds}
 use Rattle.flow.proofs.Charge.{permits-one, permits-member}
@@ -107,14 +108,10 @@ module _ (s : Settings) (f : Flow) where
   queue-credits Primary q = refl
   queue-credits Secondary q = refl
 
-  entered-credits : (n : ℕ) (l : Line) (x : Frame) → enteredOf n f l x .flow .credits ≡ f .credits
-  unfolding enteredOf
-  entered-credits zero l x = queue-credits l _
-  entered-credits (suc n) l x = refl
-
   -- transit and control frames are charged to nobody
   pub enter-feeds : (l : Line) (x : Frame) → Feeds s f (enterOf s f l x .flow) noEvents
-  enter-feeds l x = none-feeds (enterOf s f l x .flow) (entered-credits (firstOf (enterFaults s f l x)) l x)
+  enter-feeds l x =
+      none-feeds (enterOf s f l x .flow) (of-answer _ _ (λ (r : Entered). r .flow .credits ≡ f .credits) _ (λ e. queue-credits l _) (λ e. refl))
 
   -- one send per charge
   pub client-feeds : (class size hops : ℕ) (over : Bool) → (16 ≤ size) × (size ≤ s .mtu)
@@ -139,19 +136,19 @@ module _ (s : Settings) (f : Flow) where
   -- ---- selection
 
   -- the size of a queue's first frame
-  head-size : FlowOk s f → (l : Line) → queue.holdsFrame (queueOf f l) ≡ true → (16 ≤ queue.firstOf (queueOf f l) .size) × (queue.firstOf (queueOf f l) .size ≤ s .mtu)
+  head-size : FlowOk s f → (l : Line) → queue.holdsFrame (queueOf f l) ≡ true → (16 ≤ queue.firstFrame (queueOf f l) .size) × (queue.firstFrame (queueOf f l) .size ≤ s .mtu)
   head-size ok l h = let x = first-ok (ok .queues l) h in (x .least, x .most)
 
   row-feeds : {r : Selected} → FlowOk s f → Goes s f r → Feeds s f (r .flow) (selectEvents s f r)
   row-feeds ok (control a) =
-      charge-feeds _ (M ∷ []) (queue.firstOf (f .control) .size) (head-size ok Control (lt-ltb 0 (f .control .count) (facts (controlReady s f) a .0)))
+      charge-feeds _ (M ∷ []) (queue.firstFrame (f .control) .size) (head-size ok Control (lt-ltb 0 (f .control .count) (facts (controlReady s f) a .0)))
       (sym (permits-one s (f .credits) M) ∙ control-permitted s f a) refl
   row-feeds ok (primary a b) = none-feeds _ refl
   row-feeds ok (pressed a b c) = rw c (none-feeds _ refl)
   row-feeds ok (staged a b c d) = none-feeds _ refl
   row-feeds ok (secondary a b c d e) =
       rw c
-      (charge-feeds _ (D ∷ []) (queue.firstOf (f .secondary) .size) (head-size ok Secondary (lt-ltb 0 (f .secondary .count) (facts (secondaryReady s f) e .0)))
+      (charge-feeds _ (D ∷ []) (queue.firstFrame (f .secondary) .size) (head-size ok Secondary (lt-ltb 0 (f .secondary .count) (facts (secondaryReady s f) e .0)))
       (sym (permits-one s (f .credits) D) ∙ secondary-permitted s f e) refl)
   row-feeds ok (nothing a b c d e) = none-feeds _ refl
 

@@ -3,7 +3,7 @@ use Prim.Native.Nat.{ℕ}
 use mathlib.Core.Bool.{true, false}
 use mathlib.Core.List.{List, [], _∷_}
 use mathlib.Core.Path.{_≡_, refl}
-use Rattle.decide.specs.Refusal.{first, firstOf}
+use Rattle.decide.specs.Refusal.{first, firstOf, refusedOr}
 use Rattle.decide.specs.Test.{test}
 use Rattle.queue.specs.declared.Frame.{Frame}
 use Rattle.queue.specs.declared.Queue.{Queue}
@@ -15,7 +15,7 @@ use Rattle.settings.specs.declared.Settings.{Settings}
 use Rattle.flow.specs.declared.Credits.{Credits}
 use Rattle.flow.specs.declared.Flow.{Flow}
 use Rattle.flow.specs.Tick.{tickOf}
-use Rattle.flow.specs.Offer.{wayOf, clientBy, clientOf}
+use Rattle.flow.specs.Offer.{wayOf, clientOf}
 use Rattle.flow.specs.Select.{controlReady, needy, selectOf}
 
 -- mtu 64; each shaper loLimit 100, hiLimit 300, amount 50; control and primary queue 100 bytes, secondary 128
@@ -96,7 +96,7 @@ pub record Examples : Type 0 where
   pub d-lacks : clientOf settings (flow (credits 101 200 100) [] [] [] 0) 1 40 3 false .number ≡ 6
 
 pub examples : Examples
-unfolding test tickOf selectOf wayOf clientBy firstOf first pushed emptyQueue spaceOf queue.firstOf queue.taken
+unfolding test tickOf selectOf wayOf refusedOr firstOf first pushed emptyQueue spaceOf queue.firstFrame queue.taken
 examples =
     record {
       stage-waits = refl;

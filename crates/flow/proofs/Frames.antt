@@ -1,36 +1,36 @@
 -- Where the frames are, as lists: an offer appends its frame, a selection takes a first one, and no call moves another.
 -- Assumes nothing.
-use Prim.Native.Nat.{ℕ, zero, suc, _≤_}
-use mathlib.Core.Bool.{Bool, cond}
-use mathlib.Core.List.{List, [], _∷_, _++_}
+use Prim.Native.Nat.{ℕ, _≤_}
+use mathlib.Core.Bool.{Bool}
+use mathlib.Core.List.{[], _∷_, _++_}
 use mathlib.Core.Path.{_≡_, refl, ap, _∙_}
 use native.Mathlib.Omega.{arith}
 use borrow.Author.Tests.{lt-ltb}
-use lib.Dec.{eqb}
-use Rattle.decide.specs.Refusal.{firstOf}
 use Rattle.decide.specs.Test.{facts}
+use Rattle.decide.proofs.Refused.{of-answer}
 use Rattle.queue.specs.declared.Frame.{Frame}
 use Rattle.queue.specs.declared.Queue.{Queue}
-use Rattle.queue.specs.Frame.{FrameOk, frameOf, wordOf}
+use Rattle.queue.specs.Frame.{FrameOk, wordOf}
 use Rattle.queue.specs.Queue.{framesOf, pushed, spaceOf}
 use Rattle.queue.proofs.Laws.{empty-frames, push-appends, take-first}
 use Rattle.queue.proofs.Word.{frame-fits, word-frame, word-not-empty}
 use Rattle.settings.specs.declared.Settings.{Settings}
 use Rattle.settings.specs.Range.{SettingsOk}
+use Rattle.flow.specs.declared.Client.{Client}
 use Rattle.flow.specs.declared.Flow.{Flow}
 use Rattle.flow.specs.declared.Line.{Line}
 use Rattle.flow.specs.declared.Line.the-variants.{Control, Primary, Secondary}
 use Rattle.flow.specs.declared.Selected.{Selected}
-use Rattle.flow.specs.declared.Way.{Way}
-use Rattle.flow.specs.Parts.{queueOf, capacityOf, stageHolds, withQueue}
+use Rattle.flow.specs.Parts.{queueOf, capacityOf, withQueue}
 use Rattle.flow.specs.Range.{FlowOk}
 use Rattle.flow.specs.Tick.{startOf, tickOf}
-use Rattle.flow.specs.Offer.{enterOf, wayOf, clientFaults, clientFrame, clientBy, clientOf}
+use Rattle.flow.specs.Offer.{enterOf, wayOf, clientFrame, clientOf}
 use Rattle.flow.specs.Select.{controlReady, primaryReady, needy, stageReady, secondaryReady, selectOf}
 use Rattle.flow.proofs.Kept.{needy-holds, client-frame-ok}
 use Rattle.flow.proofs.Offer.{enter-taken}
 use Rattle.flow.proofs.Range.{start-queue}
 use Rattle.flow.proofs.Select.{Goes, control, primary, pressed, staged, secondary, nothing, goes}
+use Rattle.flow.specs.Frames.{stageFrames, Moves}
 
 same-queue : (f : Flow) (l : Line) (q : Queue) → queueOf (withQueue f l q) l ≡ q
 same-queue f Control q = refl
@@ -59,34 +59,17 @@ module _ (s : Settings) (f : Flow) where
   enter-appends good ok l x h fits =
       rw (enter-taken s f l x fits, same-queue f l (pushed (queueOf f l) x)) (push-appends (ok .queues l) x (good .mtu-most) h fits)
 
--- the frame in the stage
-abbrev pub staging : Flow → List Frame
-staging f = cond (stageHolds f) (frameOf (f .stage) ∷ []) []
-
 module _ {s : Settings} (good : SettingsOk s) (f : Flow) where
-  staged-by : (n : ℕ) (w : Way) (x : Frame) → FrameOk (s .mtu) x → clientBy n s f w x .number ≡ 0 → staging (clientBy n s f w x .flow) ≡ x ∷ []
-  unfolding clientBy
-  staged-by zero w x h e = rw (lt-ltb 0 (wordOf x) (word-not-empty (good .mtu-most) h), word-frame x (frame-fits (good .mtu-most) h))
-  staged-by (suc n) w x h e = absurd (omega arith)
-
   -- a client frame that is taken lies in the stage, marked where it is excess
   pub client-stages : (class size hops : ℕ) (over : Bool) → FrameOk (s .mtu) (record { size = size; hops = hops; class = class; mark = 0 })
       → clientOf s f class size hops over .number ≡ 0
-      → staging (clientOf s f class size hops over .flow) ≡ clientFrame (wayOf s (f .credits) class) class size hops ∷ []
-  client-stages class size hops over h e =
-      let w = wayOf s (f .credits) class in
-      staged-by (firstOf (clientFaults s f w over)) w (clientFrame w class size hops) (client-frame-ok good f class size hops h) e
-
--- the frame selected, where it is of this origin
-abbrev pub gone : Selected → ℕ → List Frame
-gone r origin = cond (eqb (r .origin) origin) (r .frame ∷ []) []
-
--- The chosen frame leaves its queue, where it was first; no other frame moves.
-pub record Moves (f : Flow) (r : Selected) : Type 0 where
-  pub of-control : framesOf (f .control) ≡ gone r 1 ++ framesOf (r .flow .control)
-  pub of-primary : framesOf (f .primary) ≡ gone r 2 ++ framesOf (r .flow .primary)
-  pub of-secondary : framesOf (f .secondary) ≡ gone r 3 ++ framesOf (r .flow .secondary)
-  pub of-stage : staging f ≡ gone r 4 ++ staging (r .flow)
+      → stageFrames (clientOf s f class size hops over .flow) ≡ clientFrame (wayOf s (f .credits) class) class size hops ∷ []
+  client-stages class size hops over h =
+      let x = clientFrame (wayOf s (f .credits) class) class size hops in
+      let ok = client-frame-ok good f class size hops h in
+      of-answer _ _ (λ (r : Client). r .number ≡ 0 → stageFrames (r .flow) ≡ x ∷ []) _
+      (λ z e. rw (lt-ltb 0 (wordOf x) (word-not-empty (good .mtu-most) ok), word-frame x (frame-fits (good .mtu-most) ok)))
+      (λ z e. absurd (omega arith))
 
 module _ {s : Settings} {f : Flow} (good : SettingsOk s) (ok : FlowOk s f) where
   row-moves : {r : Selected} → Goes s f r → Moves f r

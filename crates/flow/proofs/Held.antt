@@ -3,24 +3,17 @@
 use Prim.Native.Nat.{ℕ, zero, suc, _<_}
 use mathlib.Core.Bool.{true}
 use mathlib.Core.List.{List, [], _∷_}
-use mathlib.Core.Logic.{_↔_, _≢_}
+use mathlib.Core.Logic.{_↔_}
 use mathlib.Core.Path.{_≡_, refl}
 use native.Mathlib.Omega.{arith}
 use borrow.Author.Tests.{ltb-true, ltb-false, lt-ltb}
 use Rattle.decide.proofs.Cases.{by-cases, true-or-false}
 use Rattle.queue.specs.declared.Frame.{Frame}
 use Rattle.queue.specs.declared.Queue.{Queue}
-use Rattle.queue.specs.Queue.{framesFrom, framesOf, firstOf, holdsFrame}
+use Rattle.queue.specs.Queue.{framesFrom, framesOf, firstFrame, holdsFrame}
 use Rattle.flow.specs.declared.Flow.{Flow}
 use Rattle.flow.specs.Parts.{stageHolds}
-
--- a queue holds a frame: the list of its frames is not empty
-abbrev pub Holding : Queue → Type 0
-Holding q = framesOf q ≢ []
-
--- the stage holds a frame: its word is not that of an empty slot
-abbrev pub Staged : Flow → Type 0
-Staged f = f .stage ≢ 0
+use Rattle.flow.specs.Frames.{Holding, Staged}
 
 none-from : (slots : List ℕ) (h n : ℕ) → framesFrom slots h n ≡ [] → n ≡ 0
 unfolding framesFrom
@@ -32,8 +25,8 @@ unfolding framesFrom
 from-none slots h n e = rw e
 
 first-from : (slots : List ℕ) (h n : ℕ) (x : Frame) (xs : List Frame) → framesFrom slots h n ≡ x ∷ xs
-    → (0 < n) × (firstOf (record { slots = slots; head = h; count = n; held = 0 }) ≡ x)
-unfolding framesFrom firstOf
+    → (0 < n) × (firstFrame (record { slots = slots; head = h; count = n; held = 0 }) ≡ x)
+unfolding framesFrom firstFrame
 first-from slots h zero x xs e = let z : _≡_ {A = ℕ} 0 1 = cc in absurd (omega arith)
 first-from slots h (suc n) x xs e = (omega arith, cc)
 
@@ -51,8 +44,8 @@ module _ (q : Queue) where
     unfolding framesOf
     head-holds = lt-ltb 0 (q .count) (first-from (q .slots) (q .head) (q .count) x xs e .0)
 
-    pub head-first : firstOf q ≡ x
-    unfolding framesOf firstOf
+    pub head-first : firstFrame q ≡ x
+    unfolding framesOf firstFrame
     head-first = first-from (q .slots) (q .head) (q .count) x xs e .1
 
 pub staged : (f : Flow) → (stageHolds f ≡ true) ↔ Staged f

@@ -1,15 +1,15 @@
 -- Every call keeps the range: a queue by the laws of pushing and taking, credits by those of events, the stage by its frame's range.
 -- Assumes nothing.
-use Prim.Native.Nat.{ℕ, zero, suc}
+use Prim.Native.Nat.{ℕ}
 use mathlib.Core.Bool.{Bool, true}
 use mathlib.Core.List.{List, [], _∷_}
 use mathlib.Core.Logic.{_⊎_, inl, inr}
 use mathlib.Core.Path.{_≡_, refl}
 use native.Mathlib.Omega.{arith}
 use borrow.Author.Tests.{lt-ltb}
-use Rattle.decide.specs.Refusal.{firstOf}
 use Rattle.decide.specs.Test.{Holds, facts}
 use Rattle.decide.proofs.Cases.{by-cases, le-or}
+use Rattle.decide.proofs.Refused.{of-answer}
 use Rattle.shaper.specs.declared.Event.{Event}
 use Rattle.queue.specs.declared.Frame.{Frame}
 use Rattle.queue.specs.declared.Queue.{Queue}
@@ -21,18 +21,18 @@ use Rattle.queue.proofs.Laws.{push-ok, take-ok, tight-holds}
 use Rattle.queue.proofs.Word.{frame-fits, word-frame}
 use Rattle.settings.specs.declared.Settings.{Settings}
 use Rattle.settings.specs.Range.{SettingsOk}
+use Rattle.flow.specs.declared.Client.{Client}
 use Rattle.flow.specs.declared.Flow.{Flow}
 use Rattle.flow.specs.declared.Line.{Line}
 use Rattle.flow.specs.declared.Line.the-variants.{Control, Primary, Secondary}
 use Rattle.flow.specs.declared.Selected.{Selected}
-use Rattle.flow.specs.declared.Way.{Way}
 use Rattle.flow.specs.declared.Which.{Which}
 use Rattle.flow.specs.declared.Which.the-variants.{M, D}
 use Rattle.flow.specs.Which.{sends, fed}
 use Rattle.flow.specs.Parts.{queueOf, capacityOf, withCredits, withStage, withQueue}
 use Rattle.flow.specs.Range.{FlowOk}
 use Rattle.flow.specs.Tick.{tickEvents, tickOf}
-use Rattle.flow.specs.Offer.{enterOf, queueFor, transitOf, controlFrame, controlOf, needsOf, wayOf, clientFaults, clientFrame, clientBy, clientOf}
+use Rattle.flow.specs.Offer.{enterOf, queueFor, transitOf, controlFrame, controlOf, needsOf, wayOf, clientFrame, clientOf}
 use Rattle.flow.specs.Select.{controlReady, primaryReady, needy, leaves, secondaryReady, selectOf}
 use Rattle.flow.proofs.Offer.{enter-refused, enter-taken, mark-most, way-mark}
 use Rattle.flow.proofs.Range.{fed-ok, by-line}
@@ -92,11 +92,6 @@ module _ {s : Settings} (good : SettingsOk s) where
   pub control-kept : {f : Flow} (size : ℕ) → FlowOk s f → FrameOk (s .mtu) (controlFrame size) → FlowOk s (controlOf s f size .flow)
   control-kept size ok h = enter-kept Control (controlFrame size) ok h
 
-  by-number : {f : Flow} (n : ℕ) (w : Way) (x : Frame) → FlowOk s f → FrameOk (s .mtu) x → FlowOk s (clientBy n s f w x .flow)
-  unfolding clientBy
-  by-number {f} zero w x ok h = stage-kept (credits-kept ok good (sends (needsOf w) (x .size))) (wordOf x) (inr (rw (word-frame x (frame-fits (good .mtu-most) h)) h))
-  by-number (suc n) w x ok h = ok
-
   -- a frame that is given without a mark is in range as it lies in the stage
   pub client-frame-ok : (f : Flow) (class size hops : ℕ) → FrameOk (s .mtu) (record { size = size; hops = hops; class = class; mark = 0 })
       → FrameOk (s .mtu) (clientFrame (wayOf s (f .credits) class) class size hops)
@@ -113,16 +108,19 @@ module _ {s : Settings} (good : SettingsOk s) where
   pub client-kept : {f : Flow} (class size hops : ℕ) (over : Bool) → FlowOk s f → FrameOk (s .mtu) (record { size = size; hops = hops; class = class; mark = 0 })
       → FlowOk s (clientOf s f class size hops over .flow)
   client-kept {f} class size hops over ok h =
-      let w = wayOf s (f .credits) class in
-      by-number (firstOf (clientFaults s f w over)) w (clientFrame w class size hops) ok (client-frame-ok f class size hops h)
+      let x = clientFrame (wayOf s (f .credits) class) class size hops in
+      let inside = client-frame-ok f class size hops h in
+      of-answer _ _ (λ (r : Client). FlowOk s (r .flow)) _
+      (λ e. stage-kept (credits-kept ok good (sends (needsOf (wayOf s (f .credits) class)) size)) (wordOf x) (inr (rw (word-frame x (frame-fits (good .mtu-most) inside)) inside)))
+      (λ e. ok)
 
   row-kept : {f : Flow} {r : Selected} → FlowOk s f → Goes s f r → FlowOk s (r .flow)
-  row-kept {f} ok (control a) = leave-kept (credits-kept ok good (sends (M ∷ []) (queue.firstOf (f .control) .size))) Control (lt-ltb 0 (f .control .count) (facts (controlReady s f) a .0))
+  row-kept {f} ok (control a) = leave-kept (credits-kept ok good (sends (M ∷ []) (queue.firstFrame (f .control) .size))) Control (lt-ltb 0 (f .control .count) (facts (controlReady s f) a .0))
   row-kept {f} ok (primary a b) = leave-kept ok Primary (lt-ltb 0 (f .primary .count) (facts (primaryReady f) b))
   row-kept {f} ok (pressed a b c) = leave-kept ok Secondary (needy-holds ok good (facts (needy s f) c))
   row-kept {f} ok (staged a b c d) = stage-kept ok 0 (inl refl)
   row-kept {f} ok (secondary a b c d e) =
-      leave-kept (credits-kept ok good (sends (D ∷ []) (queue.firstOf (f .secondary) .size))) Secondary (lt-ltb 0 (f .secondary .count) (facts (secondaryReady s f) e .0))
+      leave-kept (credits-kept ok good (sends (D ∷ []) (queue.firstFrame (f .secondary) .size))) Secondary (lt-ltb 0 (f .secondary .count) (facts (secondaryReady s f) e .0))
   row-kept {f} ok (nothing a b c d e) = ok
 
   pub select-kept : {f : Flow} → FlowOk s f → FlowOk s (selectOf s f .flow)

@@ -1,20 +1,22 @@
 -- The offers, row by row: rows stand in the order of their ranks, so they may be tried one after the other.
 -- Assumes nothing.
-use Prim.Native.Nat.{ℕ, zero, suc, _≤_, _<_}
+use Prim.Native.Nat.{ℕ, _≤_, _<_}
 use mathlib.Core.Bool.{Bool, true, false, cond, _&&_, and-false}
 use mathlib.Core.List.{[], _∷_}
 use mathlib.Core.Path.{_≡_, refl, ap, _∙_}
 use native.Mathlib.Omega.{arith}
 use borrow.Author.Tests.{lt-ltb, le-ltb, eqb-false}
 use lib.Dec.{eqb}
-use Rattle.decide.specs.Refusal.{firstOf}
+use Rattle.decide.specs.Refusal.{refusedOr, RefusedExactly}
 use Rattle.decide.proofs.Cases.{of-each}
-use Rattle.decide.proofs.Refusal.{in-order, RefusedExactly, refused-exactly}
+use Rattle.decide.proofs.Refusal.{in-order, refused-exactly}
+use Rattle.decide.proofs.Refused.{number-by, leaves-by}
 use Rattle.queue.specs.declared.Frame.{Frame}
-use Rattle.queue.specs.Frame.{wordOf}
-use Rattle.queue.specs.Queue.{pushed, spaceOf}
+use Rattle.queue.specs.Queue.{spaceOf}
 use Rattle.settings.specs.declared.Settings.{Settings}
+use Rattle.flow.specs.declared.Client.{Client}
 use Rattle.flow.specs.declared.Credits.{Credits}
+use Rattle.flow.specs.declared.Entered.{Entered}
 use Rattle.flow.specs.declared.Flow.{Flow}
 use Rattle.flow.specs.declared.Line.{Line}
 use Rattle.flow.specs.declared.Line.the-variants.{Primary, Secondary}
@@ -22,9 +24,9 @@ use Rattle.flow.specs.declared.Way.{Way}
 use Rattle.flow.specs.declared.Way.the-variants.{ClassA, ClassB, Excess}
 use Rattle.flow.specs.declared.Which.{Which}
 use Rattle.flow.specs.declared.Which.the-variants.{B, C, D}
-use Rattle.flow.specs.Which.{permitsOf, permitsAll, sends, fed}
-use Rattle.flow.specs.Parts.{queueOf, capacityOf, stageHolds, withCredits, withStage, withQueue}
-use Rattle.flow.specs.Offer.{enterFaults, enteredOf, enterOf, queueFor, needsOf, markOf, wayOf, clientFaults, clientFrame, refusedOf, clientBy, clientAs, clientOf}
+use Rattle.flow.specs.Which.{permitsOf, permitsAll}
+use Rattle.flow.specs.Parts.{queueOf, capacityOf, stageHolds}
+use Rattle.flow.specs.Offer.{enterFaults, notEnteredOf, appendedOf, enterOf, queueFor, needsOf, markOf, wayOf, clientFaults, clientFrame, refusedOf, laidOf, clientAs, clientOf}
 use Rattle.flow.specs.Events.{wayBack}
 
 pub mark-most : (w : Way) → markOf w ≤ 1
@@ -36,32 +38,22 @@ mark-most Excess = omega arith
 
 module _ (s : Settings) (f : Flow) (l : Line) (x : Frame) where
   -- 4 where the size exceeds the queue's space, and nothing is changed
-  pub enter-refused : spaceOf (queueOf f l) (capacityOf s l) < x .size → enterOf s f l x ≡ record { number = 4; detail = 0; flow = f }
-  unfolding enteredOf
+  pub enter-refused : spaceOf (queueOf f l) (capacityOf s l) < x .size → enterOf s f l x ≡ notEnteredOf f 4
+  unfolding refusedOr
   enter-refused h = rw (in-order (enterFaults s f l x) refl, lt-ltb (spaceOf (queueOf f l) (capacityOf s l)) (x .size) h)
 
   -- elsewhere the frame stands last in the queue
-  pub enter-taken : x .size ≤ spaceOf (queueOf f l) (capacityOf s l) → enterOf s f l x ≡ record { number = 0; detail = 0; flow = withQueue f l (pushed (queueOf f l) x) }
-  unfolding enteredOf
+  pub enter-taken : x .size ≤ spaceOf (queueOf f l) (capacityOf s l) → enterOf s f l x ≡ appendedOf f l x
+  unfolding refusedOr
   enter-taken h = rw (in-order (enterFaults s f l x) refl, le-ltb (spaceOf (queueOf f l) (capacityOf s l)) (x .size) h)
 
   -- the number is that of the rows: 4 exactly when the size exceeds the space
   pub enter-exactly : RefusedExactly (enterOf s f l x .number) (enterFaults s f l x)
-  unfolding enteredOf
-  enter-exactly = refused-exactly (enterFaults s f l x) refl (enterOf s f l x .number) (number (firstOf (enterFaults s f l x)))
-    where
-      number : (n : ℕ) → enteredOf n f l x .number ≡ n
-      number zero = refl
-      number (suc n) = refl
+  enter-exactly = refused-exactly (enterFaults s f l x) refl _ (number-by (λ (r : Entered). r .number) _ _ (λ m. refl) refl _)
 
   -- a refusal leaves the flow as it was
   pub enter-leaves : 0 < enterOf s f l x .number → enterOf s f l x .flow ≡ f
-  unfolding enteredOf
-  enter-leaves = leaves (firstOf (enterFaults s f l x))
-    where
-      leaves : (n : ℕ) → 0 < enteredOf n f l x .number → enteredOf n f l x .flow ≡ f
-      leaves zero h = absurd (omega arith)
-      leaves (suc n) h = refl
+  enter-leaves = leaves-by (λ (r : Entered). r .number) _ _ (λ m. refl) refl (λ (r : Entered). r .flow) (λ m. refl) _
 
 -- Transit A goes to the primary queue,
 pub transit-a : queueFor 0 ≡ Primary
@@ -123,49 +115,33 @@ module _ (s : Settings) (c : Credits) where
 module _ (w : Way) (s : Settings) (f : Flow) (class size hops : ℕ) (over : Bool) where
   -- 5 where the stage holds a frame
   pub client-full : stageHolds f ≡ true → clientAs w s f class size hops over ≡ refusedOf f 5
-  unfolding clientBy
+  unfolding refusedOr
   client-full e = rw (in-order (clientFaults s f w over) refl, e)
 
   -- else 6 where a needed shaper does not permit
   pub client-barred : stageHolds f ≡ false → permitsAll s (f .credits) (needsOf w) ≡ false → clientAs w s f class size hops over ≡ refusedOf f 6
-  unfolding clientBy
+  unfolding refusedOr
   client-barred e p = rw (in-order (clientFaults s f w over) refl, e, p)
 
   -- else 7 where an eligible frame would pass the congested fair rate
   pub client-over : stageHolds f ≡ false → permitsAll s (f .credits) (needsOf w) ≡ true → (eqb (markOf w) 1 && over) ≡ true
       → clientAs w s f class size hops over ≡ refusedOf f 7
-  unfolding clientBy
+  unfolding refusedOr
   client-over e p o = rw (in-order (clientFaults s f w over) refl, e, p, o)
 
   -- else the frame lies in the stage, and the needed shapers are charged
   pub client-taken : stageHolds f ≡ false → permitsAll s (f .credits) (needsOf w) ≡ true → (eqb (markOf w) 1 && over) ≡ false
-      → clientAs w s f class size hops over ≡ record {
-        number = 0;
-        detail = 0;
-        mark = markOf w;
-        flow = withStage (withCredits f (fed s (f .credits) (sends (needsOf w) size))) (wordOf (clientFrame w class size hops));
-      }
-  unfolding clientBy
+      → clientAs w s f class size hops over ≡ laidOf s f w (clientFrame w class size hops)
+  unfolding refusedOr
   client-taken e p o = rw (in-order (clientFaults s f w over) refl, e, p, o)
 
   -- the number is that of the rows: 5, 6 and 7 exactly when they apply, in this order
   pub client-exactly : RefusedExactly (clientAs w s f class size hops over .number) (clientFaults s f w over)
-  unfolding clientBy
-  client-exactly =
-      refused-exactly (clientFaults s f w over) refl (clientAs w s f class size hops over .number) (number (firstOf (clientFaults s f w over)))
-    where
-      number : (n : ℕ) → clientBy n s f w (clientFrame w class size hops) .number ≡ n
-      number zero = refl
-      number (suc n) = refl
+  client-exactly = refused-exactly (clientFaults s f w over) refl _ (number-by (λ (r : Client). r .number) _ _ (λ m. refl) refl _)
 
   -- a refusal leaves the flow as it was
   pub client-leaves : 0 < clientAs w s f class size hops over .number → clientAs w s f class size hops over .flow ≡ f
-  unfolding clientBy
-  client-leaves = leaves (firstOf (clientFaults s f w over))
-    where
-      leaves : (n : ℕ) → 0 < clientBy n s f w (clientFrame w class size hops) .number → clientBy n s f w (clientFrame w class size hops) .flow ≡ f
-      leaves zero h = absurd (omega arith)
-      leaves (suc n) h = refl
+  client-leaves = leaves-by (λ (r : Client). r .number) _ _ (λ m. refl) refl (λ (r : Client). r .flow) (λ m. refl) _
 
 -- ---- D lacking is always 6
 

@@ -3,7 +3,7 @@
 -- Assumes nothing.
 use mathlib.Core.Path.{_≡_, refl, ap}
 use Rattle.queue.specs.Front.{fronted}
-use Rattle.queue.specs.Queue.{firstOf, spaceOf}
+use Rattle.queue.specs.Queue.{firstFrame, spaceOf}
 use Rattle.settings.specs.declared.Settings.{Settings}
 use Rattle.flow.specs.declared.Credits.{Credits}
 use Rattle.flow.specs.declared.Flow.{Flow}
@@ -24,7 +24,7 @@ front-seen v Primary = refl
 front-seen v Secondary = refl
 
 abbrev pub ofFront : Sight → Credits → Line → Pick
-ofFront v c l = record { origin = originOf l; frame = firstOf (fronted (frontAt v l)); credits = c; stage = v .stage }
+ofFront v c l = record { origin = originOf l; frame = firstFrame (fronted (frontAt v l)); credits = c; stage = v .stage }
 
 pub front-picked : (v : Sight) (c : Credits) (l : Line) → pickFrom (leaves (withCredits (seenIn v) c) l) ≡ ofFront v c l
 front-picked v c Control = refl
@@ -50,7 +50,7 @@ module _ (s : Settings) (f : Flow) where
 
   -- A selection looks at nothing else: a flow that looks like this one picks the same.
   seen : {r : Selected} → Goes s f r → pickFrom (selectOf s (seenIn (sightOf f))) ≡ pickFrom r
-  unfolding firstOf spaceOf
+  unfolding firstFrame spaceOf
   seen (control a) = ap pickFrom (goes-selected s (seenIn (sightOf f)) (control a))
   seen (primary a b) = ap pickFrom (goes-selected s (seenIn (sightOf f)) (primary a b))
   seen (pressed a b c) = ap pickFrom (goes-selected s (seenIn (sightOf f)) (pressed a b c))

@@ -16,7 +16,8 @@ use Rattle.flow.specs.declared.Flow.{Flow}
 use Rattle.flow.specs.declared.Which.{Which}
 use Rattle.flow.specs.Which.{bucketOf, creditOf, permitsOf}
 use Rattle.flow.specs.Select.{controlReady, primaryReady, needy, stageReady, secondaryReady}
-use Rattle.flow.proofs.Held.{Holding, Staged, holding, head-holds, head-first, staged}
+use Rattle.flow.specs.Frames.{Holding, Staged}
+use Rattle.flow.proofs.Held.{holding, head-holds, head-first, staged}
 
 -- A send is permitted exactly when credit > loLimit.
 pub permits-exactly : (s : Settings) (c : Credits) (w : Which) → (permitsOf s c w ≡ true) ↔ (bucketOf s w .lo < creditOf c w)

@@ -1,8 +1,8 @@
 -- Selection, row by row: of the table's rows the first that holds.
 -- Assumes nothing.
-use Prim.Native.Nat.{ℕ, zero, suc}
+use Prim.Native.Nat.{ℕ}
 use mathlib.Core.Bool.{Bool, true, false, cond, true≢false}
-use mathlib.Core.Logic.{_⊎_, inl, inr}
+use mathlib.Core.Logic.{inl, inr}
 use mathlib.Core.Path.{_≡_, refl, sym, subst, _∙_}
 use borrow.Author.Tests.{lt-ltb}
 use Rattle.decide.specs.Test.{Test, test, Holds, facts, passes, decided}
@@ -12,7 +12,7 @@ use Rattle.flow.specs.declared.Line.the-variants.{Control, Primary, Seco
 use Rattle.flow.specs.declared.Selected.{Selected}
 use Rattle.flow.specs.declared.Which.the-variants.{M, D}
 use Rattle.flow.specs.Which.{permitsOf}
-use Rattle.flow.specs.Select.{controlReady, primaryReady, needy, stageReady, secondaryReady, leaves, leavesCharged, leavesStage, nothingOf, selectOf}
+use Rattle.flow.specs.Select.{controlReady, primaryReady, needy, stageReady, secondaryReady, leaves, leavesCharged, leavesStage, nothingOf, selectOf, No, When, GoesExactly}
 
 -- which row it was, and that none before it held
 pub data Goes (s : Settings) (f : Flow) : Selected → Type 0 where
@@ -43,24 +43,6 @@ pub secondary-permitted : (s : Settings) (f : Flow) → test (secondaryReady s f
 secondary-permitted s f e = lt-ltb (s .shapers .d .lo) (f .credits .d) (facts (secondaryReady s f) e .1)
 
 -- ---- the table as laws: each row goes exactly when it holds and none before it does
-
-abbrev pub No : Test → Type 0
-No t = Holds t → ⊥
-
--- under which condition an origin is answered: nothing, control, primary, secondary, stage, and no other ever
-abbrev pub When : Settings → Flow → ℕ → Type 0
-When s f zero = No (controlReady s f) × (No (primaryReady f) × (No (needy s f) × (No (stageReady f) × No (secondaryReady s f))))
-When s f (suc zero) = Holds (controlReady s f)
-When s f (suc (suc zero)) = No (controlReady s f) × Holds (primaryReady f)
-When s f (suc (suc (suc zero))) =
-    No (controlReady s f) × (No (primaryReady f) × (Holds (needy s f) ⊎ (No (needy s f) × (No (stageReady f) × Holds (secondaryReady s f)))))
-When s f (suc (suc (suc (suc zero)))) = No (controlReady s f) × (No (primaryReady f) × (No (needy s f) × Holds (stageReady f)))
-When s f (suc (suc (suc (suc (suc n))))) = ⊥
-
--- an origin is answered only under its condition, and whenever that holds this is selected
-pub record Exactly (s : Settings) (f : Flow) (origin : ℕ) (gives : Selected) : Type 0 where
-  pub only : selectOf s f .origin ≡ origin → When s f origin
-  pub whenever : When s f origin → selectOf s f ≡ gives
 
 -- a row's test as a fact, or that it does not hold
 module _ (t : Test) where
@@ -105,11 +87,11 @@ module _ (s : Settings) (f : Flow) where
   only-when origin e = subst (When s f) e (told goes)
 
   -- control goes exactly when its head's size fits the space of both transit queues and M permits
-  pub control-exactly : Exactly s f 1 (leavesCharged s f Control M)
+  pub control-exactly : GoesExactly s f 1 (leavesCharged s f Control M)
   control-exactly = record { only = only-when 1; whenever = λ h. goes-selected s f (control (passes (controlReady s f) h)) }
 
   -- primary goes exactly when control does not and it holds a frame
-  pub primary-exactly : Exactly s f 2 (leaves f Primary)
+  pub primary-exactly : GoesExactly s f 2 (leaves f Primary)
   primary-exactly =
       record { only = only-when 2; whenever = λ h. goes-selected s f (primary (held-not (controlReady s f) (h .0)) (passes (primaryReady f) (h .1))) }
 
@@ -128,7 +110,7 @@ module _ (s : Settings) (f : Flow) where
       goes-selected s f (secondary (held-not (controlReady s f) a) (held-not (primaryReady f) b) (held-not (needy s f) c) (held-not (stageReady f) d) (passes (secondaryReady s f) e))
 
   -- the stage goes exactly when none before it does and it holds a frame
-  pub stage-exactly : Exactly s f 4 (leavesStage f)
+  pub stage-exactly : GoesExactly s f 4 (leavesStage f)
   stage-exactly =
       record {
         only = only-when 4;
@@ -136,7 +118,7 @@ module _ (s : Settings) (f : Flow) where
       }
 
   -- nothing goes exactly when no row holds
-  pub nothing-exactly : Exactly s f 0 (nothingOf f)
+  pub nothing-exactly : GoesExactly s f 0 (nothingOf f)
   nothing-exactly =
       record {
         only = only-when 0;

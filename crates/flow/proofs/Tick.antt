@@ -15,7 +15,8 @@ use Rattle.flow.specs.declared.Which.the-variants.{M, A, B, C, D}
 use Rattle.flow.specs.Which.{bucketOf, creditOf, limitsFor}
 use Rattle.flow.specs.Parts.{stageHolds, withCredits}
 use Rattle.flow.specs.Tick.{waits, amountOf, tickEvents, tickOf}
-use Rattle.flow.proofs.Held.{Holding, Staged, holding, staged}
+use Rattle.flow.specs.Frames.{Holding, Staged}
+use Rattle.flow.proofs.Held.{holding, staged}
 use Rattle.flow.proofs.Range.{credit-fed}
 
 or-true : (a b : Bool) → ((a || b) ≡ true) ↔ ((a ≡ true) ⊎ (b ≡ true))

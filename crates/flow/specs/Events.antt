@@ -1,4 +1,5 @@
--- What each call is to each shaper: one event per tick, one send per charge. It is told from the call and its answer, and no credit is asked.
+-- What each call is to each shaper: one event per tick, one send per charge. It is told from the call, its answer, and the station as it
+-- was but for its credits.
 -- Assumes nothing.
 use Prim.Native.Nat.{ℕ}
 use mathlib.Core.Bool.{cond, not, _&&_}

@@ -6,3 +6,4 @@ pub mod Offer
 pub mod Select
 pub mod Pick
 pub mod Events
+pub mod Frames

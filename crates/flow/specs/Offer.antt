@@ -1,10 +1,10 @@
 -- Frames in: transit and control frames into the queues, client frames into the stage.
 -- Assumes nothing.
-use Prim.Native.Nat.{ℕ, zero, suc}
+use Prim.Native.Nat.{ℕ}
 use mathlib.Core.Bool.{Bool, cond, not, _&&_}
 use mathlib.Core.List.{List, [], _∷_}
 use lib.Dec.{ltb, eqb}
-use Rattle.decide.specs.Refusal.{Fault, fault, firstOf}
+use Rattle.decide.specs.Refusal.{Fault, fault, firstOf, refusedOr}
 use Rattle.queue.specs.declared.Frame.{Frame}
 use Rattle.queue.specs.Frame.{FrameOk, wordOf}
 use Rattle.queue.specs.Queue.{pushed, spaceOf}
@@ -36,13 +36,16 @@ pub record Offered (s : Settings) (f : Flow) (x : Frame) : Type 0 where
 abbrev pub enterFaults : Settings → Flow → Line → Frame → List Fault
 enterFaults s f l x = fault 4 (ltb (spaceOf (queueOf f l) (capacityOf s l)) (x .size)) ∷ []
 
--- the frame stands last in its queue; a refusal changes nothing
-unfoldable pub enteredOf : ℕ → Flow → Line → Frame → Entered
-enteredOf zero f l x = record { number = 0; detail = 0; flow = withQueue f l (pushed (queueOf f l) x) }
-enteredOf (suc n) f l x = record { number = suc n; detail = 0; flow = f }
+-- a refusal changes nothing
+abbrev pub notEnteredOf : Flow → ℕ → Entered
+notEnteredOf f n = record { number = n; detail = 0; flow = f }
+
+-- the frame stands last in its queue
+abbrev pub appendedOf : Flow → Line → Frame → Entered
+appendedOf f l x = record { number = 0; detail = 0; flow = withQueue f l (pushed (queueOf f l) x) }
 
 abbrev pub enterOf : Settings → Flow → Line → Frame → Entered
-enterOf s f l x = enteredOf (firstOf (enterFaults s f l x)) f l x
+enterOf s f l x = refusedOr (notEnteredOf f) (firstOf (enterFaults s f l x)) (appendedOf f l x)
 
 -- Transit A goes to the primary queue, B and C to the secondary.
 unfoldable pub queueFor : ℕ → Line
@@ -93,19 +96,19 @@ abbrev pub refusedOf : Flow → ℕ → Client
 refusedOf f n = record { number = n; detail = 0; mark = 0; flow = f }
 
 -- the frame lies in the stage, and the shapers that it needs are charged
-unfoldable pub clientBy : ℕ → Settings → Flow → Way → Frame → Client
-clientBy zero s f w x =
+abbrev pub laidOf : Settings → Flow → Way → Frame → Client
+laidOf s f w x =
     record {
       number = 0;
       detail = 0;
       mark = x .mark;
       flow = withStage (withCredits f (fed s (f .credits) (sends (needsOf w) (x .size)))) (wordOf x);
     }
-clientBy (suc n) s f w x = refusedOf f (suc n)
 
 -- a client frame that goes this way
 abbrev pub clientAs : Way → Settings → Flow → ℕ → ℕ → ℕ → Bool → Client
-clientAs w s f class size hops over = clientBy (firstOf (clientFaults s f w over)) s f w (clientFrame w class size hops)
+clientAs w s f class size hops over =
+    refusedOr (refusedOf f) (firstOf (clientFaults s f w over)) (laidOf s f w (clientFrame w class size hops))
 
 abbrev pub clientOf : Settings → Flow → ℕ → ℕ → ℕ → Bool → Client
 clientOf s f class size hops over = clientAs (wayOf s (f .credits) class) s f class size hops over

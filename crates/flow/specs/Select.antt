@@ -1,11 +1,13 @@
 -- Selection: table 6.4, store and forward.
 -- Assumes nothing.
-use Prim.Native.Nat.{ℕ}
+use Prim.Native.Nat.{ℕ, zero, suc}
 use mathlib.Core.Bool.{cond}
 use mathlib.Core.List.{List, [], _∷_}
-use Rattle.decide.specs.Test.{Test, test, _≤?_, _<?_, _∧?_}
+use mathlib.Core.Logic.{_⊎_}
+use mathlib.Core.Path.{_≡_}
+use Rattle.decide.specs.Test.{Test, test, Holds, _≤?_, _<?_, _∧?_}
 use Rattle.queue.specs.Frame.{frameOf}
-use Rattle.queue.specs.Queue.{firstOf, taken, spaceOf}
+use Rattle.queue.specs.Queue.{firstFrame, taken, spaceOf}
 use Rattle.settings.specs.declared.Settings.{Settings}
 use Rattle.flow.specs.declared.Flow.{Flow}
 use Rattle.flow.specs.declared.Line.{Line}
@@ -22,8 +24,8 @@ use Rattle.flow.specs.Parts.{queueOf, withCredits, withStage, withQueue}
 abbrev pub controlReady : Settings → Flow → Test
 controlReady s f =
     0 <? f .control .count
-    ∧? firstOf (f .control) .size ≤? spaceOf (f .primary) (s .queues .primary)
-    ∧? firstOf (f .control) .size ≤? spaceOf (f .secondary) (s .queues .secondary)
+    ∧? firstFrame (f .control) .size ≤? spaceOf (f .primary) (s .queues .primary)
+    ∧? firstFrame (f .control) .size ≤? spaceOf (f .secondary) (s .queues .secondary)
     ∧? s .shapers .m .lo <? f .credits .m
 
 -- primary
@@ -52,11 +54,11 @@ originOf Secondary = 3
 
 -- The chosen frame leaves its queue: the first one, and nothing is charged.
 abbrev pub leaves : Flow → Line → Selected
-leaves f l = record { origin = originOf l; frame = firstOf (queueOf f l); flow = withQueue f l (taken (queueOf f l)) }
+leaves f l = record { origin = originOf l; frame = firstFrame (queueOf f l); flow = withQueue f l (taken (queueOf f l)) }
 
 -- the same, with a shaper charged
 abbrev pub leavesCharged : Settings → Flow → Line → Which → Selected
-leavesCharged s f l w = leaves (withCredits f (fed s (f .credits) (sends (w ∷ []) (firstOf (queueOf f l) .size)))) l
+leavesCharged s f l w = leaves (withCredits f (fed s (f .credits) (sends (w ∷ []) (firstFrame (queueOf f l) .size)))) l
 
 -- the frame in the stage, which was charged for as it came, leaves it empty: origin 4
 abbrev pub leavesStage : Flow → Selected
@@ -93,3 +95,23 @@ firstThat (c ∷ cs) none = cond (test (c .when)) (c .gives) (firstThat cs none)
 -- .. nothing, where no row holds.
 unfoldable pub selectOf : Settings → Flow → Selected
 selectOf s f = firstThat (candidates s f) (nothingOf f)
+
+-- ---- the table, read as conditions
+
+abbrev pub No : Test → Type 0
+No t = Holds t → ⊥
+
+-- under which condition an origin is answered: nothing, control, primary, secondary, stage, and no other ever
+abbrev pub When : Settings → Flow → ℕ → Type 0
+When s f zero = No (controlReady s f) × (No (primaryReady f) × (No (needy s f) × (No (stageReady f) × No (secondaryReady s f))))
+When s f (suc zero) = Holds (controlReady s f)
+When s f (suc (suc zero)) = No (controlReady s f) × Holds (primaryReady f)
+When s f (suc (suc (suc zero))) =
+    No (controlReady s f) × (No (primaryReady f) × (Holds (needy s f) ⊎ (No (needy s f) × (No (stageReady f) × Holds (secondaryReady s f)))))
+When s f (suc (suc (suc (suc zero)))) = No (controlReady s f) × (No (primaryReady f) × (No (needy s f) × Holds (stageReady f)))
+When s f (suc (suc (suc (suc (suc n))))) = ⊥
+
+-- an origin is answered only under its condition, and whenever that holds this is selected
+pub record GoesExactly (s : Settings) (f : Flow) (origin : ℕ) (gives : Selected) : Type 0 where
+  pub only : selectOf s f .origin ≡ origin → When s f origin
+  pub whenever : When s f origin → selectOf s f ≡ gives

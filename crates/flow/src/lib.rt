@@ -64,7 +64,8 @@ pub enum Way {
     Excess,
 }
 
-// What an offer to a queue answers: 0, or 4 where the frame exceeds its space, and the flow afterwards.
+// What an offer to a queue answers: 0, or 4 where the frame exceeds its space, and the flow afterwards. `detail`, here and below, is what a refusal says
+// beside its number: 0, as none says more.
 pub struct Entered {
     pub number: u8,
     pub detail: u32,

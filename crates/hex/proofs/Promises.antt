@@ -1,17 +1,16 @@
 -- What reading hex text promises: a text in chunks of any sizes comes to what the whole text comes to.
 -- Assumes nothing.
 use Prim.Native.Nat.{ℕ, _<_}
-use mathlib.Core.Bool.{Bool, true, false, cond, _&&_}
+use mathlib.Core.Bool.{cond}
 use mathlib.Core.List.{List, [], _∷_, _++_, flatten}
-use mathlib.Core.Logic.{_⊎_, inl, inr, ⊎-elim}
+use mathlib.Core.Logic.{inl, inr, ⊎-elim}
 use mathlib.Core.Path.{_≡_, refl, sym, ap, _∙_}
 use Rattle.decide.proofs.Cases.{by-cases, true-or-false}
 use Rattle.summary.specs.declared.Answer.{Answer}
-use Rattle.record.proofs.Means.{Cause}
 use Rattle.account.proofs.Promises.{summarize-refused-exactly}
 use Rattle.feed.proofs.Promises.{fed-once}
 use Rattle.hex.specs.declared.Hex.{Hex}
-use Rattle.hex.specs.Hex.{allHex, digitsOf, pairs, even, textOf}
+use Rattle.hex.specs.Hex.{digitsOf, pairs, isHex, textOf, TextCause}
 use Rattle.hex.specs.Fed.{startOf, readChar, readText, readChunks, finishOf}
 use Rattle.hex.proofs.Digits.{text-bytes}
 use Rattle.hex.proofs.Rest.{goes}
@@ -32,21 +31,13 @@ text-read : (cs : List ℕ) → finishOf (readText startOf cs) ≡ textOf cs
 unfolding textOf
 text-read cs =
     goes cs startOf tt
-    ∙ ap (λ a. cond (allHex cs && even (digitsOf cs)) a (Answer.Refused 2)) (fed-once (pairs (digitsOf cs)) (text-bytes cs))
+    ∙ ap (λ a. cond (isHex cs) a (Answer.Refused 2)) (fed-once (pairs (digitsOf cs)) (text-bytes cs))
 
 -- A text in chunks of any sizes gives what the whole text gives.
 pub text-whole : (chunks : List (List ℕ)) → finishOf (readChunks startOf chunks) ≡ textOf (flatten chunks)
 text-whole chunks = ap finishOf (text-chunks-all startOf chunks) ∙ text-read (flatten chunks)
 
 -- ---- refusals
-
--- no character is other text, and there is no odd digit
-abbrev pub isHex : List ℕ → Bool
-isHex cs = allHex cs && even (digitsOf cs)
-
--- what a text can be refused for: 2 where it is no hex, before all else; otherwise what its record is refused for
-abbrev pub TextCause : List ℕ → ℕ → Type 0
-TextCause cs n = ((isHex cs ≡ false) × (n ≡ 2)) ⊎ ((isHex cs ≡ true) × Cause (pairs (digitsOf cs)) n)
 
 module _ (cs : List ℕ) (n : ℕ) (p : 0 < n) where
   means : textOf cs ≡ Answer.Refused n → TextCause cs n

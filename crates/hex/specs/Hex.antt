@@ -3,9 +3,12 @@
 use Prim.Native.Nat.{ℕ, _+_, _*_, _-_, _%_}
 use mathlib.Core.Bool.{Bool, true, false, cond, _&&_, _||_}
 use mathlib.Core.List.{List, [], _∷_}
+use mathlib.Core.Logic.{_⊎_}
+use mathlib.Core.Path.{_≡_}
 use lib.Dec.{eqb, leb}
 use lib.ListN.{length}
 use Rattle.summary.specs.declared.Answer.{Answer}
+use Rattle.record.specs.Cause.{Cause}
 use Rattle.account.specs.Account.{summarizeOf}
 use Rattle.hex.specs.declared.Glyph.{Glyph}
 use Rattle.hex.specs.declared.Glyph.the-variants.{Digit, Blank, Other}
@@ -58,6 +61,14 @@ pairs (h ∷ l ∷ ds) = (16 * h + l) ∷ pairs ds
 abbrev pub even : List ℕ → Bool
 even ds = eqb (length ds % 2) 0
 
+-- no character is other text, and there is no odd digit
+abbrev pub isHex : List ℕ → Bool
+isHex cs = allHex cs && even (digitsOf cs)
+
 -- Other text or an odd digit, anywhere, is 2 before all else; otherwise the bytes are a record.
 unfoldable pub textOf : List ℕ → Answer
-textOf cs = cond (allHex cs && even (digitsOf cs)) (summarizeOf (pairs (digitsOf cs))) (Answer.Refused 2)
+textOf cs = cond (isHex cs) (summarizeOf (pairs (digitsOf cs))) (Answer.Refused 2)
+
+-- what a text can be refused for: 2 where it is no hex, before all else; otherwise what its record is refused for
+abbrev pub TextCause : List ℕ → ℕ → Type 0
+TextCause cs n = ((isHex cs ≡ false) × (n ≡ 2)) ⊎ ((isHex cs ≡ true) × Cause (pairs (digitsOf cs)) n)

@@ -50,7 +50,7 @@ pub fn read(s: &[u8]) -> Station
     }
 }
 
-// What goes next in that station, in range or not. No queue is read as a whole.
+// What goes next in that station, in range or not. Of each queue it uses the front alone.
 pub fn pick(s: &[u8]) -> Pick
     requires { ⌜ length (now s) ≡ stationLength ⌝ }
     ensures { λ r. ⌜ r ≡ pickOf (stationAt (now (s .entry))) ⌝ }
@@ -155,7 +155,7 @@ pub fn write_reading(r: Reading, s: &mut [u8])
     fairness::write(r.fair, s, 52);
 }
 
-// What a selection looks at of the station that 1,770 bytes hold. Of the queues' slots only the first frames' are read.
+// What a selection looks at of the station that 1,770 bytes hold: the credits, the stage and the front of each queue.
 fn sight(s: &[u8]) -> Sight
     requires { ⌜ length (now s) ≡ stationLength ⌝ }
     ensures { λ r. ⌜ r ≡ sightOf (stationAt (now (s .entry)) .flow) ⌝ }

@@ -2,12 +2,13 @@
 -- Assumes nothing.
 use Prim.Native.Nat.{ℕ, _≤_}
 use mathlib.Core.Bool.{Bool, true, false, _&&_}
-use mathlib.Core.List.{[], _∷_, _++_}
+use mathlib.Core.List.{[], _∷_, _++_, append-nil}
 use mathlib.Core.Logic.{_↔_}
-use mathlib.Core.Path.{_≡_, refl, sym, ap, subst, _∙_}
+use mathlib.Core.Path.{_≡_, refl, sym, ap, subst}
+use native.Mathlib.Omega.{arith}
 use borrow.Author.Tests.{eqb-true, eq-eqb, ne-eqb}
 use lib.Dec.{eqb}
-use Rattle.decide.specs.Test.{test, both, and-i, passes}
+use Rattle.decide.specs.Test.{test, Holds, both, and-i, passes}
 use Rattle.decide.proofs.Cases.{by-cases, true-or-false}
 use Rattle.settings.specs.declared.Settings.{Settings}
 use Rattle.queue.specs.declared.Frame.{Frame}
@@ -25,7 +26,8 @@ use Rattle.flow.specs.Which.{permitsAll}
 use Rattle.flow.specs.Parts.{queueOf, capacityOf, stageHolds, withCredits, withQueue}
 use Rattle.flow.specs.Offer.{queueFor, controlFrame, needsOf, markOf}
 use Rattle.flow.specs.Tick as flow
-use Rattle.flow.proofs.Held.{Staged, staged}
+use Rattle.flow.specs.Frames.{Staged}
+use Rattle.flow.proofs.Held.{staged}
 use Rattle.flow.proofs.Range.{start-credit, start-queue, start-stage}
 use Rattle.flow.proofs.Offer.{enter-taken}
 use Rattle.flow.proofs.Frames.{start-frames, enter-appends}
@@ -37,13 +39,19 @@ use Rattle.station.specs.Answers.{withFlow, doneOf}
 use Rattle.station.specs.Calls.{flagsOk, tickOf}
 use Rattle.station.specs.Offers.{givenFrame, offerOf, overFor, wayFor}
 use Rattle.station.specs.History.{Answer}
-use Rattle.station.proofs.Range.{facts-in-range}
-use Rattle.station.proofs.Calls.{start-done, tick-done, select-done}
+use Rattle.settings.proofs.Range as settings
+use Rattle.station.proofs.Range.{in-range-facts, facts-in-range}
+use Rattle.station.proofs.Calls.{start-refused, start-done, tick-done, select-done}
 use Rattle.station.proofs.Interval.{age-ages}
 use Rattle.station.proofs.Offers.{offer-taken, client-occupied, client-denied, client-passing, client-entered}
-use Rattle.station.proofs.Hear.{hear-whole, listen-done, tell-done}
+use Rattle.station.proofs.Hear.{tell-done, show-done}
 use Rattle.station.proofs.History.{trace-creditless}
-use Rattle.paper.specs.Acts.{Starts, Brings, Passes, Stages, Acts, Traces}
+use Rattle.wire.specs.Wire.{le, digits}
+use Rattle.paper.specs.Acts.{Starts, Brings, Passes, Stages, YesNo, Acts, Traces, ReadsOff}
+
+-- a test whose facts do not hold is false
+pub denied-by : {b : Bool} {P : Type 0} → (b ≡ true → P) → (P → ⊥) → b ≡ false
+denied-by {b} means n = by-cases (true-or-false b) (λ e. absurd (n (means e))) (λ e. e)
 
 pub starts : (s : Settings) → Starts s
 unfolding ownRateOf emptyQueue
@@ -55,8 +63,16 @@ starts s =
       stage = start-stage s;
       rates = refl;
       settings = refl;
-      whatever = λ st ok. start-done st s ok;
+      whatever = λ st ok. start-done st s (settings.facts-in-range s ok);
+      refused = λ st n. start-refused st s (denied-by (settings.in-range-facts s) n);
     }
+
+-- yes or no is at most 1
+at-most-1 : {x : ℕ} → YesNo x → x ≤ 1
+at-most-1 y = by-cases y (λ e. omega arith) (λ e. omega arith)
+
+pub flags-hold : {a b c : ℕ} → YesNo a × YesNo b × YesNo c → Holds (flagsOk a b c)
+flags-hold h = (at-most-1 (h .0), (at-most-1 (h .1), at-most-1 (h .2)))
 
 -- a flow with one queue anew
 module _ (f : Flow) (q : Queue) where
@@ -91,7 +107,7 @@ module _ {st : Station} (ok : StationOk st) where
       subst (Brings st l x)
       (sym (offer-taken st l x in-range (tested frame) fits))
       (record {
-        number = refl;
+        number = (refl, refl);
         last =
             subst (λ (e : Entered). framesOf (queueOf (e .flow) l) ≡ framesOf (queueOf (st .flow) l) ++ (x ∷ []))
             (enter-taken (st .settings) (st .flow) l x fits) (enter-appends (st .settings) (st .flow) (ok .settings) (ok .flow) l x frame fits);
@@ -126,11 +142,12 @@ module _ {st : Station} (ok : StationOk st) where
               (by-cases (true-or-false asked) (λ e. absurd (no (asked-exactly .0 e))) (λ e. e));
         }
 
-  tick-credits : (a b c : ℕ) → test (flagsOk a b c) ≡ true
+  tick-credits : (a b c : ℕ) → YesNo a × YesNo b × YesNo c
       → tickOf st a b c ≡ doneOf (withFlow st (withCredits (st .flow) (tickOf st a b c .station .flow .credits)))
   unfolding flow.tickOf
   tick-credits a b c flags =
-      subst (λ (r : Done). r ≡ doneOf (withFlow st (withCredits (st .flow) (r .station .flow .credits)))) (sym (tick-done st a b c in-range flags)) refl
+      subst (λ (r : Done). r ≡ doneOf (withFlow st (withCredits (st .flow) (r .station .flow .credits))))
+      (sym (tick-done st a b c in-range (passes (flagsOk a b c) (flags-hold flags)))) refl
 
   pub acts : Acts st
   acts =
@@ -141,8 +158,8 @@ module _ {st : Station} (ok : StationOk st) where
         client = stages;
         select = select-done st in-range;
         age = age-ages ok;
-        hear = λ frame w r t o. hear-whole st frame w ∙ listen-done st _ r in-range t o;
         tell = tell-done st in-range;
+        show = show-done st in-range;
       }
 
 pub traces : (st : Station) (w : Which) (r : Answer) → Traces st w r
@@ -152,9 +169,35 @@ traces st w r =
       no-tick = λ a b c n. rw (ne-eqb (r .number) 0 n);
       client = λ class size hops e. rw (eq-eqb (r .number) 0 e);
       no-client = λ class size hops n. rw (ne-eqb (r .number) 0 n);
-      control = λ e. rw (eq-eqb (r .origin) 1 e);
+      managed = λ e. rw (eq-eqb (r .origin) 1 e);
       secondary = λ e t. rw (e, t);
       needy = λ e t. rw (e, t);
       elsewhere = λ m n. rw (ne-eqb (r .origin) 1 m, ne-eqb (r .origin) 3 n);
+      transit = λ class size hops eligible. refl;
+      control = λ size. refl;
+      age = refl;
+      hear = λ frame bytes. refl;
+      tell = refl;
+      show = refl;
       creditless = λ c k. trace-creditless w c r st k;
+    }
+
+pub reads-off : (st : Station) (w : Which) (r : ℕ) → ReadsOff st w r
+unfolding digits le
+reads-off st w r =
+    record {
+      number = refl;
+      origin = refl;
+      mark = omega arith;
+      size = omega arith;
+      tick = λ a b c. append-nil _;
+      client = λ class size hops. append-nil _;
+      select = append-nil _;
+      start = λ settings bytes. refl;
+      transit = λ class size hops eligible. refl;
+      control = λ size. refl;
+      age = refl;
+      read-frame = λ frame bytes. refl;
+      write-frame = λ room. refl;
+      show = λ room. refl;
     }

@@ -9,6 +9,7 @@ use Rattle.paper.proofs.OfTally as OfTally
 use Rattle.paper.proofs.OfSummary as OfSummary
 use Rattle.paper.proofs.OfRecord as OfRecord
 use Rattle.paper.proofs.OfAccount as OfAccount
+use Rattle.paper.proofs.OfReport as OfReport
 use Rattle.paper.proofs.OfRing as OfRing
 use Rattle.paper.proofs.OfWrap as OfWrap
 use Rattle.paper.proofs.OfSheet as OfSheet
@@ -39,6 +40,7 @@ answers-determined =
       of-summary = OfSummary.functions;
       of-record = OfRecord.functions;
       of-account = OfAccount.functions;
+      of-report = OfReport.functions;
       of-ring = OfRing.functions;
       of-wrap = OfWrap.functions;
       of-sheet = OfSheet.functions;

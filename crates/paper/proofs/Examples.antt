@@ -2,7 +2,7 @@
 -- Assumes nothing.
 use mathlib.Core.Path.{refl}
 use Rattle.decide.specs.Test.{test}
-use Rattle.decide.specs.Refusal.{first, firstOf}
+use Rattle.decide.specs.Refusal.{first, firstOf, refusedOr}
 use Rattle.summary.specs.Summary.{ceilingOf, needℤ, joined, summaryOf}
 use Rattle.summary.specs.Range.{inRange}
 use Rattle.summary.specs.Answer.{settleOf}
@@ -14,7 +14,7 @@ use Rattle.paper.specs.Examples.{Examples}
 
 pub examples : Examples
 unfolding summaryOf joined ceilingOf needℤ settleOf inRange smoothedOf agedOf partOf ownRateOf
-    chooseOf alongOf noWay preferredOf reachesOf shorterOf distanceOf runOf usable pathOf courseOf test first firstOf
+    chooseOf alongOf noWay preferredOf reachesOf shorterOf distanceOf runOf usable pathOf courseOf test first firstOf refusedOr
 examples =
     record {
       p1-ceiling = refl;

@@ -13,4 +13,5 @@ functions =
       summary-in-range = λ self. by-equation;
       summary-join = λ self other. by-equation;
       summary-settle = λ self start. by-equation;
+      signed = λ p. by-equation;
     }

@@ -5,7 +5,6 @@ use mathlib.Core.Bool.{Bool, cond}
 use mathlib.Core.List.{List, [], _∷_}
 use mathlib.Core.Path.{_≡_, refl, sym, ap, _∙_}
 use lib.Dec.{eqb}
-use native.Mathlib.Omega.{arith}
 use Rattle.decide.specs.Test.{Holds, facts, passes}
 use Rattle.settings.specs.declared.Settings.{Settings}
 use Rattle.shaper.specs.declared.Event.the-variants.{Send}
@@ -19,7 +18,7 @@ use Rattle.flow.proofs.Tick as waiting
 use Rattle.flow.proofs.Offer as offer
 use Rattle.fair.specs.declared.Fair.{Fair}
 use Rattle.advert.specs.declared.Advert.{Advert}
-use Rattle.advert.specs.Frame.{whole, advertBytes}
+use Rattle.advert.specs.Frame.{whole, advertBytes, AdvertFits, parsedOf}
 use Rattle.advert.proofs.ReadBack.{parse-written, written-bare}
 use Rattle.rates.specs.Rates.{countedOf}
 use Rattle.fair.proofs.Count as count
@@ -108,18 +107,23 @@ pub hears : (f : Fair) (a : Advert) → Hears f a
 hears f a = record { clears = heard.heard-clears f a; sets = heard.heard-sets f a; keeps = λ downstream ttl high low rate. refl }
 
 pub reads : (xs : List ℕ) → Reads xs
+unfolding parsedOf
 reads xs =
     record {
       whole-exactly = (facts (whole xs), passes (whole xs));
       ttl = refl;
       ringlet = refl;
-      address = omega arith;
+      address = (refl, refl);
       rate = refl;
+      parsed = λ e. rw e;
+      not-parsed = λ e. rw e;
     }
 
 pub writes : (a : Advert) → Writes a
 writes a =
     record {
-      back = λ fits. let found = frame-found (advertBytes a) a (parse-written a fits) in (found .0, sym (found .1));
+      back = λ r t h l z.
+          let fits : AdvertFits a = record { ringlet-fits = r; ttl-fits = t; high-fits = h; low-fits = l; rate-fits = z } in
+          let found = frame-found (advertBytes a) a (parse-written a fits) in (found .0, sym (found .1));
       bare = written-bare a;
     }

@@ -1,14 +1,18 @@
 -- The rules hold, by the laws beside each definition.
 -- Assumes nothing.
-use Prim.Native.Nat.{ℕ, _≤_}
+use Prim.Native.Nat.{ℕ, _*_, _≤_}
 use mathlib.Core.Bool.{true, true≢false}
-use mathlib.Core.Logic.{_↔_}
-use mathlib.Core.Path.{_≡_, refl, sym, _∙_}
+use mathlib.Core.Logic.{_⊎_, inl, inr, _↔_}
+use mathlib.Core.Path.{_≡_, refl, sym, subst, _∙_}
+use native.Mathlib.Omega.{arith}
 use borrow.Author.Tests.{leb-true, le-leb}
+use lib.ListN.{length}
 use Rattle.decide.specs.Test.{Test, test, Holds, facts, passes}
+use Rattle.decide.proofs.Tests.{fails}
 use Rattle.settings.specs.declared.Settings.{Settings}
 use Rattle.flow.specs.declared.Flow.{Flow}
-use Rattle.flow.specs.Select.{controlReady, primaryReady, needy, stageReady, secondaryReady}
+use Rattle.flow.specs.declared.Selected.{Selected}
+use Rattle.flow.specs.Select.{controlReady, primaryReady, needy, stageReady, secondaryReady, When}
 use Rattle.flow.proofs.Ready as ready
 use Rattle.flow.proofs.Select as select
 use Rattle.flow.proofs.Frames.{select-moves}
@@ -18,14 +22,26 @@ use Rattle.fair.proofs.ReadBack.{frame-read-back}
 use Rattle.ring.specs.declared.Way.{Way}
 use Rattle.ring.specs.Choosing.{reachesOf, Between, Placed}
 use Rattle.ring.proofs.Hops.{arrives, not-before, run-on, run-ends}
-use Rattle.ring.proofs.Links.{joins-next, last-joins, both-ends}
+use Rattle.ring.proofs.Links.{joins-next, last-joins, last-link, both-ends}
+use Rattle.ring.proofs.Bits.{ahead-exactly}
 use Rattle.ring.proofs.Rows as ring
 use Rattle.wrap.proofs.Courses as course
-use Rattle.wrap.proofs.Answers.{path-length}
-use Rattle.rpr.proofs.Lent.{credit-of-lent, lent-in-range}
-use Rattle.paper.specs.Second.{Ready, Selects, Ages, Joins, Reaches, Walks, Chooses, Sends, Condition2}
+use Rattle.wrap.specs.declared.Outcome as wrap
+use Rattle.wrap.specs.Walking.{atHome, courseOf, sideOf, pathOf}
+use Rattle.wrap.proofs.Answers.{found}
+use Rattle.wrap.proofs.Exactly.{home-exactly}
+use Rattle.ring.proofs.Faults.{placed-free}
+use Rattle.wrap.proofs.Early.{delivered-early, one-hop-more}
+use Rattle.rpr.proofs.Told.{credit-of-told}
+use Rattle.rpr.proofs.Kept.{kept-lent}
+use Rattle.paper.specs.Second.{Ready, Selects, Ages, Joins, Reaches, Wraps, Chooses, Sends, Condition2}
 use Rattle.paper.proofs.Rules.{ticks, charges, enters, counts, tells, reads, writes, hears}
-use Rattle.paper.proofs.Acts.{starts, acts, traces}
+use Rattle.station.proofs.Interval.{holds-till-interval}
+use Rattle.queue.proofs.Word.{word-frame, frame-fits, word-not-empty}
+use Rattle.paper.proofs.Names.{names}
+use Rattle.paper.proofs.Acts.{starts, flags-hold, acts, traces, reads-off}
+use Rattle.paper.proofs.ByValue.{lost, unfit, listens}
+use Rattle.paper.proofs.Host.{lays, hosts, begins, settings-words, choice-told, choice-refused, path-told, path-refused}
 
 -- a test holds exactly when its fact does
 held : (t : Test) {A : Type 0} → (test t ≡ true) ↔ A → Holds t ↔ A
@@ -42,6 +58,15 @@ is-ready s f =
       secondary = held (secondaryReady s f) (ready.secondary-ready-exactly s f);
     }
 
+-- each row's origin, and what held
+row-when : {s : Settings} {f : Flow} {r : Selected} → select.Goes s f r → When s f (r .origin)
+row-when (select.control a) = facts _ a
+row-when (select.primary a b) = (fails _ a, facts _ b)
+row-when (select.pressed a b c) = (fails _ a, (fails _ b, inl (facts _ c)))
+row-when (select.staged a b c d) = (fails _ a, (fails _ b, (fails _ c, facts _ d)))
+row-when (select.secondary a b c d e) = (fails _ a, (fails _ b, inr (fails _ c, (fails _ d, facts _ e))))
+row-when (select.nothing a b c d e) = (fails _ a, (fails _ b, (fails _ c, (fails _ d, fails _ e))))
+
 selects : (s : Settings) (f : Flow) → Selects s f
 selects s f =
     record {
@@ -52,6 +77,14 @@ selects s f =
       stage = select.stage-exactly s f;
       secondary = select.secondary-goes s f;
       nothing = select.nothing-exactly s f;
+      first = select.control-exactly s f .whenever;
+      then-primary = λ c p. select.primary-exactly s f .whenever (c, p);
+      then-stage = λ c p n g. select.stage-exactly s f .whenever (c, (p, (n, g)));
+      else-nothing = λ c p n g d. select.nothing-exactly s f .whenever (c, (p, (n, (g, d))));
+      not = λ t. (λ n. n, λ n. n);
+      origins = (refl, refl, refl, refl, refl);
+      answered = subst (λ (r : Selected). When s f (r .origin)) (sym (select.goes-selected s f (select.goes s f))) (row-when (select.goes s f));
+      unchanged = refl;
       m-charged = refl;
       d-charged = refl;
       uncharged = (refl, refl, refl);
@@ -74,7 +107,13 @@ ages f s held =
     }
 
 joins : (stations : ℕ) → Joins stations
-joins stations = record { next = joins-next stations; last = last-joins stations; both-ends = λ way. both-ends way stations }
+joins stations =
+    record {
+      next = joins-next stations;
+      last = λ some. (last-link stations some .0, last-joins stations some);
+      both-ends = λ way. both-ends way stations;
+      bit = λ way links at. ahead-exactly way stations links at;
+    }
 
 reached : (stations own target links : ℕ) → Placed stations own target links → Reaches stations own target links
 unfolding reachesOf
@@ -88,7 +127,7 @@ reached stations own target links place =
       reaches = λ way. (leb-true _ _, le-leb _ _);
     }
 
-walks : (stations links target : ℕ) (home : Way) → Walks stations links target home
+walks : (stations links target : ℕ) (home : Way) → Wraps stations links target home
 walks stations links target home =
     record {
       moves = course.moves-home stations links target home;
@@ -126,20 +165,42 @@ sends stations own target links r =
       wrapping-unprotected = λ way. ring.wrapping-unprotected way stations own target;
     }
 
+-- no row of a path applies between two places of a ring
+walked : (stations own target links home : ℕ) → Placed stations own target links → (home ≡ 1) ⊎ (home ≡ 2)
+    → let course = courseOf stations links target (sideOf home) (2 * stations) atHome own in
+    pathOf stations own target links home ≡ wrap.Outcome.Moved (course .delivered) (length (course .links))
+walked stations own target links home place side =
+    sym (found stations own target links home (placed-free stations own target links place) (home-exactly home .1 side))
+
 pub second-condition : Condition2
 second-condition =
     record {
-      credits = credit-of-lent;
-      range = lent-in-range;
+      names = names;
+      credits = credit-of-told;
+      range = kept-lent;
+      started = begins;
+      settings = settings-words;
+      hosts = hosts;
+      laid = lays;
+      choice-told = choice-told;
+      choice-refused = choice-refused;
+      path-refused = path-refused;
+      path-told = path-told;
       events = traces;
+      reads-off = reads-off;
       starts = starts;
       calls = λ st ok. acts ok;
-      ticks = ticks;
+      lost = lost;
+      unfit = λ st. unfit;
+      listening = listens;
+      ticks = λ st ok a b c flags. ticks st ok a b c (flags-hold flags);
       charges = charges;
       entry = enters;
+      words = λ mtu x most ok. (word-frame x (frame-fits most ok), λ e. let some = word-not-empty most ok in omega arith);
       selection = selects;
       counting = counts;
       rates = ages;
+      holding = holds-till-interval;
       telling = tells;
       hearing = hears;
       reading = reads;
@@ -149,9 +210,8 @@ second-condition =
       links = joins;
       reach = reached;
       walk = walks;
-      path =
-          λ stations own target links home delivered hops e.
-          let l = path-length stations own target links home delivered hops e in
-          (l .counted, l .delivers);
+      path = walked;
+      early = λ stations own target links home place. delivered-early stations links target home (2 * stations) own (place .station);
+      limit-unseen = λ stations own target links home place. one-hop-more stations links target home own (place .station);
       frames = frame-read-back;
     }

@@ -1,19 +1,19 @@
 -- How a station starts, what each call makes of a station in range where it is carried out (which rule is applied to which of its parts), and what each call is
 -- to a shaper's record, for the second condition. Assumes nothing.
-use Prim.Native.Nat.{ℕ, _+_, _*_, _-_, _/_, _≤_, _<_, min}
+use Prim.Native.Nat.{ℕ, _+_, _*_, _-_, _/_, _%_, _≤_, _<_, min}
 use mathlib.Core.Bool.{true, false}
 use mathlib.Core.List.{List, [], _∷_, _++_}
+use mathlib.Core.Logic.{_⊎_}
 use mathlib.Core.Path.{_≡_}
 use lib.Dec.{eqb}
 use lib.ListN.{replicate}
 use Rattle.decide.specs.Test.{test}
 use Rattle.shaper.specs.Credit as shaper
 use Rattle.settings.specs.declared.Settings.{Settings}
-use Rattle.settings.specs.Range.{settingsOk}
+use Rattle.settings.specs.Range.{SettingsOk}
 use Rattle.queue.specs.declared.Frame.{Frame}
 use Rattle.queue.specs.Frame.{FrameOk, wordOf}
 use Rattle.queue.specs.Queue.{framesOf, sizes, spaceOf}
-use Rattle.advert.specs.Frame.{whole, advertIn}
 use Rattle.flow.specs.declared.Credits.{Credits}
 use Rattle.flow.specs.declared.Line.{Line}
 use Rattle.flow.specs.declared.Line.the-variants.{Control}
@@ -26,21 +26,23 @@ use Rattle.flow.specs.Tick.{waits}
 use Rattle.flow.specs.Offer.{queueFor, wayOf, needsOf, markOf, clientFrame}
 use Rattle.flow.specs.Events.{wayBack}
 use Rattle.flow.specs.Select as flow
-use Rattle.flow.proofs.Held.{Staged}
+use Rattle.flow.specs.Frames.{Staged}
 use Rattle.fair.specs.declared.Fair.{Fair}
 use Rattle.fair.specs.Age as interval
-use Rattle.fair.specs.Range.{ttlOk}
 use Rattle.fair.specs.Count.{countOf}
-use Rattle.fair.specs.Advertise.{ownRinglet, ownAddress, heardOf, toldOf}
+use Rattle.fair.specs.Advertise.{toldOf}
 use Rattle.station.specs.declared.Station.{Station}
 use Rattle.station.specs.declared.Done.{Done}
-use Rattle.station.specs.Answers.{withFlow, withFair, doneOf}
-use Rattle.station.specs.Calls.{freshOf, startOf, flagsOk, tickOf, selectOf, ageOf}
+use Rattle.station.specs.Answers.{withFlow, withFair, refusedOf, doneOf}
+use Rattle.station.specs.Calls.{freshOf, startOf, tickOf, selectOf, ageOf, amountFor}
 use Rattle.station.specs.Offers.{turnedOf, offerTransitOf, offerControlOf, offerClientOf}
-use Rattle.station.specs.Hear.{hearOf, tellOf}
+use Rattle.station.specs.Hear.{tellOf}
+use Rattle.station.specs.Show.{readingOf, showOf}
 use Rattle.station.specs.History as history
+use Rattle.rpr.specs.Lent as lent
+use Rattle.rpr.specs.Told.{readOff, eventsTold}
+use Rattle.wire.specs.Wire.{Bytes}
 use Rattle.station.specs.History.{Call, Answer, trace}
-use Rattle.station.proofs.Tick.{amountFor}
 
 -- ---- start
 
@@ -70,13 +72,14 @@ pub record Starts (s : Settings) : Type 0 where
       }
   pub settings : freshOf s .settings ≡ s
   -- It is so whatever the station was.
-  pub whatever : (st : Station) → test (settingsOk s) ≡ true → startOf st s ≡ doneOf (freshOf s)
+  pub whatever : (st : Station) → SettingsOk s → startOf st s ≡ doneOf (freshOf s)
+  pub refused : (st : Station) → (SettingsOk s → ⊥) → startOf st s ≡ refusedOf st 1
 
 -- ---- calls on a station in range
 
 -- the frame stands last in the queue, and nothing else changes
 pub record Brings (st : Station) (l : Line) (x : Frame) (r : Done) : Type 0 where
-  pub number : r .number ≡ 0
+  pub number : (r .number ≡ 0) × (r .detail ≡ 0)
   pub last : framesOf (queueOf (r .station .flow) l) ≡ framesOf (queueOf (st .flow) l) ++ (x ∷ [])
   pub others : (k : Line) → (k ≡ l → ⊥) → queueOf (r .station .flow) k ≡ queueOf (st .flow) k
   pub kept : (r .station .flow .credits ≡ st .flow .credits) × (r .station .flow .stage ≡ st .flow .stage)
@@ -110,9 +113,13 @@ pub record Stages (st : Station) (class size hops : ℕ) (way : Way) : Type 0 wh
             (withStage (withCredits (st .flow) (fed (st .settings) (st .flow .credits) (sends (needsOf way) size))) (wordOf (clientFrame way class size hops)));
       }
 
+-- Yes or no: 1 or 0.
+abbrev pub YesNo : ℕ → Type 0
+YesNo x = (x ≡ 0) ⊎ (x ≡ 1)
+
 pub record Acts (st : Station) : Type 0 where
   -- A tick changes credits alone.
-  pub tick : (a b c : ℕ) → test (flagsOk a b c) ≡ true
+  pub tick : (a b c : ℕ) → YesNo a × YesNo b × YesNo c
       → tickOf st a b c ≡ doneOf (withFlow st (withCredits (st .flow) (tickOf st a b c .station .flow .credits)))
   -- Transit A goes to the primary queue, B and C to the secondary.
   pub transit : (class size hops eligible : ℕ)
@@ -143,12 +150,9 @@ pub record Acts (st : Station) : Type 0 where
       }
   -- An aging interval looks at the bytes of the secondary queue.
   pub age : ageOf st ≡ doneOf (withFair st (interval.ageOf (st .fair) (st .settings) (sizes (framesOf (st .flow .secondary)))))
-  -- A whole frame of the other ringlet, with a ttl in range and another's address, is heard.
-  pub hear : (frame : List ℕ) → test (whole frame) ≡ true → test (ownRinglet (st .settings) (advertIn frame)) ≡ false
-      → test (ttlOk (advertIn frame .ttl)) ≡ true → test (ownAddress (st .settings) (advertIn frame)) ≡ false
-      → hearOf st frame ≡ doneOf (withFair st (heardOf (st .fair) (advertIn frame)))
   -- What is told is told of the station's own fair rates.
   pub tell : tellOf st ≡ record { number = 0; detail = 0; advert = toldOf (st .fair) (st .settings) }
+  pub show : showOf st ≡ record { number = 0; detail = 0; reading = readingOf st }
 
 -- ---- a shaper's record: what a call with this answer is to it
 
@@ -162,9 +166,35 @@ pub record Traces (st : Station) (w : Which) (r : Answer) : Type 0 where
       → trace w (history.offerClient class size hops) r st ≡ sends (needsOf (wayBack class (r .mark))) size w
   pub no-client : (class size hops : ℕ) → (r .number ≡ 0 → ⊥) → trace w (history.offerClient class size hops) r st ≡ []
   -- of a selected frame, to M where it is a control frame, and to D where it is a secondary one and mtu ≤ its queue's space.
-  pub control : r .origin ≡ 1 → trace w history.select r st ≡ sends (M ∷ []) (r .frame .size) w
+  pub managed : r .origin ≡ 1 → trace w history.select r st ≡ sends (M ∷ []) (r .frame .size) w
   pub secondary : r .origin ≡ 3 → test (flow.needy (st .settings) (st .flow)) ≡ false → trace w history.select r st ≡ sends (D ∷ []) (r .frame .size) w
   pub needy : r .origin ≡ 3 → test (flow.needy (st .settings) (st .flow)) ≡ true → trace w history.select r st ≡ []
   pub elsewhere : (r .origin ≡ 1 → ⊥) → (r .origin ≡ 3 → ⊥) → trace w history.select r st ≡ []
+  -- No other call is an event to a shaper.
+  pub transit : (class size hops eligible : ℕ) → trace w (history.offerTransit class size hops eligible) r st ≡ []
+  pub control : (size : ℕ) → trace w (history.offerControl size) r st ≡ []
+  pub age : trace w history.age r st ≡ []
+  pub hear : (frame : List ℕ) (bytes : Bytes frame) → trace w (history.hear frame bytes) r st ≡ []
+  pub tell : trace w history.tell r st ≡ []
+  pub show : trace w history.show r st ≡ []
   -- No credit is asked: the record is not made from what it is to be compared with.
   pub creditless : (c : Call) (k : Credits) → trace w c r (withFlow st (withCredits (st .flow) k)) ≡ trace w c r st
+
+-- The number r that a host got for a call on this station, read as eight bytes, byte 0 the lowest: which answer it is, and so what the call was to a shaper.
+pub record ReadsOff (st : Station) (w : Which) (r : ℕ) : Type 0 where
+  -- Byte 0 is 0 where the call was carried out, else the refusal number. Byte 1 origin, 4 eligible, 6 and 7 size.
+  pub number : readOff r .number ≡ r % 256
+  pub origin : readOff r .origin ≡ r / 256 % 256
+  pub mark : readOff r .mark ≡ r / 4294967296 % 256
+  pub size : readOff r .frame .size ≡ r / 281474976710656 % 65536
+  pub tick : (a b c : ℕ) → eventsTold w (lent.tick a b c) r st ≡ trace w (history.tick a b c) (readOff r) st
+  pub client : (class size hops : ℕ) → eventsTold w (lent.offerClient class size hops) r st ≡ trace w (history.offerClient class size hops) (readOff r) st
+  pub select : eventsTold w lent.select r st ≡ trace w history.select (readOff r) st
+  -- No other call is an event to a shaper.
+  pub start : (settings : List ℕ) (bytes : Bytes settings) → eventsTold w (lent.start settings bytes) r st ≡ []
+  pub transit : (class size hops eligible : ℕ) → eventsTold w (lent.offerTransit class size hops eligible) r st ≡ []
+  pub control : (size : ℕ) → eventsTold w (lent.offerControl size) r st ≡ []
+  pub age : eventsTold w lent.age r st ≡ []
+  pub read-frame : (frame : List ℕ) (bytes : Bytes frame) → eventsTold w (lent.readFrame frame bytes) r st ≡ []
+  pub write-frame : (room : List ℕ) → eventsTold w (lent.writeFrame room) r st ≡ []
+  pub show : (room : List ℕ) → eventsTold w (lent.show room) r st ≡ []

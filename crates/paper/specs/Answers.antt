@@ -8,6 +8,7 @@ use Rattle.paper.specs.OfTally as OfTally
 use Rattle.paper.specs.OfSummary as OfSummary
 use Rattle.paper.specs.OfRecord as OfRecord
 use Rattle.paper.specs.OfAccount as OfAccount
+use Rattle.paper.specs.OfReport as OfReport
 use Rattle.paper.specs.OfRing as OfRing
 use Rattle.paper.specs.OfWrap as OfWrap
 use Rattle.paper.specs.OfSheet as OfSheet
@@ -36,6 +37,7 @@ pub record AnswersDetermined : Type 0 where
   pub of-summary : OfSummary.Functions
   pub of-record : OfRecord.Functions
   pub of-account : OfAccount.Functions
+  pub of-report : OfReport.Functions
   pub of-ring : OfRing.Functions
   pub of-wrap : OfWrap.Functions
   pub of-sheet : OfSheet.Functions

@@ -1,6 +1,5 @@
 -- Document 01, "Proved examples": P1 to P12, together in one statement.
 -- Assumes nothing.
-use Prim.Native.Nat.{ℕ}
 use mathlib.Core.Bool.{true, false}
 use mathlib.Core.List.{List, [], _∷_}
 use mathlib.Core.Path.{_≡_}

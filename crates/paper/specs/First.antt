@@ -1,79 +1,116 @@
 -- The first condition of acceptance, in its own words, call by call.
 --
--- "Every call ends, on every input, without undefined behaviour": each exported function is proved, and none has a condition that its caller must meet.
--- "Bad settings, frames or records get document 01's refusal number, first fault first, and station and lent memory then stay exactly as before": below.
+-- "Every call ends, on every input, without undefined behaviour": each exported function is proved, and none has a condition that its caller must meet. No
+-- field below says so: a function of this language is accepted only where it is proved to end and to be defined.
+-- "Bad settings, frames or records get document 01's refusal number, first fault first, and station and lent memory then stay exactly as before": below. What
+-- each number is given for is said in `Reasons`, as facts.
 -- Assumes nothing.
 use Prim.Native.Nat.{ℕ, _%_, _≤_, _<_}
 use mathlib.Core.Bool.{true}
-use mathlib.Core.List.{List}
-use mathlib.Core.Logic.{_↔_}
+use mathlib.Core.List.{List, [], _∷_}
+use mathlib.Core.Logic.{_⊎_, _↔_}
 use mathlib.Core.Path.{_≡_}
-use Rattle.decide.specs.Test.{test}
-use Rattle.decide.specs.Refusal.{Fault, firstOf}
-use Rattle.decide.proofs.Refusal.{RefusedExactly}
-use Rattle.wire.specs.Wire.{Bytes}
-use Rattle.summary.specs.declared.Answer.{Answer}
-use Rattle.record.proofs.Means.{Cause}
-use Rattle.account.specs.Account.{summarizeOf}
-use Rattle.ring.specs.Choosing.{chooseFaults}
-use Rattle.wrap.specs.Walking.{pathFaults}
+use lib.ListN.{length}
+use Rattle.wire.specs.Wire.{Bytes, digits}
+use Rattle.decide.specs.Test.{test, Holds}
+use Rattle.decide.specs.Refusal.{firstOf}
+use Rattle.ring.specs.Choosing.{placeFaults}
+use Rattle.shaper.specs.declared.Limits.{Limits}
+use Rattle.shaper.specs.Limits.{mostEvents, mostAmount, mostSize, limitsOk, LimitsOk}
+use Rattle.summary.specs.declared.Summary.{Summary}
+use Rattle.summary.specs.Range.{inRange, InRange}
 use Rattle.settings.specs.declared.Settings.{Settings}
-use Rattle.settings.specs.Range.{settingsOk, SettingsOk}
-use Rattle.queue.specs.declared.Frame.{Frame}
-use Rattle.queue.specs.Frame.{frameOk, FrameOk}
-use Rattle.flow.specs.declared.Line.the-variants.{Control}
-use Rattle.flow.specs.Offer.{queueFor, controlFrame}
-use Rattle.fair.specs.Range.{ttlOk}
+use Rattle.settings.specs.Range.{settingsOk, AgeCoef, Coef, SettingsOk}
+use Rattle.flow.specs.declared.Flow.{Flow}
+use Rattle.flow.specs.Range.{flowOk, FlowOk}
+use Rattle.fair.specs.declared.Fair.{Fair}
+use Rattle.fair.specs.Range.{fairOk, FairOk}
 use Rattle.station.specs.declared.Station.{Station}
 use Rattle.station.specs.Range.{stationOk, StationOk}
-use Rattle.station.specs.Offers.{givenFrame}
-use Rattle.rpr.specs.Calls.{summarizeRows, summarizeAnswer, summarizeAfter, joinRows, joinAnswer, joinAfter, settleRows, settleAnswer}
+use Rattle.layout.specs.Layout.{stationLength}
+use Rattle.settings.specs.Words.{settingsLength}
+use Rattle.queue.specs.declared.Queue.{Queue}
+use Rattle.queue.specs.declared.Frame.{Frame}
+use Rattle.queue.specs.Frame.{hopsOk, frameOk, FrameOk}
+use Rattle.queue.specs.Range.{AllOk, queueOk, QueueOk}
+use Rattle.advert.specs.Frame.{advertLength}
+use Rattle.flow.specs.declared.Line.the-variants.{Control}
+use Rattle.flow.specs.Offer.{queueFor}
+use Rattle.sheet.specs.Sheet.{sheetLength}
+use Rattle.layout.specs.Reading.{readingLength}
+use Rattle.rpr.specs.Calls.{summarizeAnswer, summarizeAfter, joinAnswer, joinAfter, settleAnswer}
 use Rattle.rpr.specs.Ways.{chooseAnswer, pathAnswer}
-use Rattle.rpr.specs.Station.{startRows, startAnswer, startAfter, tickRows, tickAnswer, tickAfter, ageRows, ageAnswer, ageAfter}
-use Rattle.rpr.specs.Station.{offerClientRows, offerClientAnswer, offerClientAfter, offerRows, offerTransitAnswer, offerTransitAfter}
-use Rattle.rpr.specs.Station.{offerControlAnswer, offerControlAfter, selectRows, selectAnswer, selectAfter, readFrameRows, readFrameAnswer, readFrameAfter}
-use Rattle.rpr.specs.Station.{writeFrameRows, writeFrameAnswer, writeFrameAfter, showRows, showAnswer, showAfter}
-use Rattle.rpr.proofs.Shape.{Bears}
+use Rattle.rpr.specs.Station.{startAnswer, startAfter, tickAnswer, tickAfter, ageAnswer, ageAfter}
+use Rattle.rpr.specs.Station.{offerClientAnswer, offerClientAfter, offerTransitAnswer, offerTransitAfter, offerControlAnswer, offerControlAfter}
+use Rattle.rpr.specs.Station.{selectAnswer, selectAfter, readFrameAnswer, readFrameAfter, writeFrameAnswer, writeFrameAfter, showAnswer, showAfter}
+use Rattle.paper.specs.Reasons.{CarriedOut, placeRefused, OtherLength, Spaces, startRefused, tickRefused, offerRefused, clientRefused, stationRefused, readRefused, roomRefused}
+use Rattle.paper.specs.Reasons.{chooseRefused, pathRefused, RecordRefused, joinRefused, settleRefused}
 
--- A number is given exactly when its row of the refusal table applies and none before it does; it is byte 0 of the answer, and alone there.
-pub record Refuses (rows : List Fault) (answer : ℕ) : Type 0 where
-  pub exactly : RefusedExactly (answer % 256) rows
-  pub alone : Bears (firstOf rows) answer
+-- Byte 0 of the answer is the number that is given. Each returns its number alone: where it is not 0, every other byte is 0.
+pub record Refuses (given : ℕ → Type 0) (answer : ℕ) : Type 0 where
+  pub number : given (answer % 256)
+  pub alone : 0 < answer % 256 → digits 8 answer ≡ answer % 256 ∷ 0 ∷ 0 ∷ 0 ∷ 0 ∷ 0 ∷ 0 ∷ 0 ∷ []
 
--- And the slice that is lent for writing stays then.
-pub record RefusesLent (rows : List Fault) (answer : ℕ) (before after : List ℕ) : Type 0 where
-  pub refuses : Refuses rows answer
-  pub stays : 0 < firstOf rows → after ≡ before
+-- And it leaves the bytes that are lent for writing untouched.
+pub record RefusesLent (given : ℕ → Type 0) (answer : ℕ) (before after : List ℕ) : Type 0 where
+  pub refuses : Refuses given answer
+  pub stays : 0 < answer % 256 → after ≡ before
 
--- What the rows ask of settings, a lent station and a frame is document 01's ranges, each a named fact.
-pub record Ranges : Type 0 where
+-- rpr_summarize: a wrong room is 2 first, then the record's earliest fault.
+pub record RefusesRecord (bytes room : List ℕ) : Type 0 where
+  pub other-room : OtherLength sheetLength room → summarizeAnswer bytes room % 256 ≡ 2
+  pub fault : length room ≡ sheetLength → (n : ℕ) → 0 < n → (summarizeAnswer bytes room % 256 ≡ n) ↔ RecordRefused bytes n
+  pub alone : 0 < summarizeAnswer bytes room % 256 → digits 8 (summarizeAnswer bytes room) ≡ summarizeAnswer bytes room % 256 ∷ 0 ∷ 0 ∷ 0 ∷ 0 ∷ 0 ∷ 0 ∷ 0 ∷ []
+  pub stays : 0 < summarizeAnswer bytes room % 256 → summarizeAfter bytes room ≡ room
+
+-- each public test of a range, and the range
+pub record Tested : Type 0 where
+  pub limits : (l : Limits) → (test (limitsOk l) ≡ true) ↔ LimitsOk l
+  pub summary : (s : Summary) → (inRange s ≡ true) ↔ InRange s
   pub settings : (s : Settings) → (test (settingsOk s) ≡ true) ↔ SettingsOk s
-  pub station : (st : Station) → (test (stationOk st) ≡ true) ↔ StationOk st
   pub frame : (mtu : ℕ) (x : Frame) → (test (frameOk mtu x) ≡ true) ↔ FrameOk mtu x
-  pub ttl : (x : ℕ) → (test (ttlOk x) ≡ true) ↔ ((193 ≤ x) × (x ≤ 255))
+  -- the frames of a queue, each in range
+  pub no-frame : (mtu : ℕ) → AllOk mtu []
+  pub a-frame : (mtu : ℕ) (x : Frame) (xs : List Frame) → AllOk mtu (x ∷ xs) ↔ (FrameOk mtu x × AllOk mtu xs)
+  -- ageCoef 1, 2, 4, 8 or 16; lpCoef and rampUp 16, 32, 64, 128, 256 or 512
+  pub age-coef : (x : ℕ) → AgeCoef x ↔ ((x ≡ 1) ⊎ ((x ≡ 2) ⊎ ((x ≡ 4) ⊎ ((x ≡ 8) ⊎ (x ≡ 16)))))
+  pub coef : (x : ℕ) → Coef x ↔ ((x ≡ 16) ⊎ ((x ≡ 32) ⊎ ((x ≡ 64) ⊎ ((x ≡ 128) ⊎ ((x ≡ 256) ⊎ (x ≡ 512))))))
+  pub queue : (mtu capacity : ℕ) (q : Queue) → (test (queueOk mtu capacity q) ≡ true) ↔ QueueOk mtu capacity q
+  pub flow : (s : Settings) (f : Flow) → (test (flowOk s f) ≡ true) ↔ FlowOk s f
+  pub fair : (s : Settings) (f : Fair) → (test (fairOk s f) ≡ true) ↔ FairOk s f
+  pub station : (st : Station) → (test (stationOk st) ≡ true) ↔ StationOk st
 
 -- A row for each exported call; `rpr_station_length` refuses nothing.
 pub record Condition1 : Type 0 where
-  pub ranges : Ranges
-  pub start : (settings station : List ℕ) → RefusesLent (startRows settings station) (startAnswer settings station) station (startAfter settings station)
-  pub tick : (station : List ℕ) (a b c : ℕ) → RefusesLent (tickRows station a b c) (tickAnswer station a b c) station (tickAfter station a b c)
+  -- The numbers that bound a record's events, which the ranges below name: 1,000,000 events, amount 65,535, size 9,216.
+  pub bounds : (mostEvents ≡ 1000000) × (mostAmount ≡ 65535) × (mostSize ≡ 9216)
+  -- The lengths that a slice of another length is refused for: settings 30 words, a summary 48 bytes, a reading 31 words, a frame 12 bytes. A station's is
+  -- the library's own, and one that a host can lend.
+  pub lengths : (settingsLength ≡ 120) × (sheetLength ≡ 48) × (readingLength ≡ 124) × (advertLength ≡ 12) × (stationLength < 65536)
+  pub hops : (h : ℕ) → Holds (hopsOk h) ↔ ((1 ≤ h) × (h ≤ 63))
+  -- The library's own tests of ranges say the same.
+  pub tested : Tested
+  pub start : (settings station : List ℕ) → RefusesLent (startRefused settings station) (startAnswer settings station) station (startAfter settings station)
+  pub tick : (station : List ℕ) (a b c : ℕ) → RefusesLent (tickRefused station a b c) (tickAnswer station a b c) station (tickAfter station a b c)
   pub offer-client : (station : List ℕ) (class size hops : ℕ)
-      → RefusesLent (offerClientRows station class size hops) (offerClientAnswer station class size hops) station (offerClientAfter station class size hops)
+      → RefusesLent (clientRefused station class size hops) (offerClientAnswer station class size hops) station (offerClientAfter station class size hops)
   pub offer-transit : (station : List ℕ) (class size hops eligible : ℕ)
-      → RefusesLent (offerRows station (queueFor class) (givenFrame class size hops eligible)) (offerTransitAnswer station class size hops eligible)
+      → RefusesLent (offerRefused station (queueFor class) (record { size = size; hops = hops; class = class; mark = eligible })) (offerTransitAnswer station class size hops eligible)
       station (offerTransitAfter station class size hops eligible)
   pub offer-control : (station : List ℕ) (size : ℕ)
-      → RefusesLent (offerRows station Control (controlFrame size)) (offerControlAnswer station size) station (offerControlAfter station size)
-  pub select : (station : List ℕ) → RefusesLent (selectRows station) (selectAnswer station) station (selectAfter station)
-  pub age : (station : List ℕ) → RefusesLent (ageRows station) (ageAnswer station) station (ageAfter station)
-  pub read-frame : (station frame : List ℕ) → RefusesLent (readFrameRows station frame) (readFrameAnswer station frame) station (readFrameAfter station frame)
-  pub write-frame : (station room : List ℕ) → RefusesLent (writeFrameRows station room) (writeFrameAnswer station room) room (writeFrameAfter station room)
-  pub show : (station room : List ℕ) → RefusesLent (showRows station room) (showAnswer station room) room (showAfter station room)
+      → RefusesLent (offerRefused station Control (record { size = size; hops = 1; class = 0; mark = 0 })) (offerControlAnswer station size) station (offerControlAfter station size)
+  -- how much room a queue in range has, for 4
+  pub space : (mtu capacity : ℕ) (q : Queue) → QueueOk mtu capacity q → Spaces capacity q
+  pub select : (station : List ℕ) → RefusesLent (stationRefused station) (selectAnswer station) station (selectAfter station)
+  pub age : (station : List ℕ) → RefusesLent (stationRefused station) (ageAnswer station) station (ageAfter station)
+  pub read-frame : (station frame : List ℕ) → RefusesLent (readRefused station frame) (readFrameAnswer station frame) station (readFrameAfter station frame)
+  pub write-frame : (station room : List ℕ) → RefusesLent (roomRefused advertLength station room) (writeFrameAnswer station room) room (writeFrameAfter station room)
+  pub show : (station room : List ℕ) → RefusesLent (roomRefused readingLength station room) (showAnswer station room) room (showAfter station room)
   pub choose : (stations own target links side protection ring : ℕ)
-      → Refuses (chooseFaults stations own target links side protection ring) (chooseAnswer stations own target links side protection ring)
-  pub path : (stations own target links home : ℕ) → Refuses (pathFaults stations own target links home) (pathAnswer stations own target links home)
-  pub summarize : (bytes room : List ℕ) → RefusesLent (summarizeRows bytes room) (summarizeAnswer bytes room) room (summarizeAfter bytes room)
-  -- Within a record the earliest fault counts instead: the number of its row has its cause there, in the header or behind events without fault.
-  pub record-fault : (bytes : List ℕ) (n : ℕ) → Bytes bytes → 0 < n → (summarizeOf bytes ≡ Answer.Refused n) ↔ Cause bytes n
-  pub join : (first second room : List ℕ) → RefusesLent (joinRows first second room) (joinAnswer first second room) room (joinAfter first second room)
-  pub settle : (summary : List ℕ) (start : ℕ) → Refuses (settleRows summary start) (settleAnswer summary start)
+      → Refuses (chooseRefused stations own target links side protection ring) (chooseAnswer stations own target links side protection ring)
+  -- the number of a place on a ring, which choice and path share
+  pub place : (stations own target links : ℕ) → placeRefused stations own target links CarriedOut (firstOf (placeFaults stations own target links))
+  pub path : (stations own target links home : ℕ) → Refuses (pathRefused stations own target links home) (pathAnswer stations own target links home)
+  pub summarize : (bytes room : List ℕ) → Bytes bytes → RefusesRecord bytes room
+  pub join : (first second room : List ℕ) → RefusesLent (joinRefused first second room) (joinAnswer first second room) room (joinAfter first second room)
+  pub settle : (summary : List ℕ) (start : ℕ) → Refuses (settleRefused summary start) (settleAnswer summary start)

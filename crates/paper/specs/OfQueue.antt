@@ -4,7 +4,7 @@ use Prim.Native.Nat.{ℕ}
 use Rattle.decide.specs.Test.{test}
 use Rattle.queue.specs.Frame.{frameOf, frameOk, hopsOk, wordOf}
 use Rattle.queue.specs.Front.{frontOf, fronted}
-use Rattle.queue.specs.Queue.{emptyQueue, firstOf, holdsFrame, pushed, spaceOf, takeOf}
+use Rattle.queue.specs.Queue.{emptyQueue, firstFrame, holdsFrame, pushed, spaceOf, takeOf}
 use Rattle.queue.specs.Range.{queueOk}
 use Rattle.queue.specs.declared.Frame.{Frame}
 use Rattle.queue.specs.declared.Front.{Front}
@@ -24,7 +24,7 @@ pub record Functions : Type 0 where
   -- Frame::of
   pub frame-of : (w : ℕ) → Determined (λ (r : Frame). r ≡ frameOf w)
   -- Front::first
-  pub front-first : (self : Front) → Determined (λ (r : Frame). r ≡ firstOf (fronted self))
+  pub front-first : (self : Front) → Determined (λ (r : Frame). r ≡ firstFrame (fronted self))
   -- Front::space
   pub front-space : (self : Front) (capacity : ℕ) → Determined (λ (r : ℕ). r ≡ spaceOf (fronted self) capacity)
   -- Front::holds_frame

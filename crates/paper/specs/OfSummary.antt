@@ -1,9 +1,11 @@
 -- The public functions of `summary`, by name: two answers that meet the contract are equal.
 -- Assumes nothing.
 use Prim.Native.Nat.{ℕ}
+use Rattle.plain.specs.declared.Plain.{Plain}
 use Rattle.shaper.specs.declared.Event.{Event}
 use Rattle.shaper.specs.declared.Limits.{Limits}
 use Rattle.summary.specs.Answer.{emptyAnswer, joinOf, settleOf, singleAnswer}
+use Rattle.summary.specs.Plain.{signedFrom}
 use Rattle.summary.specs.Range.{inRange}
 use Rattle.summary.specs.declared.Answer.{Answer}
 use Rattle.summary.specs.declared.Outcome.{Outcome}
@@ -27,3 +29,5 @@ pub record Functions : Type 0 where
   pub summary-join : (self other : Summary) → Determined (λ (r : Answer). r ≡ joinOf self other)
   -- Summary::settle
   pub summary-settle : (self : Summary) (start : ℕ) → Determined (λ (r : Outcome). r ≡ settleOf self start)
+  -- signed (a leaf: it asks that (p .events ≤ 4294967295) × (p .depth ≤ 9223372036854775807))
+  pub signed : (p : Plain) → Determined (λ (r : Summary). r ≡ signedFrom p)

@@ -11,7 +11,7 @@ use Rattle.paper.specs.Determined.{Determined}
 pub record Functions : Type 0 where
   -- start
   pub start : (lo : ℕ) → Determined (λ (r : Tally). r ≡ startOf lo)
-  -- step (a leaf: it asks that Within 1000000 t × (rise ≤ 1048576) × (v ≤ 65535))
+  -- step (a leaf: it asks that Within mostEvents t × (rise ≤ 1048576) × (v ≤ mostAmount))
   pub step : (t : Tally) (rise k v : ℕ) → Determined (λ (r : Tally). r ≡ stepOf rise k v t)
-  -- finish (a leaf: it asks that Within 1000000 t)
+  -- finish (a leaf: it asks that Within mostEvents t)
   pub finish : (limits : Limits) (n : ℕ) (t : Tally) → Determined (λ (r : Plain). r ≡ plainAt limits n t)

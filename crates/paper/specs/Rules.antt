@@ -17,17 +17,17 @@ use Rattle.flow.specs.declared.Way.the-variants.{ClassA, ClassB, Excess}
 use Rattle.flow.specs.Which.{bucketOf, creditOf, permitsOf, permitsAll, member, sends, fed}
 use Rattle.flow.specs.Tick.{waits}
 use Rattle.flow.specs.Offer.{queueFor, wayOf, needsOf, markOf}
-use Rattle.flow.proofs.Held.{Holding, Staged}
+use Rattle.flow.specs.Frames.{Holding, Staged}
 use Rattle.fair.specs.declared.Fair.{Fair}
 use Rattle.wire.specs.Wire.{be}
 use Rattle.advert.specs.declared.Advert.{Advert}
-use Rattle.advert.specs.Frame.{AdvertFits, whole, advertIn, advertBytes}
+use Rattle.advert.specs.declared.Parsed.{Parsed}
+use Rattle.advert.specs.Frame.{whole, advertIn, parsedOf, advertBytes}
 use Rattle.rates.specs.Rates.{countedOf}
 use Rattle.fair.specs.Count.{beyond, countOf, withCounters}
 use Rattle.fair.specs.Advertise.{ownFrame, passedOn, receivedOf, toldOf, heardOf}
 use Rattle.station.specs.declared.Station.{Station}
-use Rattle.station.specs.Calls.{tickOf}
-use Rattle.station.proofs.Tick.{amountFor}
+use Rattle.station.specs.Calls.{tickOf, amountFor}
 
 -- ---- shapers: a tick of a station in range
 
@@ -120,12 +120,16 @@ pub record Reads (xs : List ℕ) : Type 0 where
   pub whole-exactly : (test (whole xs) ≡ true) ↔ ((length xs ≡ 12) × ((be 1 xs 1 / 16 % 4 ≡ 2) × (be 2 xs 8 / 8192 ≡ 0)))
   pub ttl : advertIn xs .ttl ≡ be 1 xs 0
   pub ringlet : advertIn xs .ringlet ≡ be 1 xs 1 / 128
-  pub address : advertIn xs .high * 4294967296 + advertIn xs .low ≡ be 6 xs 2
+  pub address : (advertIn xs .high ≡ be 6 xs 2 / 4294967296) × (advertIn xs .low ≡ be 6 xs 2 % 4294967296)
   pub rate : advertIn xs .rate ≡ be 2 xs 10
+  -- Another length, type or header kind: 2.
+  pub parsed : test (whole xs) ≡ true → parsedOf xs ≡ Parsed.Frame (advertIn xs)
+  pub not-parsed : test (whole xs) ≡ false → parsedOf xs ≡ Parsed.Refused 2
 
 pub record Writes (a : Advert) : Type 0 where
   -- A written frame is read so,
-  pub back : AdvertFits a → (test (whole (advertBytes a)) ≡ true) × (advertIn (advertBytes a) ≡ a)
+  pub back : a .ringlet < 2 → a .ttl < 256 → a .high < 65536 → a .low < 4294967296 → a .rate < 65536
+      → (test (whole (advertBytes a)) ≡ true) × (advertIn (advertBytes a) ≡ a)
   -- and other bits are written 0.
   pub bare : (be 1 (advertBytes a) 1 / 64 % 2 ≡ 0) × (be 1 (advertBytes a) 1 % 16 ≡ 0) × (be 2 (advertBytes a) 8 % 8192 ≡ 0)
 

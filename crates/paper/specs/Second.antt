@@ -1,54 +1,57 @@
 -- The second condition of acceptance, in its own words: credits, frame selection, fair rates, ringlet choice and fairness frames equal the rules of document 01,
 -- step for step; fairness frames are both written and read. That each exported call does what the definitions say is its contract (`AnswersDetermined` has
--- them all). Which rule each call of a station applies to which of its parts is said by `Acts`; here stand the rules, in the paper's words. Ranges and refusals
--- are the first condition's. Assumes nothing.
-use Prim.Native.Nat.{ℕ, suc, _+_, _*_, _-_, _/_, _≤_, _<_, min}
-use mathlib.Core.Bool.{Bool, true, false}
+-- them all, made from the contracts' own text). What the host is told and finds is said by `Hosts`; which rule each call of a station applies to which of its parts by `Acts`; here stand the
+-- rules, in the paper's words. Ranges and refusals are the first condition's. Assumes nothing.
+use Prim.Native.Nat.{ℕ, suc, _+_, _*_, _-_, _/_, _%_, _^_, _≤_, _<_, min}
+use mathlib.Core.Bool.{true, false}
 use mathlib.Core.List.{List, [], _∷_}
-use mathlib.Core.Logic.{_↔_}
+use mathlib.Core.Logic.{_⊎_, _↔_}
 use mathlib.Core.Path.{_≡_}
 use lib.ListN.{length, take}
-use Rattle.decide.specs.Test.{Holds}
+use Rattle.decide.specs.Test.{Test, Holds}
 use Rattle.settings.specs.declared.Settings.{Settings}
 use Rattle.settings.specs.Range.{SettingsOk}
-use Rattle.settings.specs.Words.{settingsAt}
+use Rattle.settings.specs.Words.{settingsLength, settingsAt}
 use Rattle.wire.specs.Wire.{Bytes}
 use Rattle.queue.specs.declared.Frame.{Frame}
-use Rattle.queue.specs.Queue.{framesOf, firstOf, spaceOf}
+use Rattle.queue.specs.Frame.{FrameOk, wordOf, frameOf}
+use Rattle.queue.specs.Queue.{framesOf, firstFrame, spaceOf}
 use Rattle.flow.specs.declared.Credits.{Credits}
 use Rattle.flow.specs.declared.Flow.{Flow}
 use Rattle.flow.specs.declared.Line.the-variants.{Control, Primary, Secondary}
 use Rattle.flow.specs.declared.Which.{Which}
 use Rattle.flow.specs.declared.Which.the-variants.{M, D}
 use Rattle.flow.specs.Which.{creditOf, sends, fed}
-use Rattle.flow.specs.Select.{controlReady, primaryReady, needy, stageReady, secondaryReady, leaves, leavesCharged, leavesStage, nothingOf, selectOf}
+use Rattle.flow.specs.Select as flow
+use Rattle.flow.specs.Select.{controlReady, primaryReady, needy, stageReady, secondaryReady, leaves, leavesCharged, leavesStage, nothingOf, No, When, GoesExactly}
 use Rattle.flow.specs.Range.{FlowOk}
-use Rattle.flow.proofs.Held.{Holding, Staged}
-use Rattle.flow.proofs.Select.{No, Exactly}
-use Rattle.flow.proofs.Frames.{Moves}
+use Rattle.flow.specs.Frames.{Holding, Staged, Moves}
 use Rattle.fair.specs.declared.Fair.{Fair}
 use Rattle.advert.specs.declared.Advert.{Advert}
-use Rattle.fair.specs.Age.{ageOf}
+use Rattle.fair.specs.Age as interval
 use Rattle.fair.specs.Range.{FairOk}
-use Rattle.fair.proofs.ReadBack.{ReadBack}
+use Rattle.fair.specs.ReadBack.{ReadBack}
 use Rattle.ring.specs.declared.Way.{Way}
 use Rattle.ring.specs.declared.Way.the-variants.{Left, Right}
 use Rattle.ring.specs.declared.Choice.the-variants.{Chosen, Refused}
-use Rattle.ring.specs.Links.{otherOf, nextOf, linkOf, aheadOf, reachOf}
+use Rattle.ring.specs.Links.{otherOf, nextOf, linkOf, aheadOf, reachOf, stationAfter}
 use Rattle.ring.specs.Choosing.{codeOf, distanceOf, reachesOf, alongOf, chooseOf, Placed}
-use Rattle.ring.proofs.Hops.{after}
 use Rattle.wrap.specs.declared.Outcome as wrap
 use Rattle.wrap.specs.Walking.{ended, across, atHome, opposite, courseOf, sideOf, pathOf}
 use Rattle.station.specs.declared.Station.{Station}
 use Rattle.station.specs.Range.{StationOk}
-use Rattle.station.specs.Calls.{freshOf, flagsOk}
-use Rattle.station.specs.History.{Answer, recordOf}
-use Rattle.station.proofs.History.{Recorded}
+use Rattle.station.specs.History as history
+use Rattle.station.specs.History.{Call, Answer, Recorded, step}
 use Rattle.layout.specs.Layout.{stationLength}
 use Rattle.rpr.specs.Station.{startAnswer}
-use Rattle.rpr.specs.Lent.{Lending, memoryThrough, NoNewStart, callsOn, startedIn, stationIn}
+use Rattle.rpr.specs.Lent.{Lending, memoryThrough, NoNewStart, startedIn, stationIn}
+use Rattle.rpr.specs.Told.{recordTold}
+use Rattle.rpr.specs.Says.{Keeps}
+use Rattle.paper.specs.Names.{Names}
 use Rattle.paper.specs.Rules.{Ticks, Charges, Enters, Counts, Tells, Reads, Writes, Hears}
-use Rattle.paper.specs.Acts.{Starts, Acts, Traces}
+use Rattle.paper.specs.Acts.{Starts, YesNo, Acts, Traces, ReadsOff}
+use Rattle.paper.specs.ByValue.{Lost, Unfit, Listens}
+use Rattle.paper.specs.Host.{Lays, Hosts, SettingsWords, Begins, ChoiceTold, ChoiceRefused, PathTold, PathRefused}
 
 -- ---- frame selection
 
@@ -73,30 +76,43 @@ pub record Ready (s : Settings) (f : Flow) : Type 0 where
 pub record Selects (s : Settings) (f : Flow) : Type 0 where
   pub ready : Ready s f
   -- control, if its head's size fits the space of both transit queues and M permits (M charged);
-  pub control : Exactly s f 1 (leavesCharged s f Control M)
+  pub control : GoesExactly s f 1 (leavesCharged s f Control M)
   -- primary;
-  pub primary : Exactly s f 2 (leaves f Primary)
+  pub primary : GoesExactly s f 2 (leaves f Primary)
   -- secondary, if mtu > its space (nothing charged);
-  pub needy-secondary : No (controlReady s f) → No (primaryReady f) → Holds (needy s f) → selectOf s f ≡ leaves f Secondary
+  pub needy-secondary : No (controlReady s f) → No (primaryReady f) → Holds (needy s f) → flow.selectOf s f ≡ leaves f Secondary
   -- stage;
-  pub stage : Exactly s f 4 (leavesStage f)
+  pub stage : GoesExactly s f 4 (leavesStage f)
   -- secondary, if D permits (D charged);
   pub secondary : No (controlReady s f) → No (primaryReady f) → No (needy s f) → No (stageReady f) → Holds (secondaryReady s f)
-      → selectOf s f ≡ leavesCharged s f Secondary D
+      → flow.selectOf s f ≡ leavesCharged s f Secondary D
   -- nothing.
-  pub nothing : Exactly s f 0 (nothingOf f)
+  pub nothing : GoesExactly s f 0 (nothingOf f)
+  -- The same rows as they stand.
+  pub first : Holds (controlReady s f) → flow.selectOf s f ≡ leavesCharged s f Control M
+  pub then-primary : No (controlReady s f) → Holds (primaryReady f) → flow.selectOf s f ≡ leaves f Primary
+  pub then-stage : No (controlReady s f) → No (primaryReady f) → No (needy s f) → Holds (stageReady f) → flow.selectOf s f ≡ leavesStage f
+  pub else-nothing : No (controlReady s f) → No (primaryReady f) → No (needy s f) → No (stageReady f) → No (secondaryReady s f)
+      → flow.selectOf s f ≡ nothingOf f
+  pub not : (t : Test) → No t ↔ (Holds t → ⊥)
+  -- Where it came from: nothing 0, control 1, primary 2, secondary 3, stage 4.
+  pub origins : (leaves f Control .origin ≡ 1) × (leaves f Primary .origin ≡ 2) × (leaves f Secondary .origin ≡ 3) × (leavesStage f .origin ≡ 4)
+      × (nothingOf f .origin ≡ 0)
+  -- Each origin that is answered is one of these, under its condition; where nothing goes nothing changes.
+  pub answered : When s f (flow.selectOf s f .origin)
+  pub unchanged : nothingOf f .flow ≡ f
   -- What is charged, and what is not.
-  pub m-charged : leavesCharged s f Control M .flow .credits ≡ fed s (f .credits) (sends (M ∷ []) (firstOf (f .control) .size))
-  pub d-charged : leavesCharged s f Secondary D .flow .credits ≡ fed s (f .credits) (sends (D ∷ []) (firstOf (f .secondary) .size))
+  pub m-charged : leavesCharged s f Control M .flow .credits ≡ fed s (f .credits) (sends (M ∷ []) (firstFrame (f .control) .size))
+  pub d-charged : leavesCharged s f Secondary D .flow .credits ≡ fed s (f .credits) (sends (D ∷ []) (firstFrame (f .secondary) .size))
   pub uncharged : (leaves f Primary .flow .credits ≡ f .credits) × (leaves f Secondary .flow .credits ≡ f .credits) × (leavesStage f .flow .credits ≡ f .credits)
   -- The chosen frame leaves its queue, where it was first; no other frame moves.
-  pub moves : SettingsOk s → FlowOk s f → Moves f (selectOf s f)
+  pub moves : SettingsOk s → FlowOk s f → Moves f (flow.selectOf s f)
 
 -- ---- fair rates: an aging interval, with so many bytes in the secondary queue
 
 pub record Ages (f : Fair) (s : Settings) (held : ℕ) : Type 0 where
   -- Each of the four smoothed rates becomes floor(((lpCoef−1) × lp + rate) / lpCoef).
-  pub smoothed : ageOf f s held .smoothed
+  pub smoothed : interval.ageOf f s held .smoothed
       ≡ record {
         add = ((s .fairness .lp - 1) * f .smoothed .add + f .counters .add) / s .fairness .lp;
         fw = ((s .fairness .lp - 1) * f .smoothed .fw + f .counters .fw) / s .fairness .lp;
@@ -104,16 +120,16 @@ pub record Ages (f : Fair) (s : Settings) (held : ℕ) : Type 0 where
         fwc = ((s .fairness .lp - 1) * f .smoothed .fwc + f .counters .fwc) / s .fairness .lp;
       }
   -- Locally congested: secondary bytes > low threshold. localFairRate: lpAddRate if locally congested, else unreservedRate.
-  pub congested : s .queues .threshold < held → (ageOf f s held .congested ≡ 1) × (ageOf f s held .local ≡ ageOf f s held .smoothed .add)
-  pub not-congested : held ≤ s .queues .threshold → (ageOf f s held .congested ≡ 0) × (ageOf f s held .local ≡ s .fairness .unreserved)
+  pub congested : s .queues .threshold < held → (interval.ageOf f s held .congested ≡ 1) × (interval.ageOf f s held .local ≡ interval.ageOf f s held .smoothed .add)
+  pub not-congested : held ≤ s .queues .threshold → (interval.ageOf f s held .congested ≡ 0) × (interval.ageOf f s held .local ≡ s .fairness .unreserved)
   -- allowedRate: the smaller of localFairRate and unreservedRate if locally congested, else allowedRate + floor((unreservedRate − allowedRate) / rampUp).
-  pub allowed-congested : s .queues .threshold < held → ageOf f s held .allowed ≡ min (ageOf f s held .local) (s .fairness .unreserved)
-  pub allowed-ramped : held ≤ s .queues .threshold → ageOf f s held .allowed ≡ f .allowed + (s .fairness .unreserved - f .allowed) / s .fairness .ramp
+  pub allowed-congested : s .queues .threshold < held → interval.ageOf f s held .allowed ≡ min (interval.ageOf f s held .local) (s .fairness .unreserved)
+  pub allowed-ramped : held ≤ s .queues .threshold → interval.ageOf f s held .allowed ≡ f .allowed + (s .fairness .unreserved - f .allowed) / s .fairness .ramp
   -- allowedRateCongested: if downstream congested the smaller of unreservedRate and received × weight × unit, else ramped the same way.
-  pub allowedc-congested : f .downstream ≡ 1 → ageOf f s held .allowedc ≡ min (s .fairness .unreserved) (f .rate * s .fairness .weight * s .fairness .unit)
-  pub allowedc-ramped : (f .downstream ≡ 1 → ⊥) → ageOf f s held .allowedc ≡ f .allowedc + (s .fairness .unreserved - f .allowedc) / s .fairness .ramp
+  pub allowedc-congested : f .downstream ≡ 1 → interval.ageOf f s held .allowedc ≡ min (s .fairness .unreserved) (f .rate * s .fairness .weight * s .fairness .unit)
+  pub allowedc-ramped : (f .downstream ≡ 1 → ⊥) → interval.ageOf f s held .allowedc ≡ f .allowedc + (s .fairness .unreserved - f .allowedc) / s .fairness .ramp
   -- Each counter becomes floor(rate × (ageCoef−1) / ageCoef).
-  pub counters : ageOf f s held .counters
+  pub counters : interval.ageOf f s held .counters
       ≡ record {
         add = f .counters .add * (s .fairness .age - 1) / s .fairness .age;
         fw = f .counters .fw * (s .fairness .age - 1) / s .fairness .age;
@@ -121,10 +137,10 @@ pub record Ages (f : Fair) (s : Settings) (held : ℕ) : Type 0 where
         fwc = f .counters .fwc * (s .fairness .age - 1) / s .fairness .age;
       }
   -- What was received stays.
-  pub keeps : (ageOf f s held .downstream ≡ f .downstream) × (ageOf f s held .ttl ≡ f .ttl) × (ageOf f s held .high ≡ f .high)
-      × (ageOf f s held .low ≡ f .low) × (ageOf f s held .rate ≡ f .rate)
+  pub keeps : (interval.ageOf f s held .downstream ≡ f .downstream) × (interval.ageOf f s held .ttl ≡ f .ttl) × (interval.ageOf f s held .high ≡ f .high)
+      × (interval.ageOf f s held .low ≡ f .low) × (interval.ageOf f s held .rate ≡ f .rate)
   -- Own rate is floor(localFairRate / (weight × unit)), at most 65,534.
-  pub own : ageOf f s held .own ≡ min (ageOf f s held .local / (s .fairness .weight * s .fairness .unit)) 65534
+  pub own : interval.ageOf f s held .own ≡ min (interval.ageOf f s held .local / (s .fairness .weight * s .fairness .unit)) 65534
 
 -- ---- ringlet choice and path
 
@@ -133,24 +149,26 @@ pub record Joins (stations : ℕ) : Type 0 where
   -- Link k joins k and k+1,
   pub next : (k : ℕ) → k + 1 < stations → (linkOf Right stations k ≡ k) × (nextOf Right stations k ≡ k + 1)
   -- the last joins 0;
-  pub last : 0 < stations → nextOf Right stations (stations - 1) ≡ 0
+  pub last : 0 < stations → (linkOf Right stations (stations - 1) ≡ stations - 1) × (nextOf Right stations (stations - 1) ≡ 0)
   -- and it is the same link from both its ends.
   pub both-ends : (way : Way) (at : ℕ) → at < stations → linkOf way stations at ≡ linkOf (otherOf way) stations (nextOf way stations at)
+  -- One 64-bit word holds a bit per link, set if usable: bit k is that of link k.
+  pub bit : (way : Way) (links at : ℕ) → (aheadOf way stations links at ≡ true) ↔ (links / 2 ^ linkOf way stations at % 2 ≡ 1)
 
--- Of two different stations of a ring, `after way stations own n` being the station n hops on:
+-- Of two different stations of a ring, `stationAfter way stations own n` being the station n hops on:
 pub record Reaches (stations own target links : ℕ) : Type 0 where
   -- the distance is the fewest hops that end at the target;
-  pub arrives : (way : Way) → after way stations own (distanceOf way stations own target) ≡ target
-  pub not-before : (way : Way) (n : ℕ) → n < distanceOf way stations own target → after way stations own n ≡ target → ⊥
+  pub arrives : (way : Way) → stationAfter way stations own (distanceOf way stations own target) ≡ target
+  pub not-before : (way : Way) (n : ℕ) → n < distanceOf way stations own target → stationAfter way stations own n ≡ target → ⊥
   -- how far each side reaches is the unbroken run of usable links from the station;
-  pub unbroken : (way : Way) (n : ℕ) → n < reachOf way stations own links → aheadOf way stations links (after way stations own n) ≡ true
+  pub unbroken : (way : Way) (n : ℕ) → n < reachOf way stations own links → aheadOf way stations links (stationAfter way stations own n) ≡ true
   pub broken : (way : Way) → reachOf way stations own links < stations
-      → aheadOf way stations links (after way stations own (reachOf way stations own links)) ≡ false
+      → aheadOf way stations links (stationAfter way stations own (reachOf way stations own links)) ≡ false
   -- a side reaches the target if that is as far as the distance.
   pub reaches : (way : Way) → (reachesOf way stations own target links ≡ true) ↔ (distanceOf way stations own target ≤ reachOf way stations own links)
 
 -- The path of a wrap-marked frame, by the links that its hops use.
-pub record Walks (stations links target : ℕ) (home : Way) : Type 0 where
+pub record Wraps (stations links target : ℕ) (home : Way) : Type 0 where
   -- On its home side it moves on until the link ahead is unusable, then turns to the opposite ringlet,
   pub moves : (left at : ℕ) → (at ≡ target → ⊥) → aheadOf home stations links at ≡ true
       → courseOf stations links target home (suc left) atHome at
@@ -209,27 +227,49 @@ pub record Sends (stations own target links ring : ℕ) : Type 0 where
 -- ---- all together
 
 pub record Condition2 : Type 0 where
+  -- What the small definitions mean through which the rules are said.
+  pub names : Names
   -- Over any calls from a fresh station, each lent what the one before left and none a new start, a shaper's credit equals that of its record: one event per
   -- tick, one send per charge; and every send was permitted at its place. Here over any exported calls on one piece of memory, wrong lengths, refused
-  -- arguments and refused starts among them, from a start that was carried out.
+  -- arguments and refused starts among them, from a start that was carried out. The record is told from the calls and the numbers that the host got.
   pub credits : (settings mem : List ℕ) → Bytes settings → startAnswer settings (take stationLength mem) ≡ 0
       → (calls : List Lending) → NoNewStart (startedIn settings mem) calls → (w : Which)
       → Recorded (settingsAt settings 0) w (creditOf (stationIn (memoryThrough (startedIn settings mem) calls) .flow .credits) w)
-      (recordOf w (freshOf (settingsAt settings 0)) (callsOn (startedIn settings mem) calls))
-  -- Calls keep the station in range, new starts among them.
-  pub range : (settings mem : List ℕ) → Bytes settings → startAnswer settings (take stationLength mem) ≡ 0
-      → (calls : List Lending) → StationOk (stationIn (memoryThrough (startedIn settings mem) calls))
-  -- What a call is to a shaper's record.
+      (recordTold w (startedIn settings mem) calls)
+  -- Calls keep a lent station in range, whatever bytes it came from, new starts among them.
+  pub range : (mem : List ℕ) → Bytes (take stationLength mem) → length (take stationLength mem) ≡ stationLength → StationOk (stationIn mem)
+      → (calls : List Lending) → StationOk (stationIn (memoryThrough mem calls))
+  -- What the host is told, and what it finds.
+  pub started : (settings xs : List ℕ) → Bytes settings → length settings ≡ settingsLength → length xs ≡ stationLength → SettingsOk (settingsAt settings 0)
+      → Begins settings xs
+  pub settings : (xs : List ℕ) → SettingsWords xs (settingsAt xs 0)
+  pub hosts : (xs : List ℕ) (st : Station) → Keeps xs st → Hosts xs st
+  pub laid : Lays
+  pub choice-told : ChoiceTold
+  pub choice-refused : ChoiceRefused
+  pub path-told : PathTold
+  pub path-refused : PathRefused
+  -- What a call is to a shaper's record, by its answer; and what the host reads off the number that it got.
   pub events : (st : Station) (w : Which) (r : Answer) → Traces st w r
+  pub reads-off : (st : Station) (w : Which) (r : ℕ) → ReadsOff st w r
   pub starts : (s : Settings) → Starts s
   -- Which part of a station each call looks at and changes; the rules of these parts are below.
   pub calls : (st : Station) → StationOk st → Acts st
-  pub ticks : (st : Station) → StationOk st → (a b c : ℕ) → Holds (flagsOk a b c) → Ticks st a b c
+  -- By value too, a refusal is its number and leaves the station.
+  pub lost : (st : Station) → (StationOk st → ⊥) → Lost st
+  pub unfit : (st : Station) → StationOk st → Unfit st
+  pub listening : (st : Station) (frame : List ℕ) → Listens st frame
+  pub ticks : (st : Station) → StationOk st → (a b c : ℕ) → YesNo a × YesNo b × YesNo c → Ticks st a b c
   pub charges : (s : Settings) (c : Credits) → Charges s c
   pub entry : Enters
+  -- The word of a slot or of the stage holds its frame.
+  pub words : (mtu : ℕ) (x : Frame) → mtu ≤ 9216 → FrameOk mtu x → (frameOf (wordOf x) ≡ x) × (wordOf x ≡ 0 → ⊥)
   pub selection : (s : Settings) (f : Flow) → Selects s f
   pub counting : (f : Fair) (hops size : ℕ) → Counts f hops size
   pub rates : (f : Fair) (s : Settings) (held : ℕ) → Ages f s held
+  -- Local congestion and own rate hold till the next interval: no call but that of an interval changes them.
+  pub holding : (st : Station) (c : Call) → (c ≡ history.age → ⊥)
+      → (step c st .station .fair .congested ≡ st .fair .congested) × (step c st .station .fair .own ≡ st .fair .own)
   pub telling : (f : Fair) (s : Settings) → Tells f s
   pub hearing : (f : Fair) (a : Advert) → Hears f a
   pub reading : (frame : List ℕ) → Reads frame
@@ -238,10 +278,17 @@ pub record Condition2 : Type 0 where
   pub choice : (stations own target links ring : ℕ) → Placed stations own target links → ring ≤ 1 → Chooses stations own target links ring
   pub links : (stations : ℕ) → Joins stations
   pub reach : (stations own target links : ℕ) → Placed stations own target links → Reaches stations own target links
-  pub walk : (stations links target : ℕ) (home : Way) → Walks stations links target home
+  pub walk : (stations links target : ℕ) (home : Way) → Wraps stations links target home
   -- The answer holds the hops moved, equal to the path's length, from the station on with 2 × stations hops left.
-  pub path : (stations own target links home : ℕ) (delivered : Bool) (hops : ℕ) → pathOf stations own target links home ≡ wrap.Outcome.Moved delivered hops
+  pub path : (stations own target links home : ℕ) → Placed stations own target links → (home ≡ 1) ⊎ (home ≡ 2)
       → let course = courseOf stations links target (sideOf home) (2 * stations) atHome own in
-      (hops ≡ length (course .links)) × (delivered ≡ course .delivered)
+      pathOf stations own target links home ≡ wrap.Outcome.Moved (course .delivered) (length (course .links))
+  -- Whether delivery or the hop limit is tested first cannot be seen: one hop more delivers no other frame, on either ringlet,
+  -- and on the home side a delivered path is shorter than the limit.
+  pub early : (stations own target links : ℕ) (home : Way) → Placed stations own target links
+      → courseOf stations links target home (2 * stations) atHome own .delivered ≡ true
+      → length (courseOf stations links target home (2 * stations) atHome own .links) < 2 * stations
+  pub limit-unseen : (stations own target links : ℕ) (home : Way) → Placed stations own target links
+      → courseOf stations links target home (2 * stations + 1) atHome own .delivered ≡ courseOf stations links target home (2 * stations) atHome own .delivered
   -- Reading a written frame, with the same settings but an address it doesn't bear, gives back its ringlet bit, ttl, address and rate.
   pub frames : (s : Settings) (f : Fair) → SettingsOk s → FairOk s f → s .address .low < 4294967296 → f .low < 4294967296 → ReadBack s f

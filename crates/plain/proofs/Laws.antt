@@ -8,6 +8,7 @@ use native.Mathlib.Omega.{arith}
 use borrow.Author.Tests.{lt-ltb, le-ltb}
 use Rattle.decide.specs.Test.{Holds}
 use Rattle.decide.proofs.Cases.{by-cases, le-or, min-is, max-is}
+use Rattle.shaper.specs.Limits.{mostEvents}
 use Rattle.plain.specs.declared.Plain.{Plain}
 use Rattle.plain.specs.Plain.{plainEmpty, plainNeed, plainDepth, plainJoined, plainEnd}
 use Rattle.plain.specs.Range.{plainUsable, plainRange, Sound, Same, Small}
@@ -22,7 +23,7 @@ in-range-small s h = omega arith
 pub in-range-sound : (s : Plain) → Holds (plainRange s) → Sound s
 in-range-sound s h = (h .0, h .1 .1)
 
-pub sound-in-range : (s : Plain) → Sound s → s .events ≤ 1000000 → Holds (plainRange s)
+pub sound-in-range : (s : Plain) → Sound s → s .events ≤ mostEvents → Holds (plainRange s)
 sound-in-range s h n = (h .0, (n, h .1))
 
 -- ---- depth: the ceiling of a join is the smaller of ceiling1 + gain2 and ceiling2

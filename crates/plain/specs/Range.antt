@@ -2,7 +2,7 @@
 -- Assumes nothing.
 use Prim.Native.Nat.{_+_, _*_, _≤_}
 use Rattle.decide.specs.Test.{Test, Holds, _≤?_, _<?_, _∧?_, _∨?_}
-use Rattle.shaper.specs.Limits.{limitsOk, sameLimits}
+use Rattle.shaper.specs.Limits.{limitsOk, sameLimits, mostSize, mostAmount, mostEvents}
 use Rattle.plain.specs.declared.Plain.{Plain}
 
 -- if need ≤ hiLimit, ceiling ≥ 0 and need + gain ≥ 0
@@ -12,15 +12,15 @@ plainUsable s = s .limits .hi <? s .need ∨? (s .depth ≤? s .limits .hi ∧? 
 -- accrued ≤ 65,535 × events; sent ≤ 9,216 × events; ceiling ≥ −9,216 × events, ≤ hiLimit + gain; need 0 to hiLimit+1
 abbrev pub plainBounded : Plain → Test
 plainBounded s =
-    s .accrued ≤? 65535 * s .events
-    ∧? s .sent ≤? 9216 * s .events
-    ∧? s .depth ≤? s .limits .hi + 9216 * s .events
+    s .accrued ≤? mostAmount * s .events
+    ∧? s .sent ≤? mostSize * s .events
+    ∧? s .depth ≤? s .limits .hi + mostSize * s .events
     ∧? s .sent ≤? s .accrued + s .depth
     ∧? s .need ≤? s .limits .hi + 1
 
 -- settings valid; events ≤ 1,000,000
 abbrev pub plainRange : Plain → Test
-plainRange s = limitsOk (s .limits) ∧? s .events ≤? 1000000 ∧? plainBounded s ∧? plainUsable s
+plainRange s = limitsOk (s .limits) ∧? s .events ≤? mostEvents ∧? plainBounded s ∧? plainUsable s
 
 -- in range, but for the number of events: what a list of any length has
 abbrev pub Sound : Plain → Type 0
@@ -33,8 +33,8 @@ Same a b = Holds (sameLimits (a .limits) (b .limits))
 -- what follows of each field alone: the sums of a join fit 64 bits
 pub record Small (s : Plain) : Type 0 where
   pub small-hi : s .limits .hi ≤ 1048576
-  pub small-events : s .events ≤ 1000000
-  pub small-accrued : s .accrued ≤ 65535000000
-  pub small-sent : s .sent ≤ 9216000000
-  pub small-depth : s .depth ≤ 9217048576
+  pub small-events : s .events ≤ mostEvents
+  pub small-accrued : s .accrued ≤ mostAmount * mostEvents
+  pub small-sent : s .sent ≤ mostSize * mostEvents
+  pub small-depth : s .depth ≤ 1048576 + mostSize * mostEvents
   pub small-need : s .need ≤ 1048577

@@ -1,11 +1,13 @@
 // A summary by natural numbers: the paper's ceiling is hi - depth. Its functions are the leaves of the crate `summary`.
 ghost use mathlib.Core.Path.{_≡_};
-ghost use Prim.Native.Nat.{_≤_};
+ghost use Prim.Native.Nat.{_*_, _≤_};
 ghost use lib.IntN.{subℕ};
 ghost use Rattle.decide.specs.Test.{test};
+ghost use Rattle.shaper.specs.Limits.{mostAmount, mostEvents};
 ghost use Rattle.plain.specs.Plain.{plainNeed, plainDepth, plainJoined, plainEnd};
 ghost use Rattle.plain.specs.Range.{plainBounded, plainUsable, plainRange, Small};
 ghost use Rattle.plain.specs.Ceiling.{depthBelow};
+use shaper::Event;
 use shaper::Limits;
 
 // The settings, the counts, how far the ceiling lies below hi, and the least credit that permits throughout (hi + 1: none does).
@@ -19,11 +21,11 @@ pub struct Plain {
 }
 
 impl Plain {
-    pub const MAX_EVENTS: u64 = 1000000;
+    pub const MAX_EVENTS: u64 = Event::MAX_EVENTS as u64;
 
-    pub const MAX_AMOUNT: u64 = 65535;
+    pub const MAX_AMOUNT: u64 = Event::MAX_AMOUNT as u64;
 
-    pub const MAX_SIZE: u64 = 9216;
+    pub const MAX_SIZE: u64 = Limits::MAX_MTU as u64;
 
     // Whether the summary is in the paper's range.
     pub fn in_range(self) -> bool
@@ -47,7 +49,7 @@ impl Plain {
 
     // Whether the counts, the ceiling and need are each within their bounds.
     fn is_bounded(self) -> bool
-        requires { ⌜ (self .limits .hi ≤ 1048576) × (self .events ≤ 1000000) ⌝ }
+        requires { ⌜ (self .limits .hi ≤ 1048576) × (self .events ≤ mostEvents) ⌝ }
         ensures { λ r. ⌜ r ≡ test (plainBounded self) ⌝ }
     {
         let hi = self.limits.hi as u64;
@@ -71,7 +73,7 @@ impl Plain {
 
     // Whether, if some credit suffices, neither the ceiling nor need + gain is negative.
     fn is_usable(self) -> bool
-        requires { ⌜ (self .limits .hi ≤ 1048576) × (self .accrued ≤ 65535000000) ⌝ }
+        requires { ⌜ (self .limits .hi ≤ 1048576) × (self .accrued ≤ mostAmount * mostEvents) ⌝ }
         ensures { λ r. ⌜ r ≡ test (plainUsable self) ⌝ }
     {
         let hi = self.limits.hi as u64;

@@ -14,7 +14,7 @@ use Rattle.decide.specs.Test.{split, _≤?_, _<?_}
 use Rattle.queue.specs.declared.Frame.{Frame}
 use Rattle.queue.specs.declared.Queue.{Queue}
 use Rattle.queue.specs.Frame.{FrameOk, wordOf}
-use Rattle.queue.specs.Queue.{framesFrom, framesOf, sizes, emptyQueue, pushed, firstOf, taken, spaceOf, holdsFrame}
+use Rattle.queue.specs.Queue.{framesFrom, framesOf, sizes, emptyQueue, pushed, firstFrame, taken, spaceOf, holdsFrame}
 use Rattle.queue.specs.Range.{AllOk, QueueOk}
 use Rattle.queue.proofs.Word.{word-frame, frame-fits}
 use Rattle.queue.proofs.Ring.{from-mod, from-set, from-snoc, from-length, sizes-append}
@@ -106,19 +106,19 @@ module _ {mtu capacity : ℕ} {q : Queue} (ok : QueueOk mtu capacity q) where
     some = ltb-true 0 (q .count) holds
 
     -- first in, first out: the frame taken is the list's first, and the rest is left
-    pub take-first : framesOf q ≡ firstOf q ∷ framesOf (taken q)
-    unfolding framesOf framesFrom firstOf taken
+    pub take-first : framesOf q ≡ firstFrame q ∷ framesOf (taken q)
+    unfolding framesOf framesFrom firstFrame taken
     take-first =
         let p = some in
         let e : q .count ≡ suc (q .count - 1) = omega arith in
         ap (framesFrom (q .slots) (q .head)) e
         ∙ rw (from-set (q .slots) (q .head % 128) 0 ((q .head + 1) % 128) (q .count - 1) (λ j l e. omega (arith, ok .count)), from-mod (q .slots) (suc (q .head)) ((q .head + 1) % 128) (q .count - 1) (omega arith))
 
-    pub first-ok : FrameOk mtu (firstOf q)
+    pub first-ok : FrameOk mtu (firstFrame q)
     first-ok = (rw take-first at (ok .frames)) .0
 
     -- the bytes held are the first frame's and the others'
-    pub take-bytes : q .held ≡ firstOf q .size + sizes (framesOf (taken q))
+    pub take-bytes : q .held ≡ firstFrame q .size + sizes (framesOf (taken q))
     unfolding sizes
     take-bytes = ok .held ∙ ap sizes take-first
 
@@ -151,7 +151,7 @@ module _ {mtu capacity : ℕ} {q : Queue} (ok : QueueOk mtu capacity q) where
         }
 
     -- freed room is used again: what is no larger than the frame taken fits
-    pub freed-again : (size : ℕ) → size ≤ firstOf q .size → size ≤ spaceOf (taken q) capacity
+    pub freed-again : (size : ℕ) → size ≤ firstFrame q .size → size ≤ spaceOf (taken q) capacity
     unfolding taken
     freed-again size p =
         let n = some in

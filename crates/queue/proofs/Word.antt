@@ -59,10 +59,10 @@ word-not-empty m r = omega (arith, r .least, r .most)
 -- the test of a frame as facts, and back
 pub frame-facts : (mtu : ℕ) (f : Frame) → Holds (frameOk mtu f) → FrameOk mtu f
 frame-facts mtu f h =
-    record { least = h .0; most = h .1 .0; hops = h .1 .1 .0; class = h .1 .1 .1 .0; mark = h .1 .1 .1 .1 .0; marked = h .1 .1 .1 .1 .1 }
+    record { least = h .0 .0; most = h .0 .1; hops = h .1 .0; class = h .1 .1 .0; mark = h .1 .1 .1 .0; marked = h .1 .1 .1 .1 }
 
 pub frame-holds : (mtu : ℕ) (f : Frame) → FrameOk mtu f → Holds (frameOk mtu f)
-frame-holds mtu f r = (r .least, (r .most, (r .hops, (r .class, (r .mark, r .marked)))))
+frame-holds mtu f r = ((r .least, r .most), (r .hops, (r .class, (r .mark, r .marked))))
 
 -- a frame in range fits a word
 pub frame-fits : {mtu : ℕ} {f : Frame} → mtu ≤ 9216 → FrameOk mtu f → FrameFits f

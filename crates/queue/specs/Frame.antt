@@ -2,6 +2,7 @@
 -- Assumes nothing.
 use Prim.Native.Nat.{ℕ, _+_, _*_, _/_, _%_, _≤_, _<_}
 use Rattle.decide.specs.Test.{Test, Holds, _≤?_, _∧?_}
+use Rattle.decide.specs.Size.{sizeOk}
 use Rattle.queue.specs.declared.Frame.{Frame}
 
 -- Hops 1 to 63.
@@ -11,7 +12,7 @@ hopsOk hops = 1 ≤? hops ∧? hops ≤? 63
 -- Frame size 16 to mtu; hops 1 to 63; class A, B or C, which are 0, 1 and 2; only B and C may be marked fairness eligible: A, being 0, has mark 0.
 abbrev pub frameOk : ℕ → Frame → Test
 frameOk mtu f =
-    16 ≤? f .size ∧? f .size ≤? mtu
+    sizeOk (f .size) mtu
     ∧? hopsOk (f .hops)
     ∧? f .class ≤? 2
     ∧? f .mark ≤? 1 ∧? f .mark ≤? f .class

@@ -43,8 +43,8 @@ pushed q f =
     }
 
 -- the frame in the first slot
-unfoldable pub firstOf : Queue → Frame
-firstOf q = frameOf (getD (q .slots) (q .head % 128) 0)
+unfoldable pub firstFrame : Queue → Frame
+firstFrame q = frameOf (getD (q .slots) (q .head % 128) 0)
 
 -- The frame leaves its queue: its slot is empty again, and the next one is the first.
 unfoldable pub taken : Queue → Queue
@@ -53,11 +53,11 @@ taken q =
       slots = set (q .slots) (q .head % 128) 0;
       head = (q .head + 1) % 128;
       count = q .count - 1;
-      held = q .held - firstOf q .size;
+      held = q .held - firstFrame q .size;
     }
 
 abbrev pub takeOf : Queue → Taken
-takeOf q = record { frame = firstOf q; queue = taken q }
+takeOf q = record { frame = firstFrame q; queue = taken q }
 
 -- Space is capacity less bytes held, or 0 with 128 frames held.
 unfoldable pub spaceOf : Queue → ℕ → ℕ

@@ -3,7 +3,7 @@ ghost use mathlib.Core.Path.{_≡_};
 ghost use Prim.Native.Nat.{_+_, _<_, _^_};
 ghost use Rattle.decide.specs.Test.{test};
 ghost use Rattle.queue.specs.Frame.{hopsOk, frameOk, wordOf, frameOf};
-ghost use Rattle.queue.specs.Queue.{emptyQueue, pushed, firstOf, takeOf, spaceOf, holdsFrame};
+ghost use Rattle.queue.specs.Queue.{emptyQueue, pushed, firstFrame, takeOf, spaceOf, holdsFrame};
 ghost use Rattle.queue.specs.Front.{frontOf, fronted};
 ghost use Rattle.queue.specs.Range.{slotOk, slotsOk, queueOk};
 
@@ -87,7 +87,7 @@ impl Frame {
 impl Front {
     // The frame that is taken next.
     pub fn first(self) -> Frame
-        ensures { λ r. ⌜ r ≡ firstOf (fronted self) ⌝ }
+        ensures { λ r. ⌜ r ≡ firstFrame (fronted self) ⌝ }
     {
         Frame::of(self.word)
     }

@@ -10,7 +10,7 @@ use lib.Seq.{drop-at}
 use Rattle.decide.specs.Test.{Holds}
 use Rattle.shaper.specs.declared.Limits.{Limits}
 use Rattle.shaper.specs.declared.Event.{Event}
-use Rattle.shaper.specs.Limits.{limitsOk}
+use Rattle.shaper.specs.Limits.{limitsOk, mostEvents}
 use Rattle.shaper.specs.Credit.{Valid}
 use Rattle.shaper.specs.Kind.{kindOf, numberOf}
 use Rattle.wire.specs.Wire.{le}
@@ -66,7 +66,7 @@ module _ (l : Limits) (es : List Event) (w : WellFormed l es) where
   headed q = ap headerOf (append-assoc (headerBytes l) (eventsBytes es) q) ∙ header-back l (w .settings) (eventsBytes es ++ q)
 
   -- Each event is found at its place, whatever stands behind it.
-  pub found-event : (e : Event) (q : List ℕ) → Valid l e → length es < 1000000 →
+  pub found-event : (e : Event) (q : List ℕ) → Valid l e → length es < mostEvents →
       nextAt (written l es ++ (eventBytes e ++ q)) (place (length es)) ≡ Step.Stands (kindOf e) (numberOf e) 1 (place (suc (length es)))
   found-event e q v few =
       next-within (written l es ++ (eventBytes e ++ q)) (place (length es)) l (headed (eventBytes e ++ q)) (omega arith)
@@ -78,12 +78,12 @@ module _ (l : Limits) (es : List Event) (w : WellFormed l es) where
   found-end = next-end (written l es) (place (length es)) l (header-back l (w .settings) (eventsBytes es)) (omega (arith, length-written l es))
 
   -- A fault is found behind the events before it,
-  pub found-faulty : (q : List ℕ) (n : ℕ) → length es < 1000000 → stepAt (l .mtu) q 0 ≡ Faulty n → nextAt (written l es ++ q) (place (length es)) ≡ Faulty n
+  pub found-faulty : (q : List ℕ) (n : ℕ) → length es < mostEvents → stepAt (l .mtu) q 0 ≡ Faulty n → nextAt (written l es ++ q) (place (length es)) ≡ Faulty n
   found-faulty q n few e =
       next-within (written l es ++ q) (place (length es)) l (headed q) (omega arith)
       ∙ fault-there (l .mtu) (written l es) q (place (length es)) n (length-written l es) e
 
   -- and any byte after the millionth event gives 9.
-  pub found-over : (q : List ℕ) → length es ≡ 1000000 → 0 < length q → nextAt (written l es ++ q) (place (length es)) ≡ Faulty 9
+  pub found-over : (q : List ℕ) → length es ≡ mostEvents → 0 < length q → nextAt (written l es ++ q) (place (length es)) ≡ Faulty 9
   found-over q e h =
       next-over (written l es ++ q) (place (length es)) l (headed q) (omega arith) (omega (arith, length-append (written l es) q, length-written l es))

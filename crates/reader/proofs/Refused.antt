@@ -1,28 +1,20 @@
 -- A reader gives a number exactly when that is wrong at its place: the header first, then a byte after the millionth event, then a fault of the event.
 -- Assumes nothing.
-use Prim.Native.Nat.{ℕ, _≤_, _<_}
+use Prim.Native.Nat.{ℕ, _<_}
 use mathlib.Core.List.{List}
 use mathlib.Core.Logic.{_↔_}
 use mathlib.Core.Path.{_≡_, refl, sym, ap, _∙_}
 use native.Mathlib.Omega.{arith}
-use lib.ListN.{length, drop}
-use Rattle.decide.specs.Refusal.{Given}
+use lib.ListN.{length}
 use Rattle.decide.proofs.Cases.{by-cases, le-or}
-use Rattle.shaper.specs.declared.Limits.{Limits}
 use Rattle.record.specs.declared.Header.{Header}
 use Rattle.record.specs.declared.Header.the-variants.{Settings, Unreadable}
 use Rattle.record.specs.declared.Step.the-variants.{Faulty}
-use Rattle.record.specs.Read.{headerFaults, eventFaults}
 use Rattle.record.specs.Step.{headerOf, stepNumber}
 use Rattle.record.proofs.Refused.{header-refused-exactly, event-refused-exactly}
 use Rattle.record.proofs.Answers.{step-refuses}
-use Rattle.reader.specs.Place.{limit, nextAt}
+use Rattle.reader.specs.Place.{limit, nextAt, Wrong, in-header, too-many, has-fault}
 use Rattle.reader.proofs.Rows.{next-unreadable, next-over, next-within, next-end}
-
-pub data Wrong (xs : List ℕ) (at n : ℕ) : Type 0 where
-  in-header : Given (headerFaults xs) n → Wrong xs at n
-  too-many : (l : Limits) → headerOf xs ≡ Settings l → limit ≤ at → at < length xs → n ≡ 9 → Wrong xs at n
-  has-fault : (l : Limits) → headerOf xs ≡ Settings l → at < limit → at < length xs → Given (eventFaults (l .mtu) (drop at xs)) n → Wrong xs at n
 
 module _ (xs : List ℕ) (at n : ℕ) (p : 0 < n) where
   wrong : (h : Header) → headerOf xs ≡ h → nextAt xs at ≡ Faulty n → Wrong xs at n

@@ -11,6 +11,7 @@ use Rattle.decide.proofs.Cases.{by-cases, le-or}
 use Rattle.shaper.specs.declared.Limits.{Limits}
 use Rattle.shaper.specs.declared.Event.{Event}
 use Rattle.wire.specs.Wire.{Bytes}
+use Rattle.shaper.specs.Limits.{mostEvents}
 use Rattle.record.specs.declared.Header.{Header}
 use Rattle.record.specs.declared.Header.the-variants.{Settings, Unreadable}
 use Rattle.record.specs.declared.Step.{Step}
@@ -86,15 +87,15 @@ module _ (s : RefT (List ℕ)) (l : Limits) (e : headerOf (now s) ≡ Settings l
 
 -- ---- from the start
 
-walk-enough : (s : RefT (List ℕ)) (n : ℕ) → Enough s (suc n) 1000000 14 → under (limitsAt (now s)) (walkOf (suc n) (newOf s)) ≡ readRecord (now s)
+walk-enough : (s : RefT (List ℕ)) (n : ℕ) → Enough s (suc n) mostEvents 14 → under (limitsAt (now s)) (walkOf (suc n) (newOf s)) ≡ readRecord (now s)
 walk-enough s n h = by (headerOf (now s)) refl ∙ sym (read-header (now s))
   where
     by : (t : Header) → headerOf (now s) ≡ t → under (limitsAt (now s)) (walkOf (suc n) (newOf s)) ≡ readBy (now s) t
-    by (Settings l) e = ap (under (limitsAt (now s))) (walk-from s l e (suc n) 1000000 14 refl h) ∙ rw (← header-stands (now s) l e .settings)
+    by (Settings l) e = ap (under (limitsAt (now s))) (walk-from s l e (suc n) mostEvents 14 refl h) ∙ rw (← header-stands (now s) l e .settings)
     by (Unreadable m) e = ap (under (limitsAt (now s))) (turn-faulty s n 14 m (next-unreadable (now s) 14 m e))
 
 -- The walk of a new reader takes at most 1,000,001 turns, and it is what the record says: its events, or the number of its earliest fault.
-pub walk-reads : (s : RefT (List ℕ)) (n : ℕ) → 1000000 ≤ n → under (limitsAt (now s)) (walkOf (suc n) (newOf s)) ≡ readRecord (now s)
+pub walk-reads : (s : RefT (List ℕ)) (n : ℕ) → mostEvents ≤ n → under (limitsAt (now s)) (walkOf (suc n) (newOf s)) ≡ readRecord (now s)
 walk-reads s n h = walk-enough s n (inr (omega arith))
 
 whole-events : (l m : Limits) (es : List Event) (w : Events) → under l w ≡ whole m es → w ≡ events es
@@ -109,6 +110,6 @@ walk-written s l es n e w h =
     (walk-enough s n (inl (rw e (omega (arith, length-written l es)))) ∙ ap readRecord e ∙ written-read l es w)
 
 -- A walk that comes to the end has read what was so written.
-pub walked-written : (s : RefT (List ℕ)) (es : List Event) (n : ℕ) → Bytes (now s) → 1000000 ≤ n → walkOf (suc n) (newOf s) ≡ events es →
+pub walked-written : (s : RefT (List ℕ)) (es : List Event) (n : ℕ) → Bytes (now s) → mostEvents ≤ n → walkOf (suc n) (newOf s) ≡ events es →
     (now s ≡ written (limitsAt (now s)) es) × WellFormed (limitsAt (now s)) es
 walked-written s es n b h e = read-written (now s) (limitsAt (now s)) es b (sym (walk-reads s n h) ∙ rw e)

@@ -4,12 +4,13 @@ ghost use Rattle.reader.specs.Place.{limitedAt, nextAt, afterAt};
 ghost use Rattle.reader.specs.Walk.{newOf, nextOf, movedOf};
 use record::Header;
 use record::Step;
+use shaper::Event;
 
 // The place of the first event, behind the header.
 pub const START: usize = 14;
 
 // The place behind the millionth event.
-const LIMIT: usize = START + 6 * 1000000;
+const LIMIT: usize = START + 6 * Event::MAX_EVENTS as usize;
 
 // The lent bytes of a record, and a place in them.
 pub struct Reader<'a> {

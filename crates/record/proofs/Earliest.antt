@@ -11,7 +11,7 @@ use Rattle.decide.specs.Test.{Holds, _≡?_, test, facts, split}
 use Rattle.decide.proofs.Cases.{by-cases, true-or-false}
 use Rattle.shaper.specs.declared.Limits.{Limits}
 use Rattle.shaper.specs.declared.Event.{Event}
-use Rattle.shaper.specs.Limits.{limitsOk}
+use Rattle.shaper.specs.Limits.{limitsOk, mostEvents}
 use Rattle.wire.specs.Wire.{le}
 use Rattle.record.specs.Record.{headerBytes, eventsBytes, written, WellFormed}
 use Rattle.record.specs.Read.{limitsAt, fieldFault, readFrom, whole, unreadable, under, readRecord}
@@ -56,7 +56,7 @@ header-alone l ok = written-read l [] (record { settings = ok; valid = tt; few =
 
 module _ (l : Limits) (es : List Event) (q : List ℕ) (w : WellFormed l es) where
   -- what a record says whose first events are in range
-  rest : (m : ℕ) → length es + m ≡ 1000000 → readRecord (written l es ++ q) ≡ under l (behind es (readFrom (l .mtu) m q))
+  rest : (m : ℕ) → length es + m ≡ mostEvents → readRecord (written l es ++ q) ≡ under l (behind es (readFrom (l .mtu) m q))
   rest m e =
       ap readRecord (append-assoc (headerBytes l) (eventsBytes es) q)
       ∙ read-header (headerBytes l ++ (eventsBytes es ++ q))
@@ -68,28 +68,28 @@ module _ (l : Limits) (es : List Event) (q : List ℕ) (w : WellFormed l es) whe
       )
 
   -- Any byte after the millionth event gives 9.
-  pub over-million : length es ≡ 1000000 → 0 < length q → readRecord (written l es ++ q) ≡ unreadable 9
+  pub over-million : length es ≡ mostEvents → 0 < length q → readRecord (written l es ++ q) ≡ unreadable 9
   over-million e h = rest 0 (omega arith) ∙ rw (read-over (l .mtu) q 0 h, behind-faulty es 9)
 
   -- A fault at an event counts, whatever stands behind it.
-  pub earliest : (n : ℕ) → length es < 1000000 → stepAt (l .mtu) q 0 ≡ Faulty n → readRecord (written l es ++ q) ≡ unreadable n
+  pub earliest : (n : ℕ) → length es < mostEvents → stepAt (l .mtu) q 0 ≡ Faulty n → readRecord (written l es ++ q) ≡ unreadable n
   earliest n few e =
       rest (suc (999999 - length es)) (omega arith) ∙ rw (step-faulty (l .mtu) q 0 n e .stops (999999 - length es), behind-faulty es n)
 
   -- 2: an event that is cut short,
-  pub cut-short : length es < 1000000 → 0 < length q → length q < 6 → readRecord (written l es ++ q) ≡ unreadable 2
+  pub cut-short : length es < mostEvents → 0 < length q → length q < 6 → readRecord (written l es ++ q) ≡ unreadable 2
   cut-short few h k = earliest 2 few (event-short (l .mtu) q 0 h k)
 
-  by-fields : (n : ℕ) → length es < 1000000 → 6 ≤ length q → 0 < n → fieldFault (l .mtu) (le 2 q 0) (le 2 q 2) (le 2 q 4) ≡ n →
+  by-fields : (n : ℕ) → length es < mostEvents → 6 ≤ length q → 0 < n → fieldFault (l .mtu) (le 2 q 0) (le 2 q 2) (le 2 q 4) ≡ n →
       readRecord (written l es ++ q) ≡ unreadable n
   by-fields n few h p e = earliest n few (event-faulty (l .mtu) q 0 n h e (λ z. omega arith))
 
   -- of another length than 6,
-  pub event-length : length es < 1000000 → 6 ≤ length q → (le 2 q 0 ≡ 6 → ⊥) → readRecord (written l es ++ q) ≡ unreadable 2
+  pub event-length : length es < mostEvents → 6 ≤ length q → (le 2 q 0 ≡ 6 → ⊥) → readRecord (written l es ++ q) ≡ unreadable 2
   event-length few h e = by-fields 2 few h (omega arith) (fields-length (l .mtu) (le 2 q 0) (le 2 q 2) (le 2 q 4) e)
 
   -- of another kind than 1, 2 and 3,
-  pub event-kind : length es < 1000000 → 6 ≤ length q → (le 2 q 2 < 1) ⊎ (3 < le 2 q 2) → readRecord (written l es ++ q) ≡ unreadable 2
+  pub event-kind : length es < mostEvents → 6 ≤ length q → (le 2 q 2 < 1) ⊎ (3 < le 2 q 2) → readRecord (written l es ++ q) ≡ unreadable 2
   event-kind few h k =
       by-cases (split (le 2 q 0 ≡? 6))
       (λ e. by-cases k
@@ -98,11 +98,11 @@ module _ (l : Limits) (es : List Event) (q : List ℕ) (w : WellFormed l es) whe
       (λ e. event-length few h e)
 
   -- such as a second header's.
-  pub second-header : length es < 1000000 → 6 ≤ length q → le 2 q 2 ≡ 16 → readRecord (written l es ++ q) ≡ unreadable 2
+  pub second-header : length es < mostEvents → 6 ≤ length q → le 2 q 2 ≡ 16 → readRecord (written l es ++ q) ≡ unreadable 2
   second-header few h e = event-kind few h (inr (omega arith))
 
   -- 3: a send whose size is not 16 to mtu.
-  pub send-size : length es < 1000000 → 6 ≤ length q → le 2 q 0 ≡ 6 → le 2 q 2 ≡ 3 → (le 2 q 4 < 16) ⊎ (l .mtu < le 2 q 4) →
+  pub send-size : length es < mostEvents → 6 ≤ length q → le 2 q 0 ≡ 6 → le 2 q 2 ≡ 3 → (le 2 q 4 < 16) ⊎ (l .mtu < le 2 q 4) →
       readRecord (written l es ++ q) ≡ unreadable 3
   send-size few h e k z =
       by-cases z

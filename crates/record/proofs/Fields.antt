@@ -1,26 +1,23 @@
 -- An event's three fields as numbers, row by row: their faults are tried in the order in which they are written.
 -- Assumes nothing.
 use Prim.Native.Nat.{ℕ, _≤_, _<_}
-use mathlib.Core.Bool.{Bool, true, false, _&&_}
-use mathlib.Core.Logic.{_⊎_, inl, inr, ⊎-elim}
-use mathlib.Core.Path.{_≡_, refl}
+use mathlib.Core.Bool.{true, false}
+use mathlib.Core.Logic.{_⊎_, inl, inr, ⊎-elim, _↔_}
+use mathlib.Core.Path.{_≡_, refl, sym}
 use native.Mathlib.Omega.{arith}
 use borrow.Author.Tests.{le-leb, lt-leb, eq-eqb, ne-eqb}
-use lib.Dec.{leb}
-use Rattle.decide.specs.Test.{Test, _≤?_, _<?_, _≡?_, _∧?_, _∨?_, test, facts, passes, split}
+use Rattle.decide.specs.Test.{_≡?_, test, Holds, facts, passes, decided, split}
+use Rattle.decide.specs.Size.{sizeOk}
 use Rattle.decide.proofs.Cases.{by-cases, le-or}
 use Rattle.decide.proofs.Refusal.{in-order}
 use Rattle.shaper.specs.declared.Limits.{Limits}
 use Rattle.shaper.specs.declared.Event.{Event}
 use Rattle.shaper.specs.declared.Event.the-variants.{Waiting, Idle, Send}
+use Rattle.shaper.specs.Limits.{mostAmount}
 use Rattle.shaper.specs.Credit.{Valid}
 use Rattle.shaper.specs.Kind.{kindOf, numberOf, eventOf}
 use Rattle.shaper.proofs.Kind.{event-1, event-2, event-3}
 use Rattle.record.specs.Read.{fieldFaults, fieldFault, good}
-
-and-false : (b : Bool) → (b && false) ≡ false
-and-false true = refl
-and-false false = refl
 
 module _ (mtu len kind num : ℕ) where
   -- Events, length 6.
@@ -38,15 +35,18 @@ module _ (mtu len kind num : ℕ) where
   unfolding fieldFault
   fields-above e h = rw (in-order (fieldFaults mtu len kind num) refl, eq-eqb len 6 e, le-leb 1 kind (omega arith), lt-leb kind 3 h)
 
-  -- Kind 3 send (size 2), frame size 16 to mtu: neither below
-  pub fields-small : len ≡ 6 → kind ≡ 3 → num < 16 → fieldFault mtu len kind num ≡ 3
+  -- Kind 3 send (size 2), frame size 16 to mtu:
+  fields-size : len ≡ 6 → kind ≡ 3 → test (sizeOk num mtu) ≡ false → fieldFault mtu len kind num ≡ 3
   unfolding fieldFault
-  fields-small e k h = rw (in-order (fieldFaults mtu len kind num) refl, eq-eqb len 6 e, k, lt-leb 16 num h)
+  fields-size e k h = rw (in-order (fieldFaults mtu len kind num) refl, eq-eqb len 6 e, k, h)
+
+  -- neither below
+  pub fields-small : len ≡ 6 → kind ≡ 3 → num < 16 → fieldFault mtu len kind num ≡ 3
+  fields-small e k h = fields-size e k (sym (decided (sizeOk num mtu) false (λ s. omega arith)))
 
   -- nor above.
   pub fields-large : len ≡ 6 → kind ≡ 3 → mtu < num → fieldFault mtu len kind num ≡ 3
-  unfolding fieldFault
-  fields-large e k h = rw (in-order (fieldFaults mtu len kind num) refl, eq-eqb len 6 e, k, lt-leb num mtu h, and-false (leb 16 num))
+  fields-large e k h = fields-size e k (sym (decided (sizeOk num mtu) false (λ s. omega arith)))
 
   -- A tick's amount is any.
   pub fields-tick : len ≡ 6 → 1 ≤ kind → kind < 3 → fieldFault mtu len kind num ≡ 0
@@ -57,7 +57,7 @@ module _ (mtu len kind num : ℕ) where
   pub fields-send : len ≡ 6 → kind ≡ 3 → 16 ≤ num → num ≤ mtu → fieldFault mtu len kind num ≡ 0
   unfolding fieldFault
   fields-send e k h j =
-      rw (in-order (fieldFaults mtu len kind num) refl, eq-eqb len 6 e, k, le-leb 16 num h, le-leb num mtu j)
+      rw (in-order (fieldFaults mtu len kind num) refl, eq-eqb len 6 e, k, passes (sizeOk num mtu) (h, j))
 
 -- ---- fields without a fault
 
@@ -66,22 +66,16 @@ pub record Good (mtu len kind num : ℕ) : Type 0 where
   pub six : len ≡ 6
   pub first : 1 ≤ kind
   pub last : kind ≤ 3
-  pub size : (kind < 3) ⊎ ((16 ≤ num) × (num ≤ mtu))
-
--- the same as a test that reads both ways
-abbrev fieldsOk : ℕ → ℕ → ℕ → ℕ → Test
-fieldsOk mtu len kind num = len ≡? 6 ∧? ((1 ≤? kind ∧? kind ≤? 3) ∧? (kind <? 3 ∨? (16 ≤? num ∧? num ≤? mtu)))
+  pub size : (kind < 3) ⊎ Holds (sizeOk num mtu)
 
 module _ (mtu len kind num : ℕ) where
-  pub good-facts : good mtu len kind num ≡ true → Good mtu len kind num
-  unfolding test
+  pub good-facts : test (good mtu len kind num) ≡ true → Good mtu len kind num
   good-facts e =
-      let f = facts (fieldsOk mtu len kind num) e in
+      let f = facts (good mtu len kind num) e in
       record { six = f .0; first = f .1 .0 .0; last = f .1 .0 .1; size = f .1 .1 }
 
-  pub facts-good : Good mtu len kind num → good mtu len kind num ≡ true
-  unfolding test
-  facts-good g = passes (fieldsOk mtu len kind num) (g .six, ((g .first, g .last), g .size))
+  pub facts-good : Good mtu len kind num → test (good mtu len kind num) ≡ true
+  facts-good g = passes (good mtu len kind num) (g .six, ((g .first, g .last), g .size))
 
   -- fields have a fault or are good
   fault-or-good : (0 < fieldFault mtu len kind num) ⊎ Good mtu len kind num
@@ -110,8 +104,7 @@ module _ (mtu len kind num : ℕ) where
       (λ k. fields-tick mtu len kind num (g .six) (g .first) k)
 
   -- `good` is true exactly when no fault applies
-  pub good-exactly : (good mtu len kind num ≡ true → fieldFault mtu len kind num ≡ 0)
-      × (fieldFault mtu len kind num ≡ 0 → good mtu len kind num ≡ true)
+  pub good-exactly : (test (good mtu len kind num) ≡ true) ↔ (fieldFault mtu len kind num ≡ 0)
   good-exactly = (λ e. facts-free (good-facts e), λ e. facts-good (free-facts e))
 
 -- ---- the event of good fields
@@ -127,7 +120,7 @@ module _ (mtu len kind num : ℕ) (g : Good mtu len kind num) where
       (λ f. by-cases f (λ e. rw (e, event-2 num) (refl, refl)) (λ e. rw (e, event-3 num) (refl, refl)))
 
   -- and it is in range under any limits with that mtu: a number of two bytes is an amount
-  pub valid-good : (l : Limits) → l .mtu ≡ mtu → num ≤ 65535 → Valid l (eventOf kind num)
+  pub valid-good : (l : Limits) → l .mtu ≡ mtu → num ≤ mostAmount → Valid l (eventOf kind num)
   valid-good l m h =
       by-cases (kinds kind (g .first) (g .last)) (λ e. rw (e, event-1 num) h)
       (λ f. by-cases f (λ e. rw (e, event-2 num) h)

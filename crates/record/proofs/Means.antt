@@ -7,20 +7,21 @@ use lib.ListN.{length}
 use Rattle.wire.specs.Wire.{Bytes}
 use Rattle.shaper.specs.declared.Limits.{Limits}
 use Rattle.shaper.specs.declared.Event.{Event}
+use Rattle.shaper.specs.Limits.{mostEvents}
 use Rattle.record.specs.Record.{written, WellFormed}
 use Rattle.record.specs.Read.{unreadable, readRecord}
+use Rattle.record.specs.Cause.{Why, too-many, has-fault, Cause, in-header, behind-events}
 use Rattle.record.proofs.Steps.{header-faulty}
 use Rattle.record.proofs.Written.{says-whole}
 use Rattle.record.proofs.Earliest.{over-million, earliest}
 use Rattle.record.proofs.Refused.{header-refused-exactly, event-refused-exactly}
-pub use Rattle.record.proofs.Refused.{Why, too-many, has-fault, Cause, in-header, behind-events}
 
 -- each number of an unreadable record has its cause,
 pub unreadable-means : (xs : List ℕ) (n : ℕ) → Bytes xs → readRecord xs ≡ unreadable n → Cause xs n
 unreadable-means xs n b e = rw e at (says-whole xs b)
 
 -- and each cause has its number.
-stops : (l : Limits) (es : List Event) (q : List ℕ) (n : ℕ) → 0 < n → WellFormed l es → 0 < length q → Why (l .mtu) 1000000 (length es) q n →
+stops : (l : Limits) (es : List Event) (q : List ℕ) (n : ℕ) → 0 < n → WellFormed l es → 0 < length q → Why (l .mtu) mostEvents (length es) q n →
     readRecord (written l es ++ q) ≡ unreadable n
 stops l es q n p w h (too-many e z) = over-million l es q w e h ∙ ap unreadable (sym z)
 stops l es q n p w h (has-fault few g) = earliest l es q w n few (event-refused-exactly (l .mtu) q 0 n h p .1 g)

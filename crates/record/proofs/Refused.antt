@@ -1,18 +1,15 @@
--- Each number that the two functions answer is given exactly when its row applies and none before it does; and what is the cause of a record's.
+-- Each number that the two functions answer is given exactly when its row applies and none before it does.
 -- Assumes nothing.
 use Prim.Native.Nat.{ℕ, zero, suc, _<_}
-use mathlib.Core.List.{List, _++_}
+use mathlib.Core.List.{List}
 use mathlib.Core.Path.{_≡_, refl}
 use native.Mathlib.Omega.{arith}
 use borrow.Author.Tests.{lt-leb}
 use lib.ListN.{length, drop}
 use Rattle.decide.specs.Refusal.{firstOf, Given}
 use Rattle.decide.proofs.Refusal.{first-exact}
-use Rattle.shaper.specs.declared.Limits.{Limits}
-use Rattle.shaper.specs.declared.Event.{Event}
 use Rattle.record.specs.declared.Header.the-variants.{Unreadable}
 use Rattle.record.specs.declared.Step.the-variants.{Faulty}
-use Rattle.record.specs.Record.{written, WellFormed}
 use Rattle.record.specs.Read.{headerFaults, eventFaults}
 use Rattle.record.specs.Step.{headed, headerOf, stepped, stepAt}
 
@@ -48,16 +45,3 @@ module _ (mtu : ℕ) (xs : List ℕ) (at : ℕ) where
       let x = first-exact (eventFaults mtu (drop at xs)) refl n h in
       rw (lt-leb (length xs) at some)
       (λ e. x .has-cause (step-number (firstOf (eventFaults mtu (drop at xs))) n e), λ g. number-step (firstOf (eventFaults mtu (drop at xs))) n (x .is-given g) h)
-
--- ---- the cause of a record's number
-
--- Why the bytes q, behind `done` events where `most` may stand, give n: any byte after the last gives 9, and before it the next event has the fault.
-pub data Why (mtu most done : ℕ) (q : List ℕ) (n : ℕ) : Type 0 where
-  too-many : done ≡ most → n ≡ 9 → Why mtu most done q n
-  has-fault : done < most → Given (eventFaults mtu q) n → Why mtu most done q n
-
--- Header first, then the earliest: the fault is in the header, or in the bytes that stand behind a header and some events without one.
-pub data Cause (xs : List ℕ) (n : ℕ) : Type 0 where
-  in-header : Given (headerFaults xs) n → Cause xs n
-  behind-events : (l : Limits) (es : List Event) (q : List ℕ) → xs ≡ written l es ++ q → WellFormed l es → 0 < length q →
-      Why (l .mtu) 1000000 (length es) q n → Cause xs n

@@ -11,7 +11,7 @@ use Rattle.decide.specs.Refusal.{firstOf}
 use Rattle.decide.specs.Test.{Holds, _≡?_, test, facts, split}
 use Rattle.decide.proofs.Cases.{by-cases, le-or, true-or-false}
 use Rattle.shaper.specs.declared.Limits.{Limits}
-use Rattle.shaper.specs.Limits.{limitsOk}
+use Rattle.shaper.specs.Limits.{limitsOk, mostAmount, mostEvents}
 use Rattle.shaper.specs.Credit.{Valid}
 use Rattle.shaper.specs.Kind.{eventOf}
 use Rattle.wire.specs.Wire.{le, Bytes}
@@ -29,7 +29,7 @@ use Rattle.record.proofs.Rows.{faultAt, header-short, header-length, he
 
 -- what the whole says, by what its header says
 abbrev pub readBy : List ℕ → Header → Read
-readBy xs (Settings l) = under l (readFrom (l .mtu) 1000000 (drop 14 xs))
+readBy xs (Settings l) = under l (readFrom (l .mtu) mostEvents (drop 14 xs))
 readBy xs (Unreadable n) = unreadable n
 
 pub read-header : (xs : List ℕ) → readRecord xs ≡ readBy xs (headerOf xs)
@@ -47,7 +47,7 @@ pub record Headed (xs : List ℕ) (l : Limits) : Type 0 where
   pub kind-field : le 2 xs 2 ≡ 16
   pub settings : l ≡ limitsAt xs
   pub in-range : Holds (limitsOk l)
-  pub goes-on : readRecord xs ≡ under l (readFrom (l .mtu) 1000000 (drop 14 xs))
+  pub goes-on : readRecord xs ≡ under l (readFrom (l .mtu) mostEvents (drop 14 xs))
 
 abbrev MeansHeader : List ℕ → Header → Type 0
 MeansHeader xs (Settings l) = Headed xs l
@@ -149,7 +149,7 @@ pub record Stood (mtu : ℕ) (xs : List ℕ) (at k v c next : ℕ) : Type 0 wher
   pub six : next ≡ at + 6
   pub fits : at + 6 ≤ length xs
   pub fields : Good mtu 6 k v
-  pub valid : (l : Limits) → l .mtu ≡ mtu → v ≤ 65535 → Valid l (eventOf k v)
+  pub valid : (l : Limits) → l .mtu ≡ mtu → v ≤ mostAmount → Valid l (eventOf k v)
   pub goes-on : (m : ℕ) → readFrom mtu (suc m) (drop at xs) ≡ onward 0 (eventOf k v) (readFrom mtu m (drop next xs))
 
 -- a fault at a place: some byte stands there, and the number is the record's
@@ -200,5 +200,5 @@ module _ (mtu : ℕ) (xs : List ℕ) (at : ℕ) where
   step-faulty n e = rw e at means-step
 
 -- the number of an event in bytes is below 65,536
-pub stood-bound : (mtu : ℕ) (xs : List ℕ) (at k v c next : ℕ) → Bytes xs → Stood mtu xs at k v c next → v ≤ 65535
+pub stood-bound : (mtu : ℕ) (xs : List ℕ) (at k v c next : ℕ) → Bytes xs → Stood mtu xs at k v c next → v ≤ mostAmount
 stood-bound mtu xs at k v c next b s = omega (arith, s .number-field, le-bound 2 xs (at + 4) b)

@@ -11,7 +11,7 @@ use Rattle.decide.specs.Test.{Holds, test, passes}
 use Rattle.shaper.specs.declared.Limits.{Limits}
 use Rattle.shaper.specs.declared.Event.{Event}
 use Rattle.shaper.specs.declared.Event.the-variants.{Waiting, Idle, Send}
-use Rattle.shaper.specs.Limits.{limitsOk}
+use Rattle.shaper.specs.Limits.{limitsOk, mostEvents}
 use Rattle.shaper.specs.Credit.{Valid, AllValid}
 use Rattle.shaper.specs.Kind.{kindOf, numberOf, eventOf}
 use Rattle.shaper.proofs.Kind.{event-of}
@@ -25,13 +25,14 @@ use Rattle.record.specs.declared.Header.{Header}
 use Rattle.record.specs.declared.Header.the-variants.{Settings, Unreadable}
 use Rattle.record.specs.Record.{headerParts, eventParts, headerBytes, eventBytes, eventsBytes, written, WellFormed}
 use Rattle.record.specs.Read.{limitsAt, Events, faulty, events, onward, readFrom, Read, unreadable, whole, under, readRecord}
+use Rattle.record.specs.Cause.{Why, too-many, has-fault, Cause, in-header, behind-events}
 use Rattle.record.specs.declared.Step.{Step}
 use Rattle.record.specs.declared.Step.the-variants.{Stands, End, Faulty}
 use Rattle.record.specs.Step.{headerOf, stepAt}
 use Rattle.record.proofs.Fields.{good-event, event-good}
 use Rattle.record.proofs.Rows.{header-settings}
 use Rattle.record.proofs.Steps.{Headed, Stood, readBy, readOn, read-header, header-stands, header-faulty, read-step, read-good, read-end, read-over, step-stands, step-end, step-faulty, stood-bound}
-use Rattle.record.proofs.Refused.{header-refused-exactly, event-refused-exactly, Why, too-many, has-fault, Cause, in-header, behind-events}
+use Rattle.record.proofs.Refused.{header-refused-exactly, event-refused-exactly}
 
 -- ---- lengths
 
@@ -130,7 +131,7 @@ written-read l es w =
     ∙ rw (
       header-back l (w .settings) (eventsBytes es),
       drop-at (headerBytes l) (eventsBytes es) 14 (length-header l),
-      events-back l (w .settings) es 1000000 (w .valid) (w .few),
+      events-back l (w .settings) es mostEvents (w .valid) (w .few),
     )
 
 -- ---- what is read was written
@@ -243,10 +244,10 @@ abbrev pub SaysWhole : List ℕ → Read → Type 0
 SaysWhole xs (unreadable n) = Cause xs n
 SaysWhole xs (whole l es) = (xs ≡ written l es) × WellFormed l es
 
-well-formed : (l : Limits) (zs : List ℕ) (es : List Event) → Holds (limitsOk l) → Wrote l 1000000 zs es → WellFormed l es
+well-formed : (l : Limits) (zs : List ℕ) (es : List Event) → Holds (limitsOk l) → Wrote l mostEvents zs es → WellFormed l es
 well-formed l zs es ok s = record { settings = ok; valid = s .valid; few = s .few }
 
-under-says : (l : Limits) (xs zs : List ℕ) → xs ≡ headerBytes l ++ zs → Holds (limitsOk l) → (r : Events) → Says l 1000000 zs r →
+under-says : (l : Limits) (xs zs : List ℕ) → xs ≡ headerBytes l ++ zs → Holds (limitsOk l) → (r : Events) → Says l mostEvents zs r →
     SaysWhole xs (under l r)
 under-says l xs zs f ok (faulty n) s =
     behind-events l (s .before) (s .rest)
@@ -263,8 +264,8 @@ says-whole xs b = rw (read-header xs) (by (headerOf xs) refl)
     by : (h : Header) → headerOf xs ≡ h → SaysWhole xs (readBy xs h)
     by (Settings l) e =
         let h = header-stands xs l e in
-        under-says l xs (drop 14 xs) (header-front xs b l h) (h .in-range) (readFrom (l .mtu) 1000000 (drop 14 xs))
-        (says l 1000000 (drop 14 xs) (bytes-drop 14 xs b))
+        under-says l xs (drop 14 xs) (header-front xs b l h) (h .in-range) (readFrom (l .mtu) mostEvents (drop 14 xs))
+        (says l mostEvents (drop 14 xs) (bytes-drop 14 xs b))
     by (Unreadable n) e = in-header (header-refused-exactly xs n (header-faulty xs n e .0) .0 e)
 
 -- bytes that are read whole are what a writer writes, of settings and events in range

@@ -1,3 +1,4 @@
 pub mod Record
 pub mod Read
 pub mod Step
+pub mod Cause

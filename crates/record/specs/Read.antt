@@ -1,16 +1,17 @@
 -- What any bytes say as a record: its settings and events, or the number of the earliest fault.
 -- Assumes nothing.
 use Prim.Native.Nat.{ℕ, zero, suc}
-use mathlib.Core.Bool.{Bool, not, _&&_, _||_}
+use mathlib.Core.Bool.{not, _&&_}
 use mathlib.Core.List.{List, [], _∷_}
 use lib.Dec.{leb, ltb, eqb}
 use lib.ListN.{length, drop}
-use Rattle.decide.specs.Test.{test}
+use Rattle.decide.specs.Test.{Test, _≤?_, _<?_, _≡?_, _∧?_, _∨?_, test}
+use Rattle.decide.specs.Size.{sizeOk}
 use Rattle.decide.specs.Refusal.{Fault, fault, firstOf}
 use Rattle.wire.specs.Wire.{le}
 use Rattle.shaper.specs.declared.Limits.{Limits}
 use Rattle.shaper.specs.declared.Event.{Event}
-use Rattle.shaper.specs.Limits.{limitsOk}
+use Rattle.shaper.specs.Limits.{limitsOk, mostEvents}
 use Rattle.shaper.specs.Kind.{eventOf}
 
 -- ---- the header
@@ -45,7 +46,7 @@ abbrev pub fieldFaults : ℕ → ℕ → ℕ → ℕ → List Fault
 fieldFaults mtu len kind num =
     fault 2 (not (eqb len 6))
     ∷ fault 2 (not (leb 1 kind && leb kind 3))
-    ∷ fault 3 (eqb kind 3 && not (leb 16 num && leb num mtu))
+    ∷ fault 3 (eqb kind 3 && not (test (sizeOk num mtu)))
     ∷ []
 
 -- the number of their fault, or 0
@@ -57,8 +58,8 @@ abbrev pub eventFaults : ℕ → List ℕ → List Fault
 eventFaults mtu xs = fault 2 (ltb (length xs) 6) ∷ fieldFaults mtu (lengthAt xs) (kindAt xs) (numberAt xs)
 
 -- whether an event's fields have no fault, in one test: length 6, kind 1 to 3, and a send's size 16 to mtu
-abbrev pub good : ℕ → ℕ → ℕ → ℕ → Bool
-good mtu len kind num = eqb len 6 && ((leb 1 kind && leb kind 3) && (ltb kind 3 || (leb 16 num && leb num mtu)))
+abbrev pub good : ℕ → ℕ → ℕ → ℕ → Test
+good mtu len kind num = len ≡? 6 ∧? ((1 ≤? kind ∧? kind ≤? 3) ∧? (kind <? 3 ∨? sizeOk num mtu))
 
 -- ---- all events
 
@@ -94,7 +95,7 @@ under l (events es) = whole l es
 
 -- header first
 abbrev pub opened : ℕ → List ℕ → Read
-opened zero xs = under (limitsAt xs) (readFrom (le 2 xs 4) 1000000 (drop 14 xs))
+opened zero xs = under (limitsAt xs) (readFrom (le 2 xs 4) mostEvents (drop 14 xs))
 opened (suc n) xs = unreadable (suc n)
 
 unfoldable pub readRecord : List ℕ → Read

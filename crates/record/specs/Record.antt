@@ -7,7 +7,7 @@ use Rattle.decide.specs.Test.{Holds}
 use Rattle.wire.specs.Parts.{Part, number, laidOut}
 use Rattle.shaper.specs.declared.Limits.{Limits}
 use Rattle.shaper.specs.declared.Event.{Event}
-use Rattle.shaper.specs.Limits.{limitsOk}
+use Rattle.shaper.specs.Limits.{limitsOk, mostEvents}
 use Rattle.shaper.specs.Credit.{AllValid}
 use Rattle.shaper.specs.Kind.{kindOf, numberOf}
 
@@ -37,4 +37,4 @@ written l es = headerBytes l ++ eventsBytes es
 pub record WellFormed (l : Limits) (es : List Event) : Type 0 where
   pub settings : Holds (limitsOk l)
   pub valid : AllValid l es
-  pub few : length es ≤ 1000000
+  pub few : length es ≤ mostEvents

@@ -2,6 +2,7 @@
 ghost use mathlib.Core.Path.{_≡_};
 ghost use Rattle.record.specs.Read.{fieldFault};
 ghost use Rattle.record.specs.Step.{headerOf, stepAt};
+use shaper::Event;
 use shaper::Limits;
 
 // What a record's header says.
@@ -87,7 +88,7 @@ fn fault(mtu: u32, length: u16, kind: u16, number: u16) -> u64
     if kind != 3 {
         return 0;
     }
-    if number < 16 {
+    if number < Event::MIN_SIZE {
         return 3;
     }
     if mtu < wide(number) {

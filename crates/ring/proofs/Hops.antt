@@ -9,22 +9,18 @@ use native.Mathlib.Omega.{arith}
 use Rattle.decide.proofs.Cases.{by-cases, le-or}
 use Rattle.ring.specs.declared.Way.{Way}
 use Rattle.ring.specs.declared.Way.the-variants.{Left, Right}
-use Rattle.ring.specs.Links.{otherOf, nextOf, aheadOf, runOf}
+use Rattle.ring.specs.Links.{otherOf, nextOf, aheadOf, runOf, stationAfter}
 use Rattle.ring.specs.Choosing.{distanceOf, Between}
 use Rattle.ring.proofs.Around.{nextOf-lt}
 use Rattle.ring.proofs.Distances.{right-ahead, right-round, whole-ring}
 
 -- ---- the station so many hops on
 
-abbrev pub after : Way → ℕ → ℕ → ℕ → ℕ
-after way n at zero = at
-after way n at (suc i) = after way n (nextOf way n at) i
-
-pub after-lt : (way : Way) (n at i : ℕ) → at < n → after way n at i < n
+pub after-lt : (way : Way) (n at i : ℕ) → at < n → stationAfter way n at i < n
 after-lt way n at zero h = h
 after-lt way n at (suc i) h = after-lt way n (nextOf way n at) i (nextOf-lt way n at h)
 
-pub after-suc : (way : Way) (n at i : ℕ) → after way n at (suc i) ≡ nextOf way n (after way n at i)
+pub after-suc : (way : Way) (n at i : ℕ) → stationAfter way n at (suc i) ≡ nextOf way n (stationAfter way n at i)
 after-suc way n at zero = refl
 after-suc way n at (suc i) = after-suc way n (nextOf way n at) i
 
@@ -40,7 +36,7 @@ spot : Way → ℕ → ℕ → ℕ → ℕ
 spot Right n at i = at + i
 spot Left n at i = at + (n - i)
 
-after-is : (way : Way) (n at i : ℕ) → at < n → i ≤ n → after way n at i ≡ spot way n at i % n
+after-is : (way : Way) (n at i : ℕ) → at < n → i ≤ n → stationAfter way n at i ≡ spot way n at i % n
 unfolding spot
 after-is Right n at zero h l = sym (ap (λ (x : ℕ). x % n) (add-zero at) ∙ mod-eq-of-lt h)
 after-is Left n at zero h l = sym (ap (λ (x : ℕ). x % n) (let e : at + (n - zero) ≡ at + n = omega arith in e) ∙ add-mod-right at n ∙ mod-eq-of-lt h)
@@ -89,7 +85,7 @@ module _ (n own target : ℕ) (b : Between n own target) (differ : own ≡ targe
       (λ h. by-cases (rest-of (own + (n - i)) n target (omega arith) e) (λ p. omega arith) (λ p. omega arith))
 
   -- as many hops as the distance are not too few,
-  pub arrives : (way : Way) → after way n own (distanceOf way n own target) ≡ target
+  pub arrives : (way : Way) → stationAfter way n own (distanceOf way n own target) ≡ target
   unfolding spot
   arrives way = after-is way n own (distanceOf way n own target) (b .station) (covered way) ∙ there way
     where
@@ -104,7 +100,7 @@ module _ (n own target : ℕ) (b : Between n own target) (differ : own ≡ targe
       there Right = at-target (own + right) refl
 
   -- and fewer are
-  pub not-before : (way : Way) (i : ℕ) → i < distanceOf way n own target → after way n own i ≡ target → ⊥
+  pub not-before : (way : Way) (i : ℕ) → i < distanceOf way n own target → stationAfter way n own i ≡ target → ⊥
   not-before way i l e =
       let c = covered way in
       short-of way i l (sym (after-is way n own i (b .station) (omega arith)) ∙ e)
@@ -112,7 +108,7 @@ module _ (n own target : ℕ) (b : Between n own target) (differ : own ≡ targe
 -- ---- the links of a run
 
 -- every link of a run is usable
-pub run-on : (way : Way) (n w m at i : ℕ) → i < runOf way n w m at → aheadOf way n w (after way n at i) ≡ true
+pub run-on : (way : Way) (n w m at i : ℕ) → i < runOf way n w m at → aheadOf way n w (stationAfter way n at i) ≡ true
 unfolding runOf
 run-on way n w zero at i l = absurd (omega arith)
 run-on way n w (suc m) at i l = go (run-on way n w m (nextOf way n at)) (aheadOf way n w at) refl i l
@@ -120,14 +116,14 @@ run-on way n w (suc m) at i l = go (run-on way n w m (nextOf way n at)) (aheadOf
     rest : ℕ
     rest = runOf way n w m (nextOf way n at)
 
-    go : ((j : ℕ) → j < rest → aheadOf way n w (after way n (nextOf way n at) j) ≡ true) → (b : Bool) → aheadOf way n w at ≡ b
-        → (j : ℕ) → j < cond b (suc rest) zero → aheadOf way n w (after way n at j) ≡ true
+    go : ((j : ℕ) → j < rest → aheadOf way n w (stationAfter way n (nextOf way n at) j) ≡ true) → (b : Bool) → aheadOf way n w at ≡ b
+        → (j : ℕ) → j < cond b (suc rest) zero → aheadOf way n w (stationAfter way n at j) ≡ true
     go ih true e zero k = e
     go ih true e (suc j) k = ih j (omega arith)
     go ih false e j k = absurd (omega arith)
 
 -- past a run that is not the whole way round the link ahead is unusable
-pub run-ends : (way : Way) (n w m at : ℕ) → runOf way n w m at < m → aheadOf way n w (after way n at (runOf way n w m at)) ≡ false
+pub run-ends : (way : Way) (n w m at : ℕ) → runOf way n w m at < m → aheadOf way n w (stationAfter way n at (runOf way n w m at)) ≡ false
 unfolding runOf
 run-ends way n w zero at l = absurd (omega arith)
 run-ends way n w (suc m) at l = go (run-ends way n w m (nextOf way n at)) (aheadOf way n w at) refl l
@@ -135,8 +131,8 @@ run-ends way n w (suc m) at l = go (run-ends way n w m (nextOf way n at)) (ahead
     rest : ℕ
     rest = runOf way n w m (nextOf way n at)
 
-    go : (rest < m → aheadOf way n w (after way n (nextOf way n at) rest) ≡ false) → (b : Bool) → aheadOf way n w at ≡ b
+    go : (rest < m → aheadOf way n w (stationAfter way n (nextOf way n at) rest) ≡ false) → (b : Bool) → aheadOf way n w at ≡ b
         → cond b (suc rest) zero < suc m
-        → aheadOf way n w (after way n at (cond b (suc rest) zero)) ≡ false
+        → aheadOf way n w (stationAfter way n at (cond b (suc rest) zero)) ≡ false
     go ih true e k = ih (omega arith)
     go ih false e k = e

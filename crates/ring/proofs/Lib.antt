@@ -1,4 +1,6 @@
 mod Digits
+pub mod Bits
+pub mod Exactly
 pub mod Around
 pub mod Faults
 pub mod Distances

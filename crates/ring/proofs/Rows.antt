@@ -2,7 +2,6 @@
 -- Assumes nothing.
 use Prim.Native.Nat.{ℕ, _-_, _≤_, _<_}
 use mathlib.Core.Bool.{Bool, true, false, cond, not, _&&_}
-use mathlib.Core.Logic.{⊎-elim}
 use mathlib.Core.Path.{_≡_, refl, sym, ap, _∙_}
 use native.Mathlib.Omega.{arith}
 use borrow.Author.Tests.{lt-ltb, le-ltb, eq-eqb, ne-eqb}
@@ -12,8 +11,8 @@ use Rattle.ring.specs.declared.Way.the-variants.{Left, Right}
 use Rattle.ring.specs.declared.Choice.{Choice}
 use Rattle.ring.specs.declared.Choice.the-variants.{Chosen, Refused}
 use Rattle.ring.specs.Links.{otherOf}
-use Rattle.ring.specs.Choosing.{codeOf, protectedOf, distanceOf, tieOf, shorterOf, reachesOf, preferredOf, takenOf, alongOf, noWay, goesOf, badCode, chooseOf, Placed}
-use Rattle.decide.proofs.Tests.{failing}
+use Rattle.ring.specs.Choosing.{codeOf, protectedOf, distanceOf, tieOf, shorterOf, reachesOf, preferredOf, takenOf, alongOf, noWay, goesOf, chooseOf, Placed}
+use Rattle.ring.proofs.Exactly.{code-exactly}
 use Rattle.ring.proofs.Faults.{placed-free, in-range}
 
 -- ---- where no way is usable
@@ -126,7 +125,7 @@ module _ (stations own target links ring : ℕ) (place : Placed stations own tar
   within : (side protection : ℕ) → side ≤ 3 → protection ≤ 2 → goesOf stations own target links side protection ring ≡ chosen side protection
   within side protection s p =
       in-range stations own target links side protection ring (placed-free stations own target links place)
-      (failing (badCode side protection ring) (λ h. ⊎-elim (λ k. omega arith) (λ k. ⊎-elim (λ l. omega arith) (λ l. omega arith) k) h))
+      (code-exactly side protection ring .1 (s, p, coded))
 
   -- the rows over the side that is preferred
   module _ (side : ℕ) (way : Way) (s : side ≤ 3) (preferred : preferredOf side stations own target ≡ way) where

@@ -1,12 +1,12 @@
 -- Which side a frame takes round the ring, and when it is refused.
 -- Assumes nothing: these are definitions.
-use Prim.Native.Nat.{ℕ, zero, suc, _+_, _-_, _/_, _%_, _^_, _<_}
+use Prim.Native.Nat.{ℕ, _+_, _-_, _/_, _%_, _^_, _<_}
 use mathlib.Core.Bool.{Bool, cond, not, _&&_}
 use mathlib.Core.List.{List, [], _∷_, _++_}
 use mathlib.Core.Path.{_≡_}
 use lib.Dec.{eqb, ltb, leb}
 use Rattle.decide.specs.Test.{Test, test, _≤?_, _<?_, _≡?_, _∨?_}
-use Rattle.decide.specs.Refusal.{Fault, fault, firstOf}
+use Rattle.decide.specs.Refusal.{Fault, fault, firstOf, refusedOr}
 use Rattle.ring.specs.Links.{otherOf, reachOf}
 use Rattle.ring.specs.declared.Way.{Way}
 use Rattle.ring.specs.declared.Way.the-variants.{Left, Right}
@@ -114,12 +114,7 @@ chooseFaults stations own target links side protection ring =
     placeFaults stations own target links
     ++ (fault 3 (test (badCode side protection ring)) ∷ fault 8 (noWay stations own target links protection) ∷ [])
 
--- The number of the first fault alone, as a refusal, or the answer where there is none. Choice and path share it.
-abbrev pub refusedOr : {A : Type 0} → (ℕ → A) → ℕ → A → A
-refusedOr refused zero answer = answer
-refusedOr refused (suc n) answer = refused (suc n)
-
--- The choice, for any numbers at all.
+-- The choice, for any numbers at all: the number of the first fault alone, as a refusal, or the side chosen where there is none.
 unfoldable pub chooseOf : ℕ → ℕ → ℕ → ℕ → ℕ → ℕ → ℕ → Choice
 chooseOf stations own target links side protection ring =
     refusedOr Refused (firstOf (chooseFaults stations own target links side protection ring))

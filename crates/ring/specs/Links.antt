@@ -20,6 +20,11 @@ abbrev pub nextOf : Way → ℕ → ℕ → ℕ
 nextOf Right stations at = (at + 1) % stations
 nextOf Left stations at = (at + (stations - 1)) % stations
 
+-- the station so many hops on
+abbrev pub stationAfter : Way → ℕ → ℕ → ℕ → ℕ
+stationAfter way stations at zero = at
+stationAfter way stations at (suc hops) = stationAfter way stations (nextOf way stations at) hops
+
 -- Link k joins k and k+1, the last joins 0: the link ahead of a station is its own number to the right, and to the left that of the station there.
 abbrev pub linkOf : Way → ℕ → ℕ → ℕ
 linkOf Right stations at = at

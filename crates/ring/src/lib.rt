@@ -65,10 +65,10 @@ fn goes(
         return along(first, stations, own, target, protection, ring);
     }
     let second = other(first);
-    if reaches(second, stations, own, target, links) {
-        return along(second, stations, own, target, protection, ring);
+    if !reaches(second, stations, own, target, links) {
+        return Choice::Refused(8);
     }
-    Choice::Refused(8)
+    along(second, stations, own, target, protection, ring)
 }
 
 // The number of the first fault in the ring, its word of links or its two stations, and 0 where there is none.

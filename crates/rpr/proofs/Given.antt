@@ -1,35 +1,37 @@
 -- What a call on a station gives, by what led there: a slice of another length is 2, and else what the station said is handed back.
 -- Assumes nothing.
-use Prim.Native.Nat.{ℕ, zero, suc}
+use Prim.Native.Nat.{ℕ}
 use mathlib.Core.Bool.{true, false}
 use mathlib.Core.List.{List, _∷_}
 use mathlib.Core.Path.{_≡_, refl, _∙_}
 use lib.ListN.{length}
 use Rattle.decide.specs.Test.{test}
-use Rattle.decide.specs.Refusal.{Fault, firstOf}
+use Rattle.decide.specs.Refusal.{Fault, firstOf, refusedOr}
 use Rattle.decide.proofs.Refusal.{in-order}
+use Rattle.decide.proofs.Refused.{handed-on}
 use Rattle.settings.specs.declared.Settings.{Settings}
 use Rattle.settings.specs.Range.{settingsOk}
 use Rattle.advert.specs.declared.Advert.{Advert}
 use Rattle.advert.specs.Frame.{advertBytes}
-use Rattle.flow.specs.declared.Client as flow
+use Rattle.flow.specs.declared.Flow.{Flow}
 use Rattle.station.specs.declared.Station.{Station}
 use Rattle.station.specs.declared.Done.{Done}
 use Rattle.station.specs.declared.Client.{Client}
 use Rattle.station.specs.declared.Selected.{Selected}
 use Rattle.station.specs.declared.Told.{Told}
+use Rattle.station.specs.declared.Reading.{Reading}
 use Rattle.station.specs.declared.Shown.{Shown}
 use Rattle.station.specs.Range.{stationOk}
-use Rattle.station.specs.Answers.{withFlow, doneBy, chosenOf, chosenBy}
+use Rattle.station.specs.Answers.{withFlow, refusedOf, doneOf, chosenOf, notChosenOf}
 use Rattle.station.specs.Calls.{startFaults, selectFaults, freshOf}
-use Rattle.station.specs.Offers.{takenBy}
-use Rattle.station.specs.Hear.{toldBy}
-use Rattle.station.specs.Show.{readingOf, shownBy}
+use Rattle.station.specs.Offers.{turnedOf, takenOf}
+use Rattle.station.specs.Hear.{notToldOf}
+use Rattle.station.specs.Show.{notShownOf}
 use Rattle.settings.specs.Words.{settingsLength}
 use Rattle.layout.specs.Layout.{stationLength, stationBytes}
 use Rattle.layout.specs.Reading.{readingBytes}
 use Rattle.answer.specs.Bytes.{packed, markBytes, selectedBytes}
-use Rattle.rpr.specs.Shape.{numberOr, answerOf, oldOr, afterOf, otherLength}
+use Rattle.rpr.specs.Shape.{answerOf, afterOf, otherLength}
 use Rattle.rpr.proofs.Shape.{wrong-length, right-length, refused}
 
 -- the answer, and the lent bytes afterwards
@@ -38,7 +40,7 @@ Gives rows said old new r after = (r ≡ answerOf rows said) × (after ≡ after
 
 -- what is handed back by a number: that number alone and the old bytes, or what was said and the new bytes
 abbrev pub HandedBack : ℕ → ℕ → List ℕ → List ℕ → ℕ → List ℕ → Type 0
-HandedBack n said old new r after = (r ≡ numberOr n said) × (after ≡ oldOr n old new)
+HandedBack n said old new r after = (r ≡ refusedOr (λ m. m) n said) × (after ≡ refusedOr (λ m. old) n new)
 
 -- ---- a slice of another length
 
@@ -65,38 +67,42 @@ module _ (n : ℕ) (xs : List ℕ) (faults : List Fault) (e : length xs ≡ n) (
 
 -- ---- what the station answered, by the number of its rows
 
+-- a client's frame that was taken, with this mark, and left this flow
+abbrev pub takenAs : Station → ℕ → Flow → Client
+takenAs st mark f = takenOf st (record { number = 0; detail = 0; mark = mark; flow = f })
+
 module _ (old : List ℕ) {r : ℕ} {after : List ℕ} where
-  pub done-back : (n : ℕ) (st next : Station) (d : Done) → d ≡ doneBy n st next
+  -- handed back by the answer's own number, it is handed back by that of the rows
+  back : {A : Type 0} (number said : A → ℕ) (new : A → List ℕ) (refused : ℕ → A) (done : A) → ((m : ℕ) → number (refused m) ≡ m) → number done ≡ 0
+      → (n : ℕ) (d : A) → d ≡ refusedOr refused n done → HandedBack (number d) (said d) old (new d) r after → HandedBack n (said done) old (new done) r after
+  back number said new refused done bears none n d h b = (
+    b .0 ∙ handed-on number refused done bears none (λ m. m) said n d h,
+    b .1 ∙ handed-on number refused done bears none (λ m. old) new n d h,
+  )
+
+  pub done-back : (n : ℕ) (st next : Station) (d : Done) → d ≡ refusedOr (refusedOf st) n (doneOf next)
       → HandedBack (d .number) 0 old (stationBytes (d .station)) r after → HandedBack n 0 old (stationBytes next) r after
-  unfolding numberOr oldOr doneBy
-  done-back zero st next d h b = rw h at b
-  done-back (suc n) st next d h b = rw h at b
+  done-back n st next = back (λ (d : Done). d .number) (λ d. 0) (λ (d : Done). stationBytes (d .station)) _ _ (λ m. refl) refl n
 
-  pub taken-back : (n : ℕ) (st : Station) (c : flow.Client) (d : Client) → d ≡ takenBy n st c
+  pub taken-back : (n : ℕ) (st : Station) (mark : ℕ) (f : Flow) (d : Client) → d ≡ refusedOr (turnedOf st) n (takenAs st mark f)
       → HandedBack (d .number) (packed (markBytes (d .mark))) old (stationBytes (d .station)) r after
-      → HandedBack n (packed (markBytes (c .mark))) old (stationBytes (withFlow st (c .flow))) r after
-  unfolding numberOr oldOr takenBy
-  taken-back zero st c d h b = rw h at b
-  taken-back (suc n) st c d h b = rw h at b
+      → HandedBack n (packed (markBytes mark)) old (stationBytes (withFlow st f)) r after
+  taken-back n st mark f =
+      back (λ (d : Client). d .number) (λ (d : Client). packed (markBytes (d .mark))) (λ (d : Client). stationBytes (d .station)) _ _ (λ m. refl) refl n
 
-  pub chosen-back : (n : ℕ) (st : Station) (d : Selected) → d ≡ chosenBy n st
+  pub chosen-back : (n : ℕ) (st : Station) (d : Selected) → d ≡ refusedOr (notChosenOf st) n (chosenOf st)
       → HandedBack (d .number) (packed (selectedBytes (d .origin) (d .frame))) old (stationBytes (d .station)) r after
       → HandedBack n (packed (selectedBytes (chosenOf st .origin) (chosenOf st .frame))) old (stationBytes (chosenOf st .station)) r after
-  unfolding numberOr oldOr chosenBy
-  chosen-back zero st d h b = rw h at b
-  chosen-back (suc n) st d h b = rw h at b
+  chosen-back n st =
+      back (λ (d : Selected). d .number) (λ (d : Selected). packed (selectedBytes (d .origin) (d .frame))) (λ (d : Selected). stationBytes (d .station)) _ _ (λ m. refl) refl n
 
-  pub told-back : (n : ℕ) (a : Advert) (d : Told) → d ≡ toldBy n a
+  pub told-back : (n : ℕ) (a : Advert) (d : Told) → d ≡ refusedOr notToldOf n (record { number = 0; detail = 0; advert = a })
       → HandedBack (d .number) 0 old (advertBytes (d .advert)) r after → HandedBack n 0 old (advertBytes a) r after
-  unfolding numberOr oldOr toldBy
-  told-back zero a d h b = rw h at b
-  told-back (suc n) a d h b = rw h at b
+  told-back n a = back (λ (d : Told). d .number) (λ d. 0) (λ (d : Told). advertBytes (d .advert)) _ _ (λ m. refl) refl n
 
-  pub shown-back : (n : ℕ) (st : Station) (d : Shown) → d ≡ shownBy n st
-      → HandedBack (d .number) 0 old (readingBytes (d .reading)) r after → HandedBack n 0 old (readingBytes (readingOf st)) r after
-  unfolding numberOr oldOr shownBy
-  shown-back zero st d h b = rw h at b
-  shown-back (suc n) st d h b = rw h at b
+  pub shown-back : (n : ℕ) (reading : Reading) (d : Shown) → d ≡ refusedOr notShownOf n (record { number = 0; detail = 0; reading = reading })
+      → HandedBack (d .number) 0 old (readingBytes (d .reading)) r after → HandedBack n 0 old (readingBytes reading) r after
+  shown-back n reading = back (λ (d : Shown). d .number) (λ d. 0) (λ (d : Shown). readingBytes (d .reading)) _ _ (λ m. refl) refl n
 
 -- ---- start
 
@@ -104,12 +110,12 @@ module _ (settings xs : List ℕ) (e : length settings ≡ settingsLength) (f : 
   -- 1 where a setting is outside its range; else the station is fresh
   pub start-refused : test (settingsOk s) ≡ false
       → Gives (otherLength settingsLength settings ∷ otherLength stationLength xs ∷ startFaults s) 0 xs (stationBytes (freshOf s)) 1 xs
-  unfolding numberOr oldOr
+  unfolding refusedOr
   start-refused o = then-whole-gives _ xs _ f _ _ _ _ settings e (rw (in-order (startFaults s) refl, o) (refl, refl))
 
   pub start-done : test (settingsOk s) ≡ true
       → Gives (otherLength settingsLength settings ∷ otherLength stationLength xs ∷ startFaults s) 0 xs (stationBytes (freshOf s)) 0 (stationBytes (freshOf s))
-  unfolding numberOr oldOr
+  unfolding refusedOr
   start-done o = then-whole-gives _ xs _ f _ _ _ _ settings e (rw (in-order (startFaults s) refl, o) (refl, refl))
 
 -- ---- select
@@ -117,10 +123,10 @@ module _ (settings xs : List ℕ) (e : length settings ≡ settingsLength) (f : 
 module _ (xs : List ℕ) (e : length xs ≡ stationLength) (st : Station) (said : ℕ) (new : List ℕ) where
   -- 1 where the station is outside its range; else what is said, and what is left
   pub select-refused : test (stationOk st) ≡ false → Gives (otherLength stationLength xs ∷ selectFaults st) said xs new 1 xs
-  unfolding numberOr oldOr
+  unfolding refusedOr
   select-refused o = whole-gives _ xs _ e _ _ _ (rw (in-order (selectFaults st) refl, o) (refl, refl))
 
   pub select-given : {r : ℕ} {after : List ℕ} → test (stationOk st) ≡ true → r ≡ said → after ≡ new
       → Gives (otherLength stationLength xs ∷ selectFaults st) said xs new r after
-  unfolding numberOr oldOr
+  unfolding refusedOr
   select-given o a b = whole-gives _ xs _ e _ _ _ (rw (in-order (selectFaults st) refl, o) (a, b))

@@ -18,20 +18,21 @@ use Rattle.flow.specs.Which.{creditOf}
 use Rattle.station.specs.declared.Station.{Station}
 use Rattle.station.specs.Range.{StationOk}
 use Rattle.station.specs.Calls.{freshOf}
-use Rattle.station.specs.History.{Call, after, recordOf}
-use Rattle.station.proofs.History.{Recorded, credit-of-record}
+use Rattle.station.specs.History.{Call, after, recordOf, Recorded}
+use Rattle.station.proofs.History.{credit-of-record}
 use Rattle.layout.specs.Layout.{stationLength}
 use Rattle.rpr.specs.Station.{startAnswer, startAfter}
 use Rattle.rpr.specs.Lent.{answerTo, leftBy, callsOf, StartsWith, Lending, lentTo, memoryAfter, memoryThrough, NoNewStart, callsOn, startedIn, stationIn}
-use Rattle.rpr.proofs.Step.{lent-short, Keeps, start-in-range, start-keeps, left, call-never-1}
+use Rattle.rpr.specs.Says.{Keeps}
+use Rattle.rpr.proofs.Step.{lent-short, start-in-range, start-keeps, left, call-never-1}
 
 -- ---- on memory
 
 -- After some lendings the memory holds a station in range: where none was a new start, the one that the calls on the station left.
-record Through (mem : List ℕ) (ls : List Lending) (st : Station) : Type 0 where
-  next : Station
-  keeps : Keeps (take stationLength (memoryThrough mem ls)) next
-  follows : NoNewStart mem ls → next ≡ after st (callsOn mem ls)
+pub record Through (mem : List ℕ) (ls : List Lending) (st : Station) : Type 0 where
+  pub next : Station
+  pub keeps : Keeps (take stationLength (memoryThrough mem ls)) next
+  pub follows : NoNewStart mem ls → next ≡ after st (callsOn mem ls)
 
 after-append : (st : Station) (cs ds : List Call) → after st (cs ++ ds) ≡ after (after st cs) ds
 after-append st [] ds = refl
@@ -39,13 +40,13 @@ after-append st (c ∷ cs) ds = after-append _ cs ds
 
 -- the first bytes of the memory are those that were lent, where these are a station's
 module _ (l : Lending) (mem : List ℕ) where
-  first-lent : length (lentTo l mem) ≡ stationLength → take stationLength mem ≡ lentTo l mem
+  pub first-lent : length (lentTo l mem) ≡ stationLength → take stationLength mem ≡ lentTo l mem
   first-lent h = ap (take stationLength) (sym (take-append-drop (l .count) mem)) ∙ take-at (lentTo l mem) (drop (l .count) mem) stationLength h
 
-  first-left : length (leftBy (l .call) (lentTo l mem)) ≡ stationLength → take stationLength (memoryAfter l mem) ≡ leftBy (l .call) (lentTo l mem)
+  pub first-left : length (leftBy (l .call) (lentTo l mem)) ≡ stationLength → take stationLength (memoryAfter l mem) ≡ leftBy (l .call) (lentTo l mem)
   first-left h = take-at (leftBy (l .call) (lentTo l mem)) (drop (l .count) mem) stationLength h
 
-  short-same : (length (lentTo l mem) ≡ stationLength → ⊥) → memoryAfter l mem ≡ mem
+  pub short-same : (length (lentTo l mem) ≡ stationLength → ⊥) → memoryAfter l mem ≡ mem
   short-same h = ap (λ (xs : List ℕ). xs ++ drop (l .count) mem) (sym (lent-short (lentTo l mem) h (l .call) .1)) ∙ take-append-drop (l .count) mem
 
   -- a call on the station, or none
@@ -53,14 +54,14 @@ module _ (l : Lending) (mem : List ℕ) where
     abbrev calls-by : Bool → List Call
     calls-by whole = cond whole (callsOf (l .call)) [] ++ callsOn (memoryAfter l mem) ls
 
-    whole-calls : length (lentTo l mem) ≡ stationLength → callsOn mem (l ∷ ls) ≡ callsOf (l .call) ++ callsOn (memoryAfter l mem) ls
+    pub whole-calls : length (lentTo l mem) ≡ stationLength → callsOn mem (l ∷ ls) ≡ callsOf (l .call) ++ callsOn (memoryAfter l mem) ls
     whole-calls h = ap calls-by (eq-eqb (length (lentTo l mem)) stationLength h)
 
-    short-calls : (length (lentTo l mem) ≡ stationLength → ⊥) → callsOn mem (l ∷ ls) ≡ callsOn (memoryAfter l mem) ls
+    pub short-calls : (length (lentTo l mem) ≡ stationLength → ⊥) → callsOn mem (l ∷ ls) ≡ callsOn (memoryAfter l mem) ls
     short-calls h = ap calls-by (ne-eqb (length (lentTo l mem)) stationLength h)
 
 -- Each call is lent what the one before left: the memory holds what the calls on the station made of it.
-memory-keeps : (mem : List ℕ) (ls : List Lending) {st : Station} → Keeps (take stationLength mem) st → Through mem ls st
+pub memory-keeps : (mem : List ℕ) (ls : List Lending) {st : Station} → Keeps (take stationLength mem) st → Through mem ls st
 memory-keeps mem [] {st} k = record { next = st; keeps = k; follows = λ n. refl }
 memory-keeps mem (l ∷ ls) {st} k =
     by-cases (split (length (lentTo l mem) ≡? stationLength))
@@ -94,7 +95,7 @@ module _ (settings mem : List ℕ) (bytes : Bytes settings) (z : startAnswer set
   abbrev started : List ℕ
   started = startedIn settings mem
 
-  begins : Keeps (take stationLength started) (freshOf given)
+  pub begins : Keeps (take stationLength started) (freshOf given)
   begins =
       let kept = start-keeps settings (take stationLength mem) bytes z in
       subst (λ (xs : List ℕ). Keeps xs (freshOf given))

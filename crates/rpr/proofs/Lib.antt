@@ -12,3 +12,7 @@ pub mod Station
 pub mod Step
 pub mod Rooms
 pub mod Lent
+pub mod Told
+pub mod Kept
+pub mod Pieces
+pub mod Reading

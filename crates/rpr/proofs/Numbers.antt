@@ -6,6 +6,7 @@ use mathlib.Core.Path.{refl}
 use native.Mathlib.Omega.{arith}
 use lib.ListN.{drop}
 use Rattle.decide.specs.Refusal.{firstOf}
+use Rattle.shaper.specs.Limits.{mostEvents}
 use Rattle.shaper.specs.declared.Limits.{Limits}
 use Rattle.shaper.specs.declared.Event.{Event}
 use Rattle.shaper.specs.Kind.{eventOf}
@@ -49,7 +50,7 @@ under-numbered l (events es) h = tt
 
 opened-numbered : (n : ℕ) (xs : List ℕ) → n ≤ 11 → AnswerNumbered (summarized (opened n xs))
 opened-numbered zero xs h =
-    under-numbered (limitsAt xs) (readFrom (limitsAt xs .mtu) 1000000 (drop 14 xs)) (from-numbered (limitsAt xs .mtu) 1000000 (drop 14 xs))
+    under-numbered (limitsAt xs) (readFrom (limitsAt xs .mtu) mostEvents (drop 14 xs)) (from-numbered (limitsAt xs .mtu) mostEvents (drop 14 xs))
 opened-numbered (suc n) xs h = omega arith
 
 pub record-numbered : (xs : List ℕ) → AnswerNumbered (summarizeOf xs)

@@ -9,14 +9,16 @@ use native.Mathlib.Omega.{arith}
 use borrow.Author.Tests.{not-false, ltb-false}
 use lib.Dec.{leb}
 use lib.ListN.{length}
-use Rattle.decide.specs.Test.{test, facts, split, _≡?_}
-use Rattle.decide.specs.Refusal.{firstOf}
+use Rattle.decide.specs.Test.{test, split, _≡?_}
+use Rattle.decide.specs.Refusal.{firstOf, RefusedExactly}
 use Rattle.decide.proofs.Cases.{of-each}
-use Rattle.decide.proofs.Refusal.{RefusedExactly, refused-exactly}
+use Rattle.decide.proofs.Refusal.{refused-exactly}
+use Rattle.decide.proofs.Refused.{carried-by}
 use Rattle.wire.specs.Wire.{digits, Bytes}
 use Rattle.shaper.specs.declared.Limits.{Limits}
 use Rattle.shaper.specs.declared.Event.{Event}
-use Rattle.shaper.specs.Limits.{sameLimits}
+use Rattle.shaper.specs.Limits.{mostEvents, sameLimits}
+use Rattle.shaper.proofs.Ranges.{same-exactly}
 use Rattle.summary.specs.declared.Summary.{Summary}
 use Rattle.summary.specs.declared.Answer.{Answer}
 use Rattle.summary.specs.declared.Outcome.{Outcome}
@@ -25,15 +27,15 @@ use Rattle.summary.specs.Range.{inRange}
 use Rattle.summary.specs.Answer.{settleOf, settled, answerNumber}
 use Rattle.summary.proofs.Promises.{join-range, summary-range}
 use Rattle.record.specs.Record.{written, WellFormed}
-use Rattle.account.specs.Account.{summarizeOf}
-use Rattle.account.proofs.Promises.{Accounted, summarize-written, summarized-written}
+use Rattle.account.specs.Account.{summarizeOf, Accounted}
+use Rattle.account.proofs.Promises.{summarize-written, summarized-written}
 use Rattle.sheet.specs.Sheet.{sheetLength, sheetOf, summaryAt, handed}
 use Rattle.sheet.proofs.Round.{summary-of-bytes, in-range-fits}
 use Rattle.answer.specs.Bytes.{permittedBytes}
 use Rattle.answer.proofs.Bytes.{packed-bytes}
-use Rattle.rpr.specs.Shape.{answerOf, oldOr, afterOf}
-use Rattle.rpr.specs.Calls.{summarizeRows, summarizeAnswer, summarizeAfter, joinRows, joinAnswer, joinAfter, settleRows, outcomeAnswer, settleAnswer}
-use Rattle.rpr.proofs.Shape.{wrong-length, first-most, number-alone, carried, Bears, refused-leaves}
+use Rattle.rpr.specs.Shape.{answerOf, afterOf, Bears}
+use Rattle.rpr.specs.Calls.{summarizeRows, summarizeAnswer, summarizeAfter, joinRows, joinAnswer, joinAfter, settleRows, outcomeAnswer, settleAnswer, Joined, EndsAt}
+use Rattle.rpr.proofs.Shape.{wrong-length, first-most, number-alone, carried, refused-leaves}
 use Rattle.rpr.proofs.Rows.{summarize-room, summarize-rows, summarize-whole, settle-whole}
 use Rattle.rpr.proofs.Numbers.{AnswerNumbered, record-numbered, answer-most}
 use Rattle.rpr.proofs.Credit.{end-most}
@@ -79,14 +81,6 @@ module _ (xs room : List ℕ) where
 
 -- ---- rpr_join
 
-same-limits : (l m : Limits) → test (sameLimits l m) ≡ true → l ≡ m
-same-limits l m e = let h = facts (sameLimits l m) e in λ i. record { mtu = h .0 i; lo = h .1 .0 i; hi = h .1 .1 i }
-
--- where a join was carried out: the room holds the joined summary, which is in range
-pub record Joined (first second room : List ℕ) : Type 0 where
-  pub in-range : inRange (joined (summaryAt first) (summaryAt second)) ≡ true
-  pub holds : summaryAt (joinAfter first second room) ≡ joined (summaryAt first) (summaryAt second)
-
 module _ (xs ys room : List ℕ) where
   pub join-leaves : Bears (firstOf (joinRows xs ys room)) (joinAnswer xs ys room)
       × (0 < firstOf (joinRows xs ys room) → joinAfter xs ys room ≡ room)
@@ -97,8 +91,8 @@ module _ (xs ys room : List ℕ) where
   join-refused-exactly = refused-exactly (joinRows xs ys room) refl _ (join-leaves .0 .byte-0)
 
   join-after : joinAnswer xs ys room ≡ 0 → joinAfter xs ys room ≡ sheetOf (joined (summaryAt xs) (summaryAt ys))
-  unfolding joinAnswer joinAfter answerOf oldOr afterOf
-  join-after z = ap (λ n. oldOr n room (sheetOf (joined (summaryAt xs) (summaryAt ys)))) (number-alone (firstOf (joinRows xs ys room)) ∙ z)
+  unfolding joinAnswer joinAfter answerOf afterOf
+  join-after z = carried-by _ _ _ (number-alone (firstOf (joinRows xs ys room)) ∙ z)
 
   join-in-range : joinAnswer xs ys room ≡ 0 → inRange (joined (summaryAt xs) (summaryAt ys)) ≡ true
   unfolding joinAnswer
@@ -107,8 +101,8 @@ module _ (xs ys room : List ℕ) where
       let first = not-false (inRange (summaryAt xs)) (free _ (inr (inr (inr (inl refl))))) in
       let second = not-false (inRange (summaryAt ys)) (free _ (inr (inr (inr (inr (inl refl)))))) in
       let same = not-false (test (sameLimits (summaryAt xs .limits) (summaryAt ys .limits))) (free _ (inr (inr (inr (inr (inr (inl refl))))))) in
-      let few = ltb-false 1000000 (summaryAt xs .events + summaryAt ys .events) (free _ (inr (inr (inr (inr (inr (inr (inl refl)))))))) in
-      ⊎-elim (λ p. p .1) (λ p. absurd (omega (arith, p .1))) (join-range (summaryAt xs) (summaryAt ys) first second (same-limits _ _ same))
+      let few = ltb-false mostEvents (summaryAt xs .events + summaryAt ys .events) (free _ (inr (inr (inr (inr (inr (inr (inl refl)))))))) in
+      ⊎-elim (λ p. p .1) (λ p. absurd (omega (arith, p .1))) (join-range (summaryAt xs) (summaryAt ys) first second (same-exactly _ _ .0 same))
 
   pub join-done : joinAnswer xs ys room ≡ 0 → Joined xs ys room
   join-done z =
@@ -120,11 +114,6 @@ module _ (xs ys room : List ℕ) where
 -- a carried out call has byte 0 at 0
 settled-low : (s : Summary) (c : ℕ) → outcomeAnswer (settled 0 s c) % 256 ≡ 0
 settled-low s c = of-each (λ (o : Outcome). outcomeAnswer o % 256 ≡ 0) (leb (s .need) c) (Outcome.Permitted _) Outcome.NotPermitted (λ e. omega arith) (λ e. refl)
-
--- byte 1 is 1 where permitted throughout, and bytes 4 to 7 hold the credit at the end, which fits them
-pub record Ends (answer end : ℕ) : Type 0 where
-  pub bytes : digits 8 answer ≡ (0 ∷ 1 ∷ 0 ∷ 0 ∷ []) ++ digits 4 end
-  pub fits : end < 4294967296
 
 permitted-bytes : (end : ℕ) → digits 8 (outcomeAnswer (Outcome.Permitted end)) ≡ (0 ∷ 1 ∷ 0 ∷ 0 ∷ []) ++ digits 4 end
 unfolding digits
@@ -139,7 +128,7 @@ module _ (xs : List ℕ) (start : ℕ) where
   settle-refused-exactly = refused-exactly (settleRows xs start) refl _ (settle-leaves .byte-0)
 
   module _ (e : length xs ≡ sheetLength) where
-    pub settle-permitted : (end : ℕ) → settleOf (summaryAt xs) start ≡ Outcome.Permitted end → Ends (settleAnswer xs start) end
+    pub settle-permitted : (end : ℕ) → settleOf (summaryAt xs) start ≡ Outcome.Permitted end → EndsAt (settleAnswer xs start) end
     settle-permitted end o =
         let h = end-most (summaryAt xs) start end o in
         record { bytes = ap (λ n. digits 8 n) (sym (settle-whole xs start e _ (sym o))) ∙ permitted-bytes end; fits = omega arith }

@@ -29,15 +29,15 @@ use Rattle.station.proofs.ReadBack.{told-heard}
 use Rattle.layout.specs.Layout.{stationAt}
 use Rattle.layout.specs.Reading.{readingLength, readingAt}
 use Rattle.layout.proofs.Round.{reading-of-bytes, reading-fits, station-fits}
-use Rattle.rpr.specs.Shape.{numberOr}
 use Rattle.rpr.specs.Station.{readFrameAnswer, readFrameAfter, writeFrameAnswer, writeFrameAfter, showAnswer, showAfter}
 use Rattle.rpr.specs.Lent.{readFrame}
-use Rattle.rpr.proofs.Shape.{taken-on}
+use Rattle.rpr.proofs.Shape.{number-alone, taken-on}
 use Rattle.rpr.proofs.Given.{whole-gives, then-whole-gives, done-back}
-use Rattle.rpr.proofs.Step.{Keeps, keeps-fits, call-keeps}
+use Rattle.rpr.specs.Says.{Keeps}
+use Rattle.rpr.proofs.Step.{keeps-fits, call-keeps}
 
 -- a station in range is refused nothing for its range
-no-row : (st : Station) → StationOk st → firstOf (rangeFault st ∷ []) ≡ 0
+pub no-row : (st : Station) → StationOk st → firstOf (rangeFault st ∷ []) ≡ 0
 no-row st ok = rw (in-order (rangeFault st ∷ []) refl, facts-in-range st ok)
 
 module _ {xs : List ℕ} {st : Station} (k : Keeps xs st) (room : List ℕ) where
@@ -78,10 +78,10 @@ module _ {xs : List ℕ} {st : Station} (k : Keeps xs st) (room : List ℕ) (h :
 
     -- Reading a written frame, with the same ringlet but an address it doesn't bear, is not refused, and takes what was told.
     pub written-read : (readFrameAnswer ys (writeFrameAfter xs room) ≡ 0) × Keeps (readFrameAfter ys (writeFrameAfter xs room)) (changedOf t told)
-    unfolding readFrameAnswer numberOr
+    unfolding readFrameAnswer
     written-read =
         rw (write-frame-done k room h .1) (
           sym (whole-gives _ ys _ (j .whole) _ _ _ (done-back ys _ _ _ (hearOf (stationAt ys) (advertBytes told)) refl (refl, refl)) .0)
-              ∙ ap (λ (r : Done). numberOr (r .number) 0) (ap (λ (s : Station). hearOf s (advertBytes told)) (j .holds) ∙ heard),
+              ∙ sym (number-alone _) ∙ ap (λ (r : Done). r .number) (ap (λ (s : Station). hearOf s (advertBytes told)) (j .holds) ∙ heard),
           subst (λ (r : Done). Keeps (readFrameAfter ys (advertBytes told)) (r .station)) heard (call-keeps j (readFrame (advertBytes told) (frame-bytes told)) _ refl),
         )

@@ -7,7 +7,7 @@ use mathlib.Core.Path.{_≡_, refl, ap, _∙_}
 use native.Mathlib.Omega.{arith}
 use borrow.Author.Tests.{ne-eqb}
 use lib.ListN.{length}
-use Rattle.decide.specs.Refusal.{nothing, row, first, numberOf, firstOf}
+use Rattle.decide.specs.Refusal.{nothing, row, first, numberOf, firstOf, refusedOr}
 use Rattle.summary.specs.declared.Summary.{Summary}
 use Rattle.summary.specs.declared.Answer.{Answer}
 use Rattle.summary.specs.declared.Outcome.{Outcome}
@@ -15,7 +15,7 @@ use Rattle.summary.specs.Summary.{joined}
 use Rattle.summary.specs.Answer.{answered, joinFaults, joinOf, settleFaults, settleOf, settled, answerNumber}
 use Rattle.account.specs.Account.{summarizeOf}
 use Rattle.sheet.specs.Sheet.{sheetLength, sheetOf, summaryAt, handed}
-use Rattle.rpr.specs.Shape.{numberOr, answerOf, oldOr, afterOf}
+use Rattle.rpr.specs.Shape.{answerOf, afterOf}
 use Rattle.rpr.specs.Calls.{recordFault, summarizeRows, summarizeAnswer, summarizeAfter, joinRows, joinAnswer, joinAfter, settleRows, outcomeAnswer, settleAnswer}
 use Rattle.rpr.proofs.Shape.{wrong-length, right-length, number-alone, refused}
 
@@ -27,8 +27,8 @@ unfolding firstOf first
 record-row zero = refl
 record-row (suc n) = ap (λ (b : Bool). numberOf (cond (not b) (row (recordFault (suc n))) nothing)) (ne-eqb (suc n) 0 (λ e. omega arith))
 
-handed-alone : (room : List ℕ) (a : Answer) → handed room a ≡ oldOr (answerNumber a) room (handed room a)
-unfolding oldOr
+handed-alone : (room : List ℕ) (a : Answer) → handed room a ≡ refusedOr (λ m. room) (answerNumber a) (handed room a)
+unfolding refusedOr
 handed-alone room (Answer.Summed s) = refl
 handed-alone room (Answer.Refused zero) = refl
 handed-alone room (Answer.Refused (suc n)) = refl
@@ -54,13 +54,13 @@ module _ (xs room : List ℕ) where
 -- ---- rpr_join
 
 -- a summary's answer, by the number of its first fault
-number-is : (n : ℕ) (s : Summary) → answerNumber (answered n s) ≡ numberOr n 0
-unfolding numberOr
+number-is : (n : ℕ) (s : Summary) → answerNumber (answered n s) ≡ refusedOr (λ m. m) n 0
+unfolding refusedOr
 number-is zero s = refl
 number-is (suc n) s = refl
 
-handed-is : (n : ℕ) (s : Summary) (room : List ℕ) → handed room (answered n s) ≡ oldOr n room (sheetOf s)
-unfolding oldOr
+handed-is : (n : ℕ) (s : Summary) (room : List ℕ) → handed room (answered n s) ≡ refusedOr (λ m. room) n (sheetOf s)
+unfolding refusedOr
 handed-is zero s room = refl
 handed-is (suc n) s room = refl
 
@@ -96,8 +96,8 @@ module _ (xs ys room : List ℕ) where
 
 -- ---- rpr_settle
 
-outcome-is : (n : ℕ) (s : Summary) (c : ℕ) → outcomeAnswer (settled n s c) ≡ numberOr n (outcomeAnswer (settled 0 s c))
-unfolding numberOr
+outcome-is : (n : ℕ) (s : Summary) (c : ℕ) → outcomeAnswer (settled n s c) ≡ refusedOr (λ m. m) n (outcomeAnswer (settled 0 s c))
+unfolding refusedOr
 outcome-is zero s c = refl
 outcome-is (suc n) s c = refl
 

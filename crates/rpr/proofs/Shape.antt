@@ -1,21 +1,22 @@
 -- The laws of every call, whatever its rows: a slice of another length is 2 before all else; a refusal is its number alone, and leaves the lent bytes.
 -- Assumes nothing.
-use Prim.Native.Nat.{ℕ, zero, suc, _%_, _≤_, _<_}
+use Prim.Native.Nat.{ℕ, suc, _%_, _≤_, _<_}
 use mathlib.Core.Bool.{Bool, true, false, cond, not, _&&_}
 use mathlib.Core.List.{List, [], _∷_}
 use mathlib.Core.Logic.{⊎-elim}
-use mathlib.Core.Path.{_≡_, refl, ap, _∙_}
+use mathlib.Core.Path.{_≡_, refl, sym, ap, _∙_}
 use native.Mathlib.Omega.{arith}
 use borrow.Author.Tests.{eq-eqb, ne-eqb, le-leb, leb-true}
 use lib.Dec.{leb}
 use lib.ListN.{length}
 use Rattle.decide.specs.Test.{both}
-use Rattle.decide.specs.Refusal.{Fault, First, nothing, row, earlier, first, numberOf, firstOf, Among}
+use Rattle.decide.specs.Refusal.{Fault, First, nothing, row, earlier, first, numberOf, firstOf, refusedOr, Among}
 use Rattle.decide.proofs.Cases.{true-or-false, of-each}
 use Rattle.decide.proofs.Refusal.{carried-out}
+use Rattle.decide.proofs.Refused.{of-answer, carried-by, refused-by, number-by}
 use Rattle.wire.specs.Wire.{digits}
 use Rattle.answer.proofs.Bytes.{packed-bytes}
-use Rattle.rpr.specs.Shape.{numberOr, answerOf, oldOr, afterOf, otherLength}
+use Rattle.rpr.specs.Shape.{answerOf, afterOf, otherLength, alone, Bears}
 
 -- ---- lengths
 
@@ -69,10 +70,8 @@ among-numbered f (g ∷ gs) e m =
     (λ k. among-numbered f gs (p .1) k)
     m
 
-pub number-alone : (n : ℕ) → n ≡ numberOr n 0
-unfolding numberOr
-number-alone zero = refl
-number-alone (suc n) = refl
+pub number-alone : (n : ℕ) → n ≡ refusedOr (λ m. m) n 0
+number-alone n = sym (number-by (λ m. m) _ _ (λ m. refl) refl n)
 
 -- no row applies where none counts,
 pub free : (rows : List Fault) → numbered rows ≡ true → firstOf rows ≡ 0 → (f : Fault) → Among f rows → f .applies ≡ false
@@ -86,10 +85,6 @@ carried rows h e = free rows h (number-alone (firstOf rows) ∙ e)
 
 -- ---- bytes
 
--- a number alone in the eight bytes of an answer
-abbrev pub alone : ℕ → List ℕ
-alone n = n ∷ 0 ∷ 0 ∷ 0 ∷ 0 ∷ 0 ∷ 0 ∷ 0 ∷ []
-
 pub digits-alone : (n : ℕ) → n ≤ 11 → digits 8 n ≡ alone n
 unfolding digits
 digits-alone n h = ap (λ (v : ℕ). digits 8 v) (omega arith) ∙ packed-bytes (alone n) (omega arith)
@@ -99,37 +94,24 @@ digits-alone n h = ap (λ (v : ℕ). digits 8 v) (omega arith) ∙ packed-bytes 
 module _ (rows : List Fault) (said : ℕ) (old new : List ℕ) where
   -- the number of the row that counts, and the bytes as they were
   pub refused : (n : ℕ) → firstOf rows ≡ suc n → (suc n ≡ answerOf rows said) × (old ≡ afterOf rows old new)
-  unfolding numberOr answerOf oldOr afterOf
+  unfolding refusedOr answerOf afterOf
   refused n e = (rw e, rw e)
 
 -- the same by the number alone: a refusal, and a call that was carried out
-pub turned-down : (n said : ℕ) (old new : List ℕ) → (n ≡ 0 → ⊥) → (n ≡ numberOr n said) × (old ≡ oldOr n old new)
-unfolding numberOr oldOr
-turned-down zero said old new h = absurd (h refl)
-turned-down (suc n) said old new h = (refl, refl)
+pub turned-down : (n said : ℕ) (old new : List ℕ) → (n ≡ 0 → ⊥) → (n ≡ refusedOr (λ m. m) n said) × (old ≡ refusedOr (λ m. old) n new)
+turned-down n said old new h = let p : 0 < n = omega (arith, h) in (sym (refused-by _ _ n p), sym (refused-by _ _ n p))
 
-module _ (n said : ℕ) (old new : List ℕ) where
-  pub taken-on : n ≡ 0 → (said ≡ numberOr n said) × (new ≡ oldOr n old new)
-  unfolding numberOr oldOr
-  taken-on e = (rw e, rw e)
+pub taken-on : (n said : ℕ) (old new : List ℕ) → n ≡ 0 → (said ≡ refusedOr (λ m. m) n said) × (new ≡ refusedOr (λ m. old) n new)
+taken-on n said old new e = (sym (carried-by _ _ n e), sym (carried-by _ _ n e))
 
--- Byte 0 of the answer is the number, and where that is not 0 every other byte is 0.
-pub record Bears (number answer : ℕ) : Type 0 where
-  pub byte-0 : answer % 256 ≡ number
-  pub others : 0 < number → digits 8 answer ≡ alone number
-
-bears : (n said : ℕ) → n ≤ 11 → said % 256 ≡ 0 → Bears n (numberOr n said)
-unfolding numberOr
-bears zero said h b = record { byte-0 = b; others = λ p. absurd (omega arith) }
-bears (suc n) said h b = record { byte-0 = omega arith; others = λ p. digits-alone (suc n) h }
-
-kept : (n : ℕ) (old new : List ℕ) → 0 < n → oldOr n old new ≡ old
-unfolding oldOr
-kept zero old new h = absurd (omega arith)
-kept (suc n) old new h = refl
+bears : (n said : ℕ) → n ≤ 11 → said % 256 ≡ 0 → Bears n (refusedOr (λ m. m) n said)
+bears n said h b =
+    of-answer _ _ (Bears n) n
+    (λ z. record { byte-0 = b ∙ sym z; others = λ p. absurd (omega arith) })
+    (λ p. record { byte-0 = omega arith; others = λ q. digits-alone n h })
 
 -- Each refusal returns its number alone and leaves all lent bytes untouched.
 pub refused-leaves : (rows : List Fault) (said : ℕ) (old new : List ℕ) → firstOf rows ≤ 11 → said % 256 ≡ 0 →
     Bears (firstOf rows) (answerOf rows said) × (0 < firstOf rows → afterOf rows old new ≡ old)
 unfolding answerOf afterOf
-refused-leaves rows said old new h b = (bears (firstOf rows) said h b, kept (firstOf rows) old new)
+refused-leaves rows said old new h b = (bears (firstOf rows) said h b, refused-by _ _ _)

@@ -1,6 +1,6 @@
 -- What a host may rely on of the calls on a station: which number is answered and when, that a refusal leaves all, and what the answer's bytes say where the
 -- call was carried out. Assumes nothing.
-use Prim.Native.Nat.{ℕ, zero, suc, _%_, _<_}
+use Prim.Native.Nat.{ℕ, _%_}
 use mathlib.Core.Bool.{true, true≢false}
 use mathlib.Core.List.{List, [], _∷_, _++_}
 use mathlib.Core.Logic.{inl, inr}
@@ -8,34 +8,29 @@ use mathlib.Core.Path.{_≡_, refl, sym, ap, _∙_}
 use native.Mathlib.Omega.{arith}
 use borrow.Author.Tests.{not-false}
 use Rattle.decide.specs.Test.{test}
-use Rattle.decide.specs.Refusal.{Fault, firstOf}
-use Rattle.decide.proofs.Refusal.{RefusedExactly, refused-exactly, free-carried}
+use Rattle.decide.specs.Refusal.{Fault, firstOf, RefusedExactly}
+use Rattle.decide.proofs.Refusal.{refused-exactly, free-carried}
+use Rattle.decide.proofs.Refused.{carried-by}
 use Rattle.wire.specs.Wire.{digits}
-use Rattle.settings.specs.declared.Settings.{Settings}
 use Rattle.queue.specs.declared.Frame.{Frame}
-use Rattle.flow.specs.declared.Flow.{Flow}
+use Rattle.flow.specs.declared.Client.{Client}
 use Rattle.flow.specs.declared.Line.{Line}
-use Rattle.flow.specs.declared.Way.{Way}
-use Rattle.flow.specs.Offer.{markOf, clientFrame, clientBy}
+use Rattle.flow.specs.Offer.{markOf}
 use Rattle.flow.proofs.Offer.{mark-most}
 use Rattle.station.specs.Range.{stationOk}
 use Rattle.station.specs.Answers.{chosenOf}
-use Rattle.station.specs.Offers.{wayFor}
+use Rattle.station.specs.Offers.{wayFor, staging}
 use Rattle.station.proofs.Range.{in-range-facts}
 use Rattle.layout.specs.Layout.{stationAt}
 use Rattle.answer.specs.Bytes.{packed, markBytes, selectedBytes}
 use Rattle.answer.proofs.Bytes.{packed-bytes}
-use Rattle.rpr.specs.Shape.{numberOr, answerOf, afterOf}
+use Rattle.rpr.specs.Shape.{answerOf, afterOf, Leaves, Carried, Bears}
 use Rattle.rpr.specs.Station.{startRows, startAnswer, startAfter, tickRows, tickAnswer, tickAfter, ageRows, ageAnswer, ageAfter}
 use Rattle.rpr.specs.Station.{offerClientRows, offerClientAnswer, offerClientAfter, offerRows, offerAnswer, offerAfter}
 use Rattle.rpr.specs.Station.{selectRows, selectAnswer, selectAfter, readFrameRows, readFrameAnswer, readFrameAfter}
 use Rattle.rpr.specs.Station.{writeFrameRows, writeFrameAnswer, writeFrameAfter, showRows, showAnswer, showAfter}
-use Rattle.rpr.proofs.Shape.{numbered, first-most, free, Bears, refused-leaves}
+use Rattle.rpr.proofs.Shape.{numbered, first-most, free, refused-leaves}
 use Rattle.rpr.proofs.Chosen.{chosen-small}
-
--- byte 0 of the answer is the number of the row that counts, alone where it is not 0; and then the lent bytes are as they were
-abbrev pub Leaves : List Fault → ℕ → List ℕ → List ℕ → Type 0
-Leaves rows answer old after = Bears (firstOf rows) answer × (0 < firstOf rows → after ≡ old)
 
 leaves : (rows : List Fault) (said : ℕ) (old new : List ℕ) → numbered rows ≡ true → said % 256 ≡ 0 → Leaves rows (answerOf rows said) old (afterOf rows old new)
 leaves rows said old new h b = refused-leaves rows said old new (first-most rows h) b
@@ -130,26 +125,16 @@ module _ (xs : List ℕ) where
 
 -- ---- what the bytes of an answer say, where the call was carried out
 
--- byte 0 of the answer is 0
-abbrev pub Carried : ℕ → Type 0
-Carried answer = answer % 256 ≡ 0
-
 -- then no row counts, and the answer is what the call said
-carried-said : (rows : List Fault) (answer said : ℕ) → Bears (firstOf rows) answer → answer ≡ answerOf rows said → Carried answer → (firstOf rows ≡ 0) × (answer ≡ said)
-unfolding numberOr answerOf
+pub carried-said : (rows : List Fault) (answer said : ℕ) → Bears (firstOf rows) answer → answer ≡ answerOf rows said → Carried answer → (firstOf rows ≡ 0) × (answer ≡ said)
+unfolding answerOf
 carried-said rows answer said b e z =
     let none : firstOf rows ≡ 0 = sym (b .byte-0) ∙ z in
-    (none, e ∙ ap (λ n. numberOr n said) none)
+    (none, e ∙ carried-by _ _ _ none)
 
 -- rows without their first, which does not apply
 without : (f : Fault) (fs : List Fault) → numbered (f ∷ fs) ≡ true → firstOf (f ∷ fs) ≡ 0 → firstOf fs ≡ 0
 without f fs h e = free-carried fs (λ g m a. true≢false (sym a ∙ free (f ∷ fs) h e g (inr m)))
-
--- a frame that was taken lies in the stage with the mark of the way that it went
-taken-mark : (n : ℕ) (s : Settings) (f : Flow) (w : Way) (x : Frame) → n ≡ 0 → clientBy n s f w x .mark ≡ x .mark
-unfolding clientBy
-taken-mark zero s f w x e = refl
-taken-mark (suc n) s f w x e = absurd (omega arith)
 
 module _ (xs : List ℕ) where
   -- rpr_select: byte 1 is where the frame comes from, 2 its class, 3 its hops, 4 its mark, 5 is 0, 6 and 7 are its size
@@ -163,13 +148,21 @@ module _ (xs : List ℕ) where
       ap (λ (n : ℕ). digits 8 n) (c .1) ∙ packed-bytes (selectedBytes _ _) (chosen-small (in-range-facts (stationAt xs) ok))
 
   -- rpr_offer_client: byte 4 is the mark, which excess B and C get
-  pub offer-client-bytes : (class size hops : ℕ) → Carried (offerClientAnswer xs class size hops)
-      → digits 8 (offerClientAnswer xs class size hops) ≡ 0 ∷ 0 ∷ 0 ∷ 0 ∷ markOf (wayFor (stationAt xs) class) ∷ 0 ∷ 0 ∷ 0 ∷ []
-  unfolding offerClientAnswer
-  offer-client-bytes class size hops z =
-      let st = stationAt xs in
-      let w = wayFor st class in
-      let c = carried-said (offerClientRows xs class size hops) (offerClientAnswer xs class size hops) _ (offer-client-leaves xs class size hops .0) refl z in
-      let own = without _ _ refl (without _ _ refl (without _ _ refl (c .0))) in
-      ap (λ (n : ℕ). digits 8 n) (c .1 ∙ ap (λ (m : ℕ). packed (markBytes m)) (taken-mark _ (st .settings) (st .flow) w (clientFrame w class size hops) own))
-      ∙ packed-bytes (markBytes (markOf w)) (omega (arith, mark-most w))
+  module _ (class size hops : ℕ) (z : Carried (offerClientAnswer xs class size hops)) where
+    client-said : (firstOf (offerClientRows xs class size hops) ≡ 0)
+        × (offerClientAnswer xs class size hops ≡ packed (markBytes (staging (stationAt xs) class size hops .mark)))
+    unfolding offerClientAnswer
+    client-said = carried-said (offerClientRows xs class size hops) (offerClientAnswer xs class size hops) _ (offer-client-leaves xs class size hops .0) refl z
+
+    pub client-mark : staging (stationAt xs) class size hops .mark ≡ markOf (wayFor (stationAt xs) class)
+    client-mark =
+        let st = stationAt xs in
+        let w = wayFor st class in
+        let own = without _ _ refl (without _ _ refl (without _ _ refl (client-said .0))) in
+        ap (λ (r : Client). r .mark) (carried-by _ _ _ own)
+
+    pub offer-client-bytes : digits 8 (offerClientAnswer xs class size hops) ≡ 0 ∷ 0 ∷ 0 ∷ 0 ∷ markOf (wayFor (stationAt xs) class) ∷ 0 ∷ 0 ∷ 0 ∷ []
+    offer-client-bytes =
+        let w = wayFor (stationAt xs) class in
+        ap (λ (n : ℕ). digits 8 n) (client-said .1 ∙ ap (λ (m : ℕ). packed (markBytes m)) client-mark)
+        ∙ packed-bytes (markBytes (markOf w)) (omega (arith, mark-most w))

@@ -1,7 +1,7 @@
 -- One call: where the bytes that it is lent are a station's, it answers what the station said and leaves the bytes of the station that the call left, and a
 -- start leaves a fresh station or is refused; else it answers 2 and leaves the bytes as they were. Assumes nothing.
-use Prim.Native.Nat.{ℕ, zero, suc, _+_, _%_, _<_}
-use mathlib.Core.Bool.{true, false}
+use Prim.Native.Nat.{ℕ, _+_, _%_, _<_}
+use mathlib.Core.Bool.{false}
 use mathlib.Core.List.{List, [], _∷_}
 use mathlib.Core.Logic.{_⊎_, inl, inr}
 use mathlib.Core.Path.{_≡_, refl, sym, ap, subst, _∙_}
@@ -9,8 +9,9 @@ use native.Mathlib.Omega.{arith}
 use borrow.Author.Tests.{not-false}
 use lib.ListN.{length}
 use Rattle.decide.specs.Test.{test, split, _≡?_}
-use Rattle.decide.specs.Refusal.{firstOf}
+use Rattle.decide.specs.Refusal.{firstOf, refusedOr}
 use Rattle.decide.proofs.Cases.{by-cases, true-or-false}
+use Rattle.decide.proofs.Refused.{of-answer}
 use Rattle.wire.specs.Wire.{digits, Bytes}
 use Rattle.settings.specs.Range.{settingsOk, SettingsOk}
 use Rattle.settings.specs.Words.{settingsAt, settingsLength}
@@ -24,16 +25,17 @@ use Rattle.station.specs.Calls.{freshOf, tickOf, selectOf, ageOf}
 use Rattle.station.specs.Offers.{offerClientOf, offerTransitOf, offerControlOf}
 use Rattle.station.specs.Hear.{hearOf, tellOf}
 use Rattle.station.specs.Show.{showOf}
-use Rattle.station.specs.History.{Call, Answer, step, after}
+use Rattle.station.specs.History.{Call, step, after}
 use Rattle.station.proofs.Range.{fresh-ok}
 use Rattle.station.proofs.Kept.{range-kept}
 use Rattle.station.proofs.Refused.{refused-leaves, never-1}
 use Rattle.layout.specs.Layout.{stationLength, stationAt, stationBytes, StationFits}
+use Rattle.advert.specs.Frame.{advertLength}
 use Rattle.layout.specs.Reading.{readingLength}
 use Rattle.layout.proofs.Round.{station-length, fits-slotted, station-bytes, station-fits, state-of-bytes, bytes-of-state}
 use Rattle.layout.proofs.Kept.{fits-kept, fresh-fits}
 use Rattle.answer.specs.Bytes.{packed, markBytes, selectedBytes}
-use Rattle.rpr.specs.Shape.{numberOr, answerOf, oldOr, afterOf}
+use Rattle.rpr.specs.Shape.{answerOf, afterOf}
 use Rattle.rpr.specs.Station.{startRows, startAnswer, startAfter, tickAnswer, tickAfter, ageAnswer, ageAfter}
 use Rattle.rpr.specs.Station.{offerClientAnswer, offerClientAfter, offerTransitAnswer, offerTransitAfter, offerControlAnswer, offerControlAfter}
 use Rattle.rpr.specs.Station.{selectAnswer, selectAfter, readFrameAnswer, readFrameAfter, writeFrameAnswer, showAnswer}
@@ -41,6 +43,7 @@ use Rattle.rpr.specs.Lent.{LentCall, start, tick, offerClient, offerTran
 use Rattle.rpr.specs.Lent.{answerTo, leftBy, callsOf, StartsWith, NewStart}
 use Rattle.rpr.proofs.Shape.{number-alone, free}
 use Rattle.rpr.proofs.Given.{not-whole, then-not-whole, whole-gives, then-whole-gives, done-back, taken-back, chosen-back, told-back, shown-back, start-refused, start-done}
+use Rattle.rpr.specs.Says.{Keeps, saidOf, answerGiven, bytesLeft, RoomFits, CallSays, StartSays, LentSays}
 
 -- ---- lent other bytes
 
@@ -63,10 +66,6 @@ lent-short xs h (show room) = (not-whole _ xs _ _ [] [] h .0, refl)
 
 -- ---- lent a station's bytes
 
--- What the answer's bytes say of a call that was carried out: byte 4 the mark of a client's frame; where the selected frame came from, and that frame.
-abbrev pub saidOf : Answer → ℕ
-saidOf r = packed (markBytes (r .mark)) + packed (selectedBytes (r .origin) (r .frame))
-
 mark-said : (m : ℕ) → packed (markBytes m) + packed (selectedBytes 0 (frameOf 0)) ≡ packed (markBytes m)
 unfolding digits
 mark-said m = omega arith
@@ -74,50 +73,22 @@ mark-said m = omega arith
 frame-said : (origin : ℕ) (x : Frame) → packed (markBytes 0) + packed (selectedBytes origin x) ≡ packed (selectedBytes origin x)
 frame-said origin x = omega arith
 
-alone-1 : (n said : ℕ) → said % 256 ≡ 0 → numberOr n said ≡ 1 → n ≡ 1
-unfolding numberOr
-alone-1 zero said z e = absurd (omega arith)
-alone-1 (suc n) said z e = e
-
--- A call's answer: the number of a refusal, or what was said. A refusal leaves the station's bytes; else they are those of the station that the call left.
-abbrev pub answered : Call → Station → ℕ
-answered call st = numberOr (step call st .answer .number) (saidOf (step call st .answer))
-
-abbrev pub written : Call → List ℕ → Station → List ℕ
-written call xs st = oldOr (step call st .answer .number) xs (stationBytes (step call st .station))
-
--- That, or 2 for a room of another length.
-pub record CallSays (c : LentCall) (xs : List ℕ) (st : Station) : Type 0 where
-  pub call : Call
-  pub is : callsOf c ≡ call ∷ []
-  pub answers : (2 ≡ answerTo c xs) ⊎ (answered call st ≡ answerTo c xs)
-  pub leaves : written call xs st ≡ leftBy c xs
-
--- A start with settings of another length is 2, and with settings outside their range 1: then the bytes are as they were. Else they are a fresh station's.
-pub record StartSays (settings xs : List ℕ) : Type 0 where
-  pub other-length : (length settings ≡ settingsLength → ⊥) → (2 ≡ startAnswer settings xs) × (xs ≡ startAfter settings xs)
-  pub out-of-range : length settings ≡ settingsLength → test (settingsOk (settingsAt settings 0)) ≡ false → (1 ≡ startAnswer settings xs) × (xs ≡ startAfter settings xs)
-  pub fresh : length settings ≡ settingsLength → test (settingsOk (settingsAt settings 0)) ≡ true
-      → (0 ≡ startAnswer settings xs) × (stationBytes (freshOf (settingsAt settings 0)) ≡ startAfter settings xs)
-
-abbrev pub Says : LentCall → List ℕ → Station → Type 0
-Says c xs st = ((settings : List ℕ) × StartsWith settings c × StartSays settings xs) ⊎ CallSays c xs st
+alone-1 : (n said : ℕ) → said % 256 ≡ 0 → refusedOr (λ m. m) n said ≡ 1 → n ≡ 1
+alone-1 n said low = of-answer _ _ (λ (a : ℕ). a ≡ 1 → n ≡ 1) n (λ z e. absurd (omega arith)) (λ h e. e)
 
 module _ {c : LentCall} {xs : List ℕ} {st : Station} (call : Call) (is : callsOf c ≡ call ∷ []) where
-  called : (2 ≡ answerTo c xs) ⊎ (answered call st ≡ answerTo c xs) → written call xs st ≡ leftBy c xs → Says c xs st
-  called a l = inr (record { call = call; is = is; answers = a; leaves = l })
+  called : (RoomFits c → answerGiven call st ≡ answerTo c xs) → ((RoomFits c → ⊥) → 2 ≡ answerTo c xs) → bytesLeft call xs st ≡ leftBy c xs → LentSays c xs st
+  called a o l = inr (record { call = call; is = is; answers = a; other-room = o; leaves = l })
 
-  roomless : (answered call st ≡ answerTo c xs) × (written call xs st ≡ leftBy c xs) → Says c xs st
-  roomless g = called (inr (g .0)) (g .1)
+  roomless : RoomFits c → (answerGiven call st ≡ answerTo c xs) × (bytesLeft call xs st ≡ leftBy c xs) → LentSays c xs st
+  roomless fits g = called (λ h. g .0) (λ n. absurd (n fits)) (g .1)
 
 module _ (xs : List ℕ) (bytes : Bytes xs) (e : length xs ≡ stationLength) where
   -- a station that is told or shown is left as it is
-  same : (n : ℕ) → oldOr n xs (stationBytes (stationAt xs)) ≡ xs
-  unfolding oldOr
-  same zero = bytes-of-state xs bytes e
-  same (suc n) = refl
+  same : (n : ℕ) → refusedOr (λ m. xs) n (stationBytes (stationAt xs)) ≡ xs
+  same n = of-answer _ _ (λ (ys : List ℕ). ys ≡ xs) n (λ z. bytes-of-state xs bytes e) (λ h. refl)
 
-  pub lent-says : (c : LentCall) → Says c xs (stationAt xs)
+  pub lent-says : (c : LentCall) → LentSays c xs (stationAt xs)
   unfolding digits startAnswer startAfter tickAnswer tickAfter offerClientAnswer offerClientAfter offerTransitAnswer offerTransitAfter offerControlAnswer offerControlAfter selectAnswer selectAfter ageAnswer ageAfter readFrameAnswer readFrameAfter writeFrameAnswer showAnswer
   lent-says (start settings b) =
       inl (
@@ -129,39 +100,43 @@ module _ (xs : List ℕ) (bytes : Bytes xs) (e : length xs ≡ stationLength) wh
           fresh = λ h o. start-done settings xs h e (settingsAt settings 0) o;
         },
       )
-  lent-says (tick a b c) = roomless _ refl (whole-gives _ xs _ e _ _ _ (done-back xs _ _ _ (tickOf (stationAt xs) a b c) refl (refl, refl)))
+  lent-says (tick a b c) = roomless _ refl tt (whole-gives _ xs _ e _ _ _ (done-back xs _ _ _ (tickOf (stationAt xs) a b c) refl (refl, refl)))
   lent-says (offerClient class size hops) =
       let d = offerClientOf (stationAt xs) class size hops in
-      roomless _ refl (rw (mark-said (d .mark)) (whole-gives _ xs _ e _ _ _ (taken-back xs _ _ _ d refl (refl, refl))))
+      roomless _ refl tt (rw (mark-said (d .mark)) (whole-gives _ xs _ e _ _ _ (taken-back xs _ _ _ _ d refl (refl, refl))))
   lent-says (offerTransit class size hops eligible) =
-      roomless _ refl (whole-gives _ xs _ e _ _ _ (done-back xs _ _ _ (offerTransitOf (stationAt xs) class size hops eligible) refl (refl, refl)))
-  lent-says (offerControl size) = roomless _ refl (whole-gives _ xs _ e _ _ _ (done-back xs _ _ _ (offerControlOf (stationAt xs) size) refl (refl, refl)))
+      roomless _ refl tt (whole-gives _ xs _ e _ _ _ (done-back xs _ _ _ (offerTransitOf (stationAt xs) class size hops eligible) refl (refl, refl)))
+  lent-says (offerControl size) = roomless _ refl tt (whole-gives _ xs _ e _ _ _ (done-back xs _ _ _ (offerControlOf (stationAt xs) size) refl (refl, refl)))
   lent-says select =
       let d = selectOf (stationAt xs) in
-      roomless _ refl (rw (frame-said (d .origin) (d .frame)) (whole-gives _ xs _ e _ _ _ (chosen-back xs _ _ d refl (refl, refl))))
-  lent-says age = roomless _ refl (whole-gives _ xs _ e _ _ _ (done-back xs _ _ _ (ageOf (stationAt xs)) refl (refl, refl)))
-  lent-says (readFrame frame b) = roomless _ refl (whole-gives _ xs _ e _ _ _ (done-back xs _ _ _ (hearOf (stationAt xs) frame) refl (refl, refl)))
+      roomless _ refl tt (rw (frame-said (d .origin) (d .frame)) (whole-gives _ xs _ e _ _ _ (chosen-back xs _ _ d refl (refl, refl))))
+  lent-says age = roomless _ refl tt (whole-gives _ xs _ e _ _ _ (done-back xs _ _ _ (ageOf (stationAt xs)) refl (refl, refl)))
+  lent-says (readFrame frame b) = roomless _ refl tt (whole-gives _ xs _ e _ _ _ (done-back xs _ _ _ (hearOf (stationAt xs) frame) refl (refl, refl)))
   lent-says (writeFrame room) =
       called _ refl
-      (by-cases (split (length room ≡? 12))
-      (λ h. inr (then-whole-gives _ room _ h 0 room _ _ xs e (told-back room _ _ (tellOf (stationAt xs)) refl (refl, refl)) .0))
-      (λ h. inl (then-not-whole _ room _ 0 room [] _ xs e h .0)))
+      (λ h. then-whole-gives _ room _ h 0 room _ _ xs e (told-back room _ _ (tellOf (stationAt xs)) refl (refl, refl)) .0)
+      (λ h. then-not-whole _ room _ 0 room [] _ xs e h .0)
       (same _)
   lent-says (show room) =
       called _ refl
-      (by-cases (split (length room ≡? readingLength))
-      (λ h. inr (then-whole-gives _ room _ h 0 room _ _ xs e (shown-back room _ _ (showOf (stationAt xs)) refl (refl, refl)) .0))
-      (λ h. inl (then-not-whole _ room _ 0 room [] _ xs e h .0)))
+      (λ h. then-whole-gives _ room _ h 0 room _ _ xs e (shown-back room _ _ (showOf (stationAt xs)) refl (refl, refl)) .0)
+      (λ h. then-not-whole _ room _ 0 room [] _ xs e h .0)
       (same _)
 
--- ---- a station that is kept in bytes
+-- a room has its length or not
+fits-or-not : (c : LentCall) → RoomFits c ⊎ (RoomFits c → ⊥)
+fits-or-not (start settings b) = inl tt
+fits-or-not (tick a b c) = inl tt
+fits-or-not (offerClient class size hops) = inl tt
+fits-or-not (offerTransit class size hops eligible) = inl tt
+fits-or-not (offerControl size) = inl tt
+fits-or-not select = inl tt
+fits-or-not age = inl tt
+fits-or-not (readFrame frame b) = inl tt
+fits-or-not (writeFrame room) = split (length room ≡? advertLength)
+fits-or-not (show room) = split (length room ≡? readingLength)
 
--- the bytes hold this station, which is in range
-pub record Keeps (xs : List ℕ) (st : Station) : Type 0 where
-  pub bytes : Bytes xs
-  pub whole : length xs ≡ stationLength
-  pub holds : stationAt xs ≡ st
-  pub in-range : StationOk st
+-- ---- a station that is kept in bytes
 
 written-keeps : (st : Station) → StationOk st → StationFits st → Keeps (stationBytes st) st
 written-keeps st ok f =
@@ -179,7 +154,7 @@ module _ (settings xs : List ℕ) (bytes : Bytes settings) (z : startAnswer sett
       in-range-facts s (not-false (test (settingsOk s)) (free (startRows settings xs) refl none-counts _ (inr (inr (inl refl)))))
 
   pub start-keeps : Keeps (startAfter settings xs) (freshOf (settingsAt settings 0))
-  unfolding startAfter oldOr afterOf
+  unfolding startAfter refusedOr afterOf
   start-keeps = rw none-counts (written-keeps _ (fresh-ok start-in-range) (fresh-fits start-in-range (settings-fit settings 0 bytes)))
 
 start-never-1 : {xs : List ℕ} (settings : List ℕ) → StartSays settings xs → startAnswer settings xs ≡ 1 → test (settingsOk (settingsAt settings 0)) ≡ false
@@ -197,8 +172,8 @@ pub record Left (c : LentCall) (xs : List ℕ) (st : Station) : Type 0 where
   pub follows : (NewStart c xs → ⊥) → next ≡ after st (callsOf c)
 
 module _ {xs : List ℕ} {st : Station} (k : Keeps xs st) where
-  says : (c : LentCall) → Says c xs st
-  says c = subst (Says c xs) (k .holds) (lent-says xs (k .bytes) (k .whole) c)
+  says : (c : LentCall) → LentSays c xs st
+  says c = subst (LentSays c xs) (k .holds) (lent-says xs (k .bytes) (k .whole) c)
 
   -- a start that is refused leaves the station
   turned-away : (settings : List ℕ) (b : Bytes settings) → xs ≡ startAfter settings xs → Left (start settings b) xs st
@@ -214,10 +189,8 @@ module _ {xs : List ℕ} {st : Station} (k : Keeps xs st) where
       (λ o. turned-away settings b (s .out-of-range h o .1)))
       (λ h. turned-away settings b (s .other-length h .1))
 
-  left-keeps : (n : ℕ) (next : Station) → StationOk next → StationFits next → (0 < n → next ≡ st) → Keeps (oldOr n xs (stationBytes next)) next
-  unfolding oldOr
-  left-keeps zero next ok f h = written-keeps next ok f
-  left-keeps (suc n) next ok f h = subst (Keeps xs) (sym (h (omega arith))) k
+  left-keeps : (n : ℕ) (next : Station) → StationOk next → StationFits next → (0 < n → next ≡ st) → Keeps (refusedOr (λ m. xs) n (stationBytes next)) next
+  left-keeps n next ok f h = of-answer _ _ (λ (ys : List ℕ). Keeps ys next) n (λ z. written-keeps next ok f) (λ p. subst (Keeps xs) (sym (h p)) k)
 
   pub keeps-fits : StationFits st
   keeps-fits = subst StationFits (k .holds) (station-fits xs (k .bytes))
@@ -250,6 +223,6 @@ module _ {xs : List ℕ} {st : Station} (k : Keeps xs st) where
   call-never-1 c e =
       by-cases (says c)
       (λ s. (s .0, s .1, start-never-1 (s .0) (s .2) (ap (λ (d : LentCall). answerTo d xs) (sym (s .1 .1)) ∙ e)))
-      (λ s. absurd (by-cases (s .answers)
-      (λ h. omega arith)
-      (λ h. never-1 (k .in-range) (s .call) (alone-1 _ (saidOf (step (s .call) st .answer)) (omega arith) (h ∙ e)))))
+      (λ s. absurd (by-cases (fits-or-not c)
+      (λ fits. never-1 (k .in-range) (s .call) (alone-1 _ (saidOf (step (s .call) st .answer)) (omega arith) (s .answers fits ∙ e)))
+      (λ n. let two = s .other-room n in omega arith)))

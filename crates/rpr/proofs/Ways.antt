@@ -5,8 +5,8 @@ use mathlib.Core.Bool.{Bool}
 use mathlib.Core.List.{[], _∷_}
 use mathlib.Core.Path.{_≡_, refl, ap, _∙_}
 use native.Mathlib.Omega.{arith}
-use Rattle.decide.specs.Refusal.{firstOf}
-use Rattle.decide.proofs.Refusal.{RefusedExactly, refused-exactly}
+use Rattle.decide.specs.Refusal.{firstOf, RefusedExactly}
+use Rattle.decide.proofs.Refusal.{refused-exactly}
 use Rattle.wire.specs.Wire.{digits}
 use Rattle.ring.specs.declared.Choice.{Choice}
 use Rattle.ring.specs.Choosing.{chooseFaults, chooseOf, choiceNumber}
@@ -18,7 +18,8 @@ use Rattle.wrap.proofs.Answers as Paths
 use Rattle.answer.specs.Bytes.{bitOf, chosenBytes, movedBytes}
 use Rattle.answer.proofs.Bytes.{packed-bytes, bit-most}
 use Rattle.rpr.specs.Ways.{choiceAnswer, chooseAnswer, movedAnswer, pathAnswer}
-use Rattle.rpr.proofs.Shape.{first-most, Bears, digits-alone}
+use Rattle.rpr.specs.Shape.{Bears}
+use Rattle.rpr.proofs.Shape.{first-most, digits-alone}
 
 -- ---- rpr_choose
 

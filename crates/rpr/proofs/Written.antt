@@ -1,14 +1,14 @@
 -- What a call writes of a lent station is all that it changes of it: the bytes afterwards are those of the station that it leaves.
 -- Assumes nothing.
-use Prim.Native.Nat.{ℕ, zero, suc, _≤_}
+use Prim.Native.Nat.{ℕ, _≤_}
 use mathlib.Core.Bool.{Bool}
 use mathlib.Core.List.{List, _∷_}
 use mathlib.Core.Logic.{inl, inr}
 use mathlib.Core.Path.{_≡_, refl, sym, ap, _∙_}
-use native.Mathlib.Omega.{arith}
 use borrow.Author.Tests.{eq-eqb, ne-eqb, ltb-false}
 use lib.ListN.{length, length-set}
-use Rattle.decide.specs.Refusal.{Fault, firstOf}
+use Rattle.decide.specs.Refusal.{Fault, firstOf, refusedOr}
+use Rattle.decide.proofs.Refused.{of-answer, unrefused}
 use Rattle.wire.specs.Wire.{digits, put, Bytes}
 use Rattle.queue.specs.declared.Frame.{Frame}
 use Rattle.queue.specs.declared.Queue.{Queue}
@@ -19,10 +19,9 @@ use Rattle.flow.specs.declared.Credits.{Credits}
 use Rattle.flow.specs.declared.Flow.{Flow}
 use Rattle.flow.specs.declared.Line.{Line}
 use Rattle.flow.specs.declared.Line.the-variants.{Control, Primary, Secondary}
-use Rattle.flow.specs.declared.Way.{Way}
 use Rattle.flow.specs.Parts.{queueOf, capacityOf, withCredits, withStage, withQueue}
 use Rattle.flow.specs.Tick.{tickOf}
-use Rattle.flow.specs.Offer.{enterOf, queueFor, clientBy}
+use Rattle.flow.specs.Offer.{enterOf, queueFor}
 use Rattle.flow.proofs.Offer.{enter-taken}
 use Rattle.flow.proofs.Select.{Goes, control, primary, pressed, staged, secondary, nothing, goes}
 use Rattle.fair.specs.declared.Fair.{Fair}
@@ -32,39 +31,38 @@ use Rattle.station.specs.declared.Station.{Station}
 use Rattle.station.specs.declared.Done.{Done}
 use Rattle.station.specs.declared.Client.{Client}
 use Rattle.station.specs.declared.Selected.{Selected}
-use Rattle.station.specs.Answers.{withFlow, withFair, doneBy, chosenOf}
+use Rattle.station.specs.Answers.{withFlow, withFair, refusedOf, doneOf, chosenOf}
 use Rattle.station.specs.Calls.{tickedOf}
-use Rattle.station.specs.Offers.{offerFaults, takenBy}
+use Rattle.station.specs.Offers.{offerFaults, staging, turnedOf}
 use Rattle.slots.specs.Slots.{wordsBytes, queueBytes, queueAt}
 use Rattle.layout.specs.Layout.{stationLength, creditsWords, fourWords, fairWords, stationAt, stationBytes, placeOf, pushedAt, takenAt, takenFrom}
 use Rattle.layout.proofs.Round.{Slotted, fits-slotted, station-fits, bytes-of-state}
 use Rattle.layout.proofs.Anew.{credits-put, queue-put, stage-put, fair-put, counters-put, queue-slotted}
 use Rattle.answer.specs.Bytes.{packed, markBytes}
-use Rattle.rpr.specs.Shape.{numberOr, answerOf, oldOr, otherLength}
-use Rattle.rpr.proofs.Shape.{carried, turned-down}
-use Rattle.rpr.proofs.Given.{Gives, HandedBack, whole-gives, done-back}
+use Rattle.rpr.specs.Shape.{otherLength}
+use Rattle.rpr.proofs.Shape.{free, turned-down, taken-on}
+use Rattle.rpr.proofs.Given.{Gives, HandedBack, whole-gives, takenAs, done-back}
 
 -- ---- a call that is carried out: its rows give 0, and the station that it answers is the one that it leaves
 
-never : (n : ℕ) → suc n ≡ 0 → ⊥
-never n e = omega arith
-
 module _ (old : List ℕ) where
-  done-left : (n : ℕ) (st next : Station) (d : Done) → d ≡ doneBy n st next → d .number ≡ 0
+  done-left : (n : ℕ) (st next : Station) (d : Done) → d ≡ refusedOr (refusedOf st) n (doneOf next) → d .number ≡ 0
       → (left : Station → List ℕ) → (n ≡ 0 → left next ≡ stationBytes next) → HandedBack n 0 old (stationBytes next) 0 (left (d .station))
-  unfolding numberOr oldOr doneBy
-  done-left zero st next d h z left e = rw h (refl, e refl)
-  done-left (suc n) st next d h z left e = absurd (never n (rw h at z))
+  done-left n st next d h z left e =
+      let u = unrefused (λ (r : Done). r .number) _ _ (λ m. refl) n d h z in
+      let on = taken-on n 0 old (stationBytes next) (u .0) in
+      rw (u .1) (on .0, e (u .0) ∙ on .1)
 
-  pub taken-left : (n : ℕ) (st : Station) (c : flow.Client) (d : Client) → d ≡ takenBy n st c → d .number ≡ 0
-      → (left : Flow → List ℕ) → left (c .flow) ≡ stationBytes (withFlow st (c .flow))
-      → HandedBack n (packed (markBytes (c .mark))) old (stationBytes (withFlow st (c .flow))) (packed (markBytes (d .mark))) (left (d .station .flow))
-  unfolding numberOr oldOr takenBy
-  taken-left zero st c d h z left e = rw h (refl, e)
-  taken-left (suc n) st c d h z left e = absurd (never n (rw h at z))
+  pub taken-left : (n : ℕ) (st : Station) (mark : ℕ) (f : Flow) (d : Client) → d ≡ refusedOr (turnedOf st) n (takenAs st mark f) → d .number ≡ 0
+      → (left : Flow → List ℕ) → left f ≡ stationBytes (withFlow st f)
+      → HandedBack n (packed (markBytes mark)) old (stationBytes (withFlow st f)) (packed (markBytes (d .mark))) (left (d .station .flow))
+  taken-left n st mark f d h z left e =
+      let u = unrefused (λ (r : Client). r .number) _ _ (λ m. refl) n d h z in
+      let on = taken-on n (packed (markBytes mark)) old (stationBytes (withFlow st f)) (u .0) in
+      rw (u .1) (on .0, e ∙ on .1)
 
 -- what the station answered by a number and the station that it leaves
-module _ (xs : List ℕ) (faults : List Fault) (e : length xs ≡ stationLength) (next : Station) (d : Done) (h : d ≡ doneBy (firstOf faults) (stationAt xs) next) where
+module _ (xs : List ℕ) (faults : List Fault) (e : length xs ≡ stationLength) (next : Station) (d : Done) (h : d ≡ refusedOr (refusedOf (stationAt xs)) (firstOf faults) (doneOf next)) where
   -- a refusal is its number alone, and leaves the bytes
   pub done-refused : (d .number ≡ 0 → ⊥) → Gives (otherLength stationLength xs ∷ faults) 0 xs (stationBytes next) (d .number) xs
   done-refused t = whole-gives _ xs faults e _ _ _ (done-back xs _ _ next d h (turned-down _ _ _ _ t))
@@ -116,10 +114,8 @@ module _ (ys : List ℕ) (st : Station) (s : Slotted st) (y : ys ≡ stationByte
 -- a queue that was offered a frame has taken it where no row applies
 entered : (st : Station) (l : Line) (x : Frame) → firstOf (offerFaults st l x) ≡ 0
     → enterOf (st .settings) (st .flow) l x .flow ≡ withQueue (st .flow) l (pushed (queueOf (st .flow) l) x)
-unfolding numberOr answerOf
 entered st l x z =
-    let free = carried (offerFaults st l x) refl (rw z) _ (inr (inr (inl refl))) in
-    let fits : x .size ≤ spaceOf (queueOf (st .flow) l) (capacityOf (st .settings) l) = ltb-false _ _ free in
+    let fits : x .size ≤ spaceOf (queueOf (st .flow) l) (capacityOf (st .settings) l) = ltb-false _ _ (free (offerFaults st l x) refl z _ (inr (inr (inl refl)))) in
     rw (enter-taken (st .settings) (st .flow) l x fits)
 
 -- Transit A goes to the primary queue, B and C to the secondary.
@@ -151,12 +147,12 @@ module _ (xs : List ℕ) (b : Bytes xs) (e : length xs ≡ stationLength) where
       ∙ credits-put (stationAt xs) slotted (tickedOf (stationAt xs) x y z .flow .credits)
 
   -- a client's frame changes the credits and the stage
-  pub client-written : (n : ℕ) (w : Way) (x : Frame) →
-      let f : Flow = clientBy n (stationAt xs .settings) (stationAt xs .flow) w x .flow in
+  pub client-written : (class size hops : ℕ) →
+      let f : Flow = staging (stationAt xs) class size hops .flow in
       stageIn (creditsIn xs f) f ≡ stationBytes (withFlow (stationAt xs) f)
-  unfolding clientBy
-  client-written zero w x = two-written xs (stationAt xs) slotted whole _ _
-  client-written (suc n) w x = two-written xs (stationAt xs) slotted whole _ _
+  client-written class size hops =
+      of-answer _ _ (λ (r : flow.Client). stageIn (creditsIn xs (r .flow)) (r .flow) ≡ stationBytes (withFlow (stationAt xs) (r .flow))) _
+      (λ z. two-written xs (stationAt xs) slotted whole _ _) (λ z. two-written xs (stationAt xs) slotted whole _ _)
 
   -- a queue stands at its place, and has 128 slots
   queue-here : (l : Line) → queueAt xs (placeOf l) ≡ queueOf (stationAt xs .flow) l

@@ -1,12 +1,15 @@
 -- What each call answers, and what it leaves in the slice that is lent for writing.
 -- Assumes nothing.
-use Prim.Native.Nat.{ℕ, _+_}
-use mathlib.Core.Bool.{not}
-use mathlib.Core.List.{List, [], _∷_}
+use Prim.Native.Nat.{ℕ, _+_, _<_}
+use mathlib.Core.Bool.{true, not}
+use mathlib.Core.List.{List, [], _∷_, _++_}
+use mathlib.Core.Path.{_≡_}
 use lib.Dec.{eqb}
 use Rattle.decide.specs.Refusal.{Fault, rankOf}
+use Rattle.wire.specs.Wire.{digits}
 use Rattle.summary.specs.declared.Outcome.{Outcome}
 use Rattle.summary.specs.Summary.{joined}
+use Rattle.summary.specs.Range.{inRange}
 use Rattle.summary.specs.Answer.{joinFaults, settleFaults, settled, answerNumber}
 use Rattle.account.specs.Account.{summarizeOf}
 use Rattle.sheet.specs.Sheet.{sheetLength, sheetOf, summaryAt, handed}
@@ -47,6 +50,11 @@ joinAnswer first second room = answerOf (joinRows first second room) 0
 unfoldable pub joinAfter : List ℕ → List ℕ → List ℕ → List ℕ
 joinAfter first second room = afterOf (joinRows first second room) room (sheetOf (joined (summaryAt first) (summaryAt second)))
 
+-- where a join was carried out: the room holds the joined summary, which is in range
+pub record Joined (first second room : List ℕ) : Type 0 where
+  pub in-range : inRange (joined (summaryAt first) (summaryAt second)) ≡ true
+  pub holds : summaryAt (joinAfter first second room) ≡ joined (summaryAt first) (summaryAt second)
+
 -- ---- rpr_settle
 
 -- 2 for a slice that is no summary's; then 3 of the summary and the starting credit.
@@ -61,3 +69,8 @@ outcomeAnswer (Outcome.Refused n) = n
 
 unfoldable pub settleAnswer : List ℕ → ℕ → ℕ
 settleAnswer xs start = answerOf (settleRows xs start) (outcomeAnswer (settled 0 (summaryAt xs) start))
+
+-- byte 1 is 1 where permitted throughout, and bytes 4 to 7 hold the credit at the end, which fits them
+pub record EndsAt (answer end : ℕ) : Type 0 where
+  pub bytes : digits 8 answer ≡ (0 ∷ 1 ∷ 0 ∷ 0 ∷ []) ++ digits 4 end
+  pub fits : end < 4294967296

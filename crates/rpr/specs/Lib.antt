@@ -3,3 +3,7 @@ pub mod Calls
 pub mod Ways
 pub mod Station
 pub mod Lent
+pub mod Says
+pub mod Told
+pub mod Pieces
+pub mod Reading

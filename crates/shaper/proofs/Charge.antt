@@ -1,32 +1,32 @@
 -- A charge, row by row.
 -- Assumes nothing.
-use Prim.Native.Nat.{ℕ, zero, suc}
+use Prim.Native.Nat.{ℕ, _<_}
 use mathlib.Core.Bool.{true, false}
-use mathlib.Core.Path.{_≡_, refl, ap, _∙_}
-use Rattle.decide.specs.Refusal.{firstOf}
-use Rattle.decide.proofs.Refusal.{in-order, RefusedExactly, refused-exactly}
+use mathlib.Core.Path.{_≡_, refl}
+use Rattle.decide.specs.Refusal.{refusedOr, RefusedExactly}
+use Rattle.decide.proofs.Refusal.{in-order, refused-exactly}
+use Rattle.decide.proofs.Refused.{number-by, leaves-by}
 use Rattle.shaper.specs.declared.Shaper.{Shaper}
 use Rattle.shaper.specs.declared.Charged.{Charged}
 use Rattle.shaper.specs.declared.Event.the-variants.{Send}
 use Rattle.shaper.specs.Credit.{permits, next}
-use Rattle.shaper.specs.Shaper.{chargeFaults, chargedOf, chargeOf}
+use Rattle.shaper.specs.Shaper.{chargeFaults, notChargedOf, chargeOf}
 
 module _ (s : Shaper) (z : ℕ) where
   -- where credit > loLimit the size is taken off
   pub permitted : permits (s .credit) (s .limits .lo) ≡ true → chargeOf s z ≡ record { number = 0; detail = 0; shaper = record { limits = s .limits; credit = next (s .limits) (s .credit) (Send z) } }
-  unfolding chargedOf
+  unfolding refusedOr
   permitted e = rw (in-order (chargeFaults s) refl, e)
 
   -- elsewhere the answer is 6 and the shaper is as it was
-  pub turned-down : permits (s .credit) (s .limits .lo) ≡ false → chargeOf s z ≡ record { number = 6; detail = 0; shaper = s }
-  unfolding chargedOf
+  pub turned-down : permits (s .credit) (s .limits .lo) ≡ false → chargeOf s z ≡ notChargedOf s 6
+  unfolding refusedOr
   turned-down e = rw (in-order (chargeFaults s) refl, e)
 
-charged-number : (n : ℕ) (s : Shaper) (z : ℕ) → chargedOf n s z .number ≡ n
-unfolding chargedOf
-charged-number zero s z = refl
-charged-number (suc n) s z = refl
+  -- 6 is given exactly when the shaper doesn't permit
+  pub charge-refused-exactly : RefusedExactly (chargeOf s z .number) (chargeFaults s)
+  charge-refused-exactly = refused-exactly (chargeFaults s) refl _ (number-by (λ (r : Charged). r .number) _ _ (λ m. refl) refl _)
 
--- 6 is given exactly when the shaper doesn't permit
-pub charge-refused-exactly : (s : Shaper) (z : ℕ) → RefusedExactly (chargeOf s z .number) (chargeFaults s)
-charge-refused-exactly s z = refused-exactly (chargeFaults s) refl _ (charged-number (firstOf (chargeFaults s)) s z)
+  -- and a refusal leaves the shaper as it was
+  pub charge-leaves : 0 < chargeOf s z .number → chargeOf s z .shaper ≡ s
+  charge-leaves = leaves-by (λ (r : Charged). r .number) _ _ (λ m. refl) refl (λ (r : Charged). r .shaper) (λ m. refl) _

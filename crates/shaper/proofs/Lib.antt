@@ -1,3 +1,4 @@
 pub mod Credit
 pub mod Charge
 pub mod Kind
+pub mod Ranges

@@ -4,14 +4,23 @@ use Prim.Native.Nat.{ℕ, _+_, _-_, _≤_, _<_, min}
 use mathlib.Core.Bool.{Bool, true, false}
 use mathlib.Core.List.{List, [], _∷_}
 use lib.Dec.{ltb}
+use Rattle.decide.specs.Test.{Test, _≤?_}
+use Rattle.decide.specs.Size.{sizeOk}
 use Rattle.shaper.specs.declared.Limits.{Limits}
 use Rattle.shaper.specs.declared.Event.{Event}
 use Rattle.shaper.specs.declared.Event.the-variants.{Waiting, Idle, Send}
+use Rattle.shaper.specs.Limits.{mostAmount}
 
 -- Amount per tick 0 to 65,535; frame size 16 to mtu.
+abbrev pub eventOk : Limits → Event → Test
+eventOk l (Waiting x) = x ≤? mostAmount
+eventOk l (Idle x) = x ≤? mostAmount
+eventOk l (Send z) = sizeOk z (l .mtu)
+
+-- the same as facts (`valid-exactly`, proofs/Ranges.antt)
 abbrev pub Valid : Limits → Event → Type 0
-Valid l (Waiting x) = x ≤ 65535
-Valid l (Idle x) = x ≤ 65535
+Valid l (Waiting x) = x ≤ mostAmount
+Valid l (Idle x) = x ≤ mostAmount
 Valid l (Send z) = (16 ≤ z) × (z ≤ l .mtu)
 
 abbrev pub AllValid : Limits → List Event → Type 0

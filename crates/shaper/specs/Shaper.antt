@@ -1,9 +1,9 @@
 -- A shaper by value: what its calls answer.
 -- Assumes nothing.
-use Prim.Native.Nat.{ℕ, zero, suc}
+use Prim.Native.Nat.{ℕ}
 use mathlib.Core.Bool.{Bool, not}
 use mathlib.Core.List.{List, [], _∷_}
-use Rattle.decide.specs.Refusal.{Fault, fault, firstOf}
+use Rattle.decide.specs.Refusal.{Fault, fault, firstOf, refusedOr}
 use Rattle.shaper.specs.declared.Limits.{Limits}
 use Rattle.shaper.specs.declared.Shaper.{Shaper}
 use Rattle.shaper.specs.declared.Charged.{Charged}
@@ -21,10 +21,12 @@ tickedOf s waits x = record { limits = s .limits; credit = next (s .limits) (s .
 abbrev pub chargeFaults : Shaper → List Fault
 chargeFaults s = fault 6 (not (permits (s .credit) (s .limits .lo))) ∷ []
 
--- A send is permitted exactly when credit > loLimit, then the size is taken off.
-unfoldable pub chargedOf : ℕ → Shaper → ℕ → Charged
-chargedOf zero s z = record { number = 0; detail = 0; shaper = record { limits = s .limits; credit = next (s .limits) (s .credit) (Send z) } }
-chargedOf (suc n) s z = record { number = suc n; detail = 0; shaper = s }
+-- a refusal changes nothing
+abbrev pub notChargedOf : Shaper → ℕ → Charged
+notChargedOf s n = record { number = n; detail = 0; shaper = s }
 
+-- A send is permitted exactly when credit > loLimit, then the size is taken off.
 abbrev pub chargeOf : Shaper → ℕ → Charged
-chargeOf s z = chargedOf (firstOf (chargeFaults s)) s z
+chargeOf s z =
+    refusedOr (notChargedOf s) (firstOf (chargeFaults s))
+    (record { number = 0; detail = 0; shaper = record { limits = s .limits; credit = next (s .limits) (s .credit) (Send z) } })

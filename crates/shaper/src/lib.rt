@@ -20,13 +20,25 @@ pub enum Event {
     Send(u32),
 }
 
+impl Event {
+    // The most events of a record and of a summary.
+    pub const MAX_EVENTS: u32 = 1000000;
+
+    // The largest amount of a tick.
+    pub const MAX_AMOUNT: u32 = 65535;
+
+    // The smallest size of a send; the largest is the mtu.
+    pub const MIN_SIZE: u16 = 16;
+}
+
 // A shaper by value.
 pub struct Shaper {
     pub limits: Limits,
     pub credit: u32,
 }
 
-// What a charge answers: 0, or 6 where the shaper does not permit, and the shaper afterwards.
+// What a charge answers: 0, or 6 where the shaper does not permit, and the shaper afterwards. `detail` is what a refusal says beside its number: 0, as none
+// says more.
 pub struct Charged {
     pub number: u8,
     pub detail: u32,

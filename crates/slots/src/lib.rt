@@ -24,7 +24,7 @@ pub fn read(s: &[u8], at: usize) -> Queue
     }
 }
 
-// The front of that queue. Of its slots only the first frame's is read.
+// The front of that queue: the word in its first frame's slot, how many frames it holds, and their bytes. The body reads the whole queue, and uses no more of it.
 pub fn front(s: &[u8], at: usize) -> Front
     requires { ⌜ at + queueLength ≤ length (now s) ⌝ }
     ensures { λ r. ⌜ r ≡ frontOf (queueAt (now (s .entry)) at) ⌝ }

@@ -2,7 +2,7 @@
 use Prim.Native.Nat.{ℕ}
 use mathlib.Core.List.{List, [], _∷_, _++_}
 use mathlib.Core.Path.{_≡_, refl}
-use Rattle.decide.specs.Refusal.{first, firstOf}
+use Rattle.decide.specs.Refusal.{first, firstOf, refusedOr}
 use Rattle.decide.specs.Test.{test}
 use Rattle.wire.specs.Wire.{be}
 use Rattle.rates.specs.Rates.{partOf, smoothedOf, shownOf, agedOf, rampedOf, allowanceOf, ownRateOf, countedOf, shareOf}
@@ -16,7 +16,7 @@ use Rattle.shaper.specs.declared.Event.the-variants.{Waiting, Send}
 use Rattle.flow.specs.declared.Which.the-variants.{C, D}
 use Rattle.flow.specs.Range.{flowOk}
 use Rattle.flow.specs.Tick as flow
-use Rattle.flow.specs.Offer.{enteredOf, queueFor, wayOf, clientBy}
+use Rattle.flow.specs.Offer.{queueFor, wayOf}
 use Rattle.flow.specs.Select as selection
 use Rattle.fair.specs.Range.{fairOk}
 use Rattle.fair.specs.Count.{raisedOf}
@@ -24,10 +24,8 @@ use Rattle.fair.specs.Age.{adjustOf, allowedOf, allowedcOf}
 use Rattle.fair.specs.Advertise.{heardOf, toldOf}
 use Rattle.station.specs.declared.Station.{Station}
 use Rattle.station.specs.Range.{stationOk}
-use Rattle.station.specs.Answers.{doneBy, chosenBy}
 use Rattle.station.specs.Calls.{freshOf}
-use Rattle.station.specs.Offers.{takenBy}
-use Rattle.station.specs.Hear.{hearOf, toldBy, tellOf}
+use Rattle.station.specs.Hear.{hearOf, tellOf}
 use Rattle.station.specs.History.{Call, tick, offerClient, offerTransit, select, age, step, after, recordOf}
 
 -- mtu 64; each shaper loLimit 100, hiLimit 300, amount 50; 10 ticks per interval, unreservedRate 1,999, default coefficients
@@ -83,7 +81,7 @@ pub record Examples : Type 0 where
   pub told-193 : tellOf (choked 193) .advert ≡ record { ringlet = 1; ttl = 255; high = 1; low = 2; rate = 65535 }
 
 pub examples : Examples
-unfolding test stationOk settingsOk flowOk fairOk queueOk slotsOk slotOk occupied framesFrom sizes firstOf first doneBy takenBy chosenBy toldBy flow.startOf flow.tickOf enteredOf queueFor wayOf clientBy selection.selectOf emptyQueue spaceOf queue.firstOf queue.pushed queue.taken ownRateOf shareOf countedOf raisedOf be heardOf toldOf adjustOf allowedOf allowedcOf partOf smoothedOf shownOf agedOf rampedOf allowanceOf
+unfolding test stationOk settingsOk flowOk fairOk queueOk slotsOk slotOk occupied framesFrom sizes firstOf first refusedOr flow.startOf flow.tickOf queueFor wayOf selection.selectOf emptyQueue spaceOf queue.firstFrame queue.pushed queue.taken ownRateOf shareOf countedOf raisedOf be heardOf toldOf adjustOf allowedOf allowedcOf partOf smoothedOf shownOf agedOf rampedOf allowanceOf
 examples =
     record {
       sent-credits = refl;

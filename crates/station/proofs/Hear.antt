@@ -7,6 +7,7 @@ use mathlib.Core.Path.{_≡_, refl}
 use native.Mathlib.Omega.{arith}
 use borrow.Author.Tests.{eq-eqb, ne-eqb}
 use Rattle.decide.specs.Test.{test}
+use Rattle.decide.specs.Refusal.{refusedOr}
 use Rattle.decide.proofs.Cases.{by-cases, true-or-false}
 use Rattle.decide.proofs.Refusal.{in-order}
 use Rattle.queue.specs.Frame.{frameOf}
@@ -18,9 +19,9 @@ use Rattle.fair.specs.Range.{ttlOk}
 use Rattle.fair.specs.Advertise.{ownRinglet, ownAddress, toldOf}
 use Rattle.station.specs.declared.Station.{Station}
 use Rattle.station.specs.Range.{stationOk}
-use Rattle.station.specs.Answers.{refusedOf, doneOf, doneBy}
-use Rattle.station.specs.Hear.{listenFaults, changedOf, listenOf, hearFaults, hearOf, tellFaults, notToldOf, toldBy, tellOf}
-use Rattle.station.specs.Show.{heldOn, readingOf, showFaults, blankOf, shownBy, showOf}
+use Rattle.station.specs.Answers.{refusedOf, doneOf}
+use Rattle.station.specs.Hear.{listenFaults, changedOf, listenOf, hearFaults, hearOf, tellFaults, notToldOf, tellOf}
+use Rattle.station.specs.Show.{heldOn, readingOf, showFaults, notShownOf, showOf}
 
 -- ---- what a parse found
 
@@ -44,7 +45,7 @@ module _ (xs : List ℕ) where
 module _ (st : Station) (xs : List ℕ) where
   -- 2 where the bytes are not a whole frame
   pub hear-not-whole : test (whole xs) ≡ false → hearOf st xs ≡ refusedOf st 2
-  unfolding doneBy
+  unfolding refusedOr
   hear-not-whole e = rw (in-order (hearFaults st xs) refl, e)
 
   -- else what the frame says decides
@@ -54,48 +55,48 @@ module _ (st : Station) (xs : List ℕ) where
 module _ (st : Station) (a : Advert) where
   -- 2 where it bears the ringlet bit of the station
   pub listen-own : test (ownRinglet (st .settings) a) ≡ true → listenOf st a ≡ refusedOf st 2
-  unfolding doneBy
+  unfolding refusedOr
   listen-own r = rw (in-order (listenFaults st a) refl, r)
 
   module _ (r : test (ownRinglet (st .settings) a) ≡ false) where
     -- else 1 where the station is out of range
     pub listen-lost : test (stationOk st) ≡ false → listenOf st a ≡ refusedOf st 1
-    unfolding doneBy
+    unfolding refusedOr
     listen-lost e = rw (in-order (listenFaults st a) refl, r, e)
 
     module _ (e : test (stationOk st) ≡ true) where
       -- else 3 where the frame's ttl is not 193 to 255
       pub listen-far : test (ttlOk (a .ttl)) ≡ false → listenOf st a ≡ refusedOf st 3
-      unfolding doneBy
+      unfolding refusedOr
       listen-far t = rw (in-order (listenFaults st a) refl, r, e, t)
 
       -- else 11 where it bears the station's own address
       pub listen-self : test (ttlOk (a .ttl)) ≡ true → test (ownAddress (st .settings) a) ≡ true → listenOf st a ≡ refusedOf st 11
-      unfolding doneBy
+      unfolding refusedOr
       listen-self t o = rw (in-order (listenFaults st a) refl, r, e, t, o)
 
       -- else it is heard
       pub listen-done : test (ttlOk (a .ttl)) ≡ true → test (ownAddress (st .settings) a) ≡ false → listenOf st a ≡ doneOf (changedOf st a)
-      unfolding doneBy
+      unfolding refusedOr
       listen-done t o = rw (in-order (listenFaults st a) refl, r, e, t, o)
 
 -- ---- tell and show
 
 module _ (st : Station) where
   pub tell-lost : test (stationOk st) ≡ false → tellOf st ≡ notToldOf 1
-  unfolding toldBy
+  unfolding refusedOr
   tell-lost e = rw (in-order (tellFaults st) refl, e)
 
   pub tell-done : test (stationOk st) ≡ true → tellOf st ≡ record { number = 0; detail = 0; advert = toldOf (st .fair) (st .settings) }
-  unfolding toldBy
+  unfolding refusedOr
   tell-done e = rw (in-order (tellFaults st) refl, e)
 
-  pub show-lost : test (stationOk st) ≡ false → showOf st ≡ record { number = 1; detail = 0; reading = blankOf }
-  unfolding shownBy
+  pub show-lost : test (stationOk st) ≡ false → showOf st ≡ notShownOf 1
+  unfolding refusedOr
   show-lost e = rw (in-order (showFaults st) refl, e)
 
   pub show-done : test (stationOk st) ≡ true → showOf st ≡ record { number = 0; detail = 0; reading = readingOf st }
-  unfolding shownBy
+  unfolding refusedOr
   show-done e = rw (in-order (showFaults st) refl, e)
 
 -- an empty stage, and one with a frame

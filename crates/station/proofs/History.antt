@@ -5,8 +5,7 @@ use mathlib.Core.Bool.{Bool, cond}
 use mathlib.Core.List.{List, [], _∷_}
 use mathlib.Core.Path.{_≡_, refl, ap, subst, _∙_}
 use lib.Dec.{eqb}
-use Rattle.shaper.specs.declared.Event.{Event}
-use Rattle.shaper.specs.Credit.{endCredit, Permitted, AllValid}
+use Rattle.shaper.specs.Credit.{endCredit, Permitted}
 use Rattle.shaper.specs.Credit as shaper
 use Rattle.settings.specs.declared.Settings.{Settings}
 use Rattle.settings.specs.Range.{SettingsOk}
@@ -15,7 +14,7 @@ use Rattle.flow.specs.declared.Flow.{Flow}
 use Rattle.flow.specs.declared.Line.the-variants.{Control}
 use Rattle.flow.specs.declared.Which.{Which}
 use Rattle.flow.specs.declared.Which.the-variants.{M, A, B, C, D}
-use Rattle.flow.specs.Which.{bucketOf, creditOf, limitsFor}
+use Rattle.flow.specs.Which.{creditOf, limitsFor}
 use Rattle.flow.specs.Parts.{withCredits}
 use Rattle.flow.specs.Tick.{waits, amountOf}
 use Rattle.flow.specs.Offer.{queueFor, controlFrame}
@@ -30,7 +29,7 @@ use Rattle.station.specs.Range.{StationOk}
 use Rattle.station.specs.Answers.{withFlow}
 use Rattle.station.specs.Calls.{freshOf, shareFor}
 use Rattle.station.specs.Offers.{givenFrame, overFor}
-use Rattle.station.specs.History.{Call, tick, offerClient, offerTransit, offerControl, select, age, hear, tell, show, Answer, Step, ofDone, ofClient, ofSelected, step, trace, after, recordOf}
+use Rattle.station.specs.History.{Call, tick, offerClient, offerTransit, offerControl, select, age, hear, tell, show, Answer, Stepped, ofDone, ofClient, ofSelected, step, trace, after, recordOf, Recorded}
 use Rattle.station.proofs.Range.{fresh-ok}
 use Rattle.station.proofs.Refused.{never-1}
 use Rattle.station.proofs.Kept.{tick-cases, offer-cases, client-cases, select-case, age-case, hear-cases, range-kept}
@@ -62,7 +61,7 @@ trace-creditless w show r st k = refl
 
 module _ {st : Station} (ok : StationOk st) where
   -- what a call made of the station feeds each shaper what the call was to it, and leaves the settings
-  pub record Goes (c : Call) (r : Step) : Type 0 where
+  pub record Goes (c : Call) (r : Stepped) : Type 0 where
     pub feeds : Feeds (st .settings) (st .flow) (r .station .flow) (λ (w : Which). trace w c (r .answer) st)
     pub settings : r .station .settings ≡ st .settings
 
@@ -116,12 +115,6 @@ calls-feed {st} ok (c ∷ cs) =
     let next = step c st .station in
     feeds-then (step-goes ok c .feeds)
     (subst (λ (s : Settings). Feeds s (next .flow) (after next cs .flow) (λ (w : Which). recordOf w next cs)) (step-goes ok c .settings) (calls-feed (range-kept ok c) cs))
-
--- one shaper's record: from loLimit it ends at this credit, every send was permitted at its place, and each event is one of a record
-pub record Recorded (s : Settings) (w : Which) (credit : ℕ) (events : List Event) : Type 0 where
-  pub ends : credit ≡ endCredit (limitsFor s w) (bucketOf s w .lo) events
-  pub permitted : Permitted (limitsFor s w) (bucketOf s w .lo) events
-  pub valid : AllValid (limitsFor s w) events
 
 -- Over any calls from a fresh station, each lent what the one before left and none a new start, a shaper's credit equals that of its record: one event per
 -- tick, one send per charge; and every send was permitted.

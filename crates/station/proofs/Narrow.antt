@@ -1,28 +1,32 @@
 -- The low words of addresses stay numbers of 32 bits: a fresh station has received none, a frame has four bytes for them, and no other call touches them.
 -- So the frame that a station tells is read back at any place of a history.
 -- Assumes nothing.
-use Prim.Native.Nat.{ℕ, zero, suc, _<_}
+use Prim.Native.Nat.{ℕ, _<_}
 use mathlib.Core.Bool.{false}
 use mathlib.Core.List.{List, [], _∷_}
 use mathlib.Core.Path.{_≡_, sym, subst}
 use native.Mathlib.Omega.{arith}
 use Rattle.decide.specs.Test.{test, _≡?_}
+use Rattle.decide.specs.Refusal.{refusedOr}
 use Rattle.decide.proofs.Cases.{of-each}
+use Rattle.decide.proofs.Refused.{of-answer}
 use Rattle.wire.specs.Wire.{Bytes}
 use Rattle.advert.specs.Frame.{advertBytes, advertIn}
 use Rattle.advert.proofs.ReadBack.{parsed-fits}
 use Rattle.settings.specs.declared.Settings.{Settings}
 use Rattle.settings.specs.Range.{SettingsOk}
-use Rattle.flow.specs.declared.Client as flow
 use Rattle.fair.specs.declared.Fair.{Fair}
 use Rattle.fair.specs.Advertise.{heardOf, ownAddress}
-use Rattle.fair.proofs.ReadBack.{ReadBack, frame-read-back}
+use Rattle.fair.specs.ReadBack.{ReadBack}
+use Rattle.fair.proofs.ReadBack.{frame-read-back}
 use Rattle.station.specs.declared.Station.{Station}
+use Rattle.station.specs.declared.Done.{Done}
+use Rattle.station.specs.declared.Client.{Client}
+use Rattle.station.specs.declared.Selected.{Selected}
 use Rattle.station.specs.Range.{StationOk}
 use Rattle.station.specs.Narrow.{NarrowOwn, Narrow}
-use Rattle.station.specs.Answers.{doneOf, doneBy, chosenBy}
+use Rattle.station.specs.Answers.{refusedOf, doneOf}
 use Rattle.station.specs.Calls.{freshOf}
-use Rattle.station.specs.Offers.{takenBy}
 use Rattle.station.specs.Hear.{changedOf, hearOf, tellOf}
 use Rattle.station.specs.History.{Call, tick, offerClient, offerTransit, offerControl, select, age, hear, tell, show, step, after}
 use Rattle.station.proofs.History.{reached-in-range, after-settings}
@@ -31,20 +35,8 @@ use Rattle.station.proofs.ReadBack.{told-heard}
 
 -- ---- a call leaves the station, or what it makes of it
 
-done-narrow : (n : ℕ) {st next : Station} → Narrow st → Narrow next → Narrow (doneBy n st next .station)
-unfolding doneBy
-done-narrow zero old new = new
-done-narrow (suc n) old new = old
-
-taken-narrow : (n : ℕ) {st : Station} (r : flow.Client) → Narrow st → Narrow (takenBy n st r .station)
-unfolding takenBy
-taken-narrow zero r old = record { own-low = old .own-low; low = old .low }
-taken-narrow (suc n) r old = old
-
-chosen-narrow : (n : ℕ) {st : Station} → Narrow st → Narrow (chosenBy n st .station)
-unfolding chosenBy
-chosen-narrow zero old = record { own-low = old .own-low; low = old .low }
-chosen-narrow (suc n) old = old
+done-narrow : {st next : Station} → Narrow st → Narrow next → (n : ℕ) → Narrow (refusedOr (refusedOf st) n (doneOf next) .station)
+done-narrow old new n = of-answer _ _ (λ (r : Done). Narrow (r .station)) n (λ e. new) (λ e. old)
 
 -- what a frame's bytes say of an address has four of them for the low word
 heard-narrow : {st : Station} (xs : List ℕ) → Bytes xs → Narrow st → Narrow (changedOf st (advertIn xs))
@@ -61,13 +53,14 @@ heard-narrow {st} xs bytes old =
 -- ---- every call keeps it
 
 pub narrow-kept : {st : Station} → Narrow st → (c : Call) → Narrow (step c st .station)
-narrow-kept old (tick a b c) = done-narrow _ old (record { own-low = old .own-low; low = old .low })
-narrow-kept old (offerClient class size hops) = taken-narrow _ _ old
-narrow-kept old (offerTransit class size hops eligible) = done-narrow _ old (record { own-low = old .own-low; low = old .low })
-narrow-kept old (offerControl size) = done-narrow _ old (record { own-low = old .own-low; low = old .low })
-narrow-kept old select = chosen-narrow _ old
-narrow-kept old age = done-narrow _ old (record { own-low = old .own-low; low = old .low })
-narrow-kept old (hear xs bytes) = done-narrow _ old (heard-narrow xs bytes old)
+narrow-kept old (tick a b c) = done-narrow old (record { own-low = old .own-low; low = old .low }) _
+narrow-kept old (offerClient class size hops) =
+    of-answer _ _ (λ (r : Client). Narrow (r .station)) _ (λ e. record { own-low = old .own-low; low = old .low }) (λ e. old)
+narrow-kept old (offerTransit class size hops eligible) = done-narrow old (record { own-low = old .own-low; low = old .low }) _
+narrow-kept old (offerControl size) = done-narrow old (record { own-low = old .own-low; low = old .low }) _
+narrow-kept old select = of-answer _ _ (λ (r : Selected). Narrow (r .station)) _ (λ e. record { own-low = old .own-low; low = old .low }) (λ e. old)
+narrow-kept old age = done-narrow old (record { own-low = old .own-low; low = old .low }) _
+narrow-kept old (hear xs bytes) = done-narrow old (heard-narrow xs bytes old) _
 narrow-kept old tell = old
 narrow-kept old show = old
 

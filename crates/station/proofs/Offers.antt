@@ -1,29 +1,33 @@
 -- The offers, row by row: rows stand in the order of their ranks, so 1 and 3 may be tried first, and the queue or the stage says the rest.
 -- Assumes nothing.
-use Prim.Native.Nat.{ℕ, zero, suc, _≤_, _<_}
+use Prim.Native.Nat.{ℕ, _≤_, _<_}
 use mathlib.Core.Bool.{Bool, true, false, _&&_}
 use mathlib.Core.List.{List}
 use mathlib.Core.Path.{_≡_, refl, sym, ap, _∙_}
 use native.Mathlib.Omega.{arith}
 use lib.Dec.{eqb}
 use Rattle.decide.specs.Test.{test, facts}
-use Rattle.decide.specs.Refusal.{Fault, firstOf}
+use Rattle.decide.specs.Refusal.{Fault, firstOf, refusedOr}
 use Rattle.decide.proofs.Refusal.{in-order}
+use Rattle.decide.proofs.Refused.{of-answer, carried-by, refused-by}
 use Rattle.queue.specs.declared.Frame.{Frame}
 use Rattle.queue.specs.Frame.{frameOk, FrameOk, wordOf}
 use Rattle.queue.specs.Queue.{pushed, spaceOf}
 use Rattle.decide.proofs.Tests.{same-test}
 use Rattle.queue.proofs.Word.{frame-facts}
+use Rattle.flow.specs.declared.Client as flow
+use Rattle.flow.specs.declared.Entered.{Entered}
 use Rattle.flow.specs.declared.Line.{Line}
-use Rattle.flow.specs.declared.Way.{Way}
 use Rattle.flow.specs.Which.{permitsAll, sends, fed}
 use Rattle.flow.specs.Parts.{queueOf, capacityOf, stageHolds, withCredits, withStage, withQueue}
-use Rattle.flow.specs.Offer.{Offered, enterFaults, enteredOf, enterOf, needsOf, markOf, clientFaults, clientFrame, clientBy}
+use Rattle.flow.specs.Offer.{Offered, enterFaults, enterOf, needsOf, markOf, clientFaults, clientFrame}
 use Rattle.flow.proofs.Offer.{enter-refused, enter-taken, client-full, client-barred, client-over, client-taken}
 use Rattle.station.specs.declared.Station.{Station}
+use Rattle.station.specs.declared.Done.{Done}
+use Rattle.station.specs.declared.Client.{Client}
 use Rattle.station.specs.Range.{stationOk, StationOk}
-use Rattle.station.specs.Answers.{withFlow, refusedOf, doneOf, doneBy}
-use Rattle.station.specs.Offers.{givenFrame, cutOf, cutFrame, offerFaults, broughtOf, offerOf, overFor, wayFor, offerClientFaults, stagedOf, staging, turnedOf, takenBy, offerClientOf}
+use Rattle.station.specs.Answers.{withFlow, refusedOf, doneOf}
+use Rattle.station.specs.Offers.{givenFrame, cutOf, cutFrame, offerFaults, broughtOf, offerOf, overFor, wayFor, offerClientFaults, stagedOf, staging, turnedOf, takenOf, offerClientOf}
 use Rattle.station.proofs.Range.{in-range-facts}
 
 -- ---- numbers that are cut
@@ -37,8 +41,8 @@ module _ (mtu : ℕ) (small : mtu ≤ 9216) (class size hops mark : ℕ) where
   cut-test : test (frameOk mtu (cutFrame class size hops mark)) ≡ test (frameOk mtu (givenFrame class size hops mark))
   cut-test =
       same-test (frameOk mtu (cutFrame class size hops mark)) (frameOk mtu (givenFrame class size hops mark))
-      (λ h. (omega arith, (omega arith, ((omega arith, omega arith), (omega arith, (omega arith, omega arith))))))
-      (λ h. (omega arith, (omega arith, ((omega arith, omega arith), (omega arith, (omega arith, omega arith))))))
+      (λ h. ((omega arith, omega arith), ((omega arith, omega arith), (omega arith, (omega arith, omega arith)))))
+      (λ h. ((omega arith, omega arith), ((omega arith, omega arith), (omega arith, (omega arith, omega arith)))))
 
   cut-is : FrameOk mtu (givenFrame class size hops mark) → cutFrame class size hops mark ≡ givenFrame class size hops mark
   cut-is ok =
@@ -69,32 +73,33 @@ module _ (st : Station) (e : test (stationOk st) ≡ true) (class size hops mark
 
 -- ---- into a queue
 
--- an answer by the queue's number is the queue's answer
-brought : (n : ℕ) (st : Station) (l : Line) (x : Frame) → doneBy n st (withFlow st (enteredOf n (st .flow) l x .flow)) ≡ broughtOf st (enteredOf n (st .flow) l x)
-unfolding doneBy enteredOf
-brought zero st l x = refl
-brought (suc n) st l x = refl
-
 module _ (st : Station) (l : Line) (x : Frame) where
   -- 1 where the station is out of range
   pub offer-lost : test (stationOk st) ≡ false → offerOf st l x ≡ refusedOf st 1
-  unfolding doneBy
+  unfolding refusedOr
   offer-lost e = rw (in-order (offerFaults st l x) refl, e)
 
   -- else 3 where the frame is
   pub offer-coded : test (stationOk st) ≡ true → test (frameOk (st .settings .mtu) x) ≡ false → offerOf st l x ≡ refusedOf st 3
-  unfolding doneBy
+  unfolding refusedOr
   offer-coded e f = rw (in-order (offerFaults st l x) refl, e, f)
 
   module _ (e : test (stationOk st) ≡ true) (f : test (frameOk (st .settings .mtu) x) ≡ true) where
     -- else what the queue says:
     pub offer-brought : offerOf st l x ≡ broughtOf st (enterOf (st .settings) (st .flow) l x)
     offer-brought =
-        ap (λ (n : ℕ). doneBy n st (withFlow st (enterOf (st .settings) (st .flow) l x .flow))) number
-        ∙ brought (firstOf (enterFaults (st .settings) (st .flow) l x)) st l x
+        ap (λ (n : ℕ). said n (enterOf (st .settings) (st .flow) l x)) number
+        ∙ of-answer _ _ (λ (r : Entered). said (firstOf rows) r ≡ broughtOf st r) _ (carried-by _ _ _) (refused-by _ _ _)
       where
-        number : firstOf (offerFaults st l x) ≡ firstOf (enterFaults (st .settings) (st .flow) l x)
-        number = rw (in-order (offerFaults st l x) refl, in-order (enterFaults (st .settings) (st .flow) l x) refl, e, f)
+        rows : List Fault
+        rows = enterFaults (st .settings) (st .flow) l x
+
+        -- the station's answer by a number, from the queue's answer
+        said : ℕ → Entered → Done
+        said n r = refusedOr (refusedOf st) n (doneOf (withFlow st (r .flow)))
+
+        number : firstOf (offerFaults st l x) ≡ firstOf rows
+        number = rw (in-order (offerFaults st l x) refl, in-order rows refl, e, f)
 
     -- 4 where the size exceeds its space,
     pub offer-full : spaceOf (queueOf (st .flow) l) (capacityOf (st .settings) l) < x .size → offerOf st l x ≡ refusedOf st 4
@@ -107,32 +112,30 @@ module _ (st : Station) (l : Line) (x : Frame) where
 
 -- ---- into the stage
 
--- an answer by the stage's number is the stage's answer
-staged : (n : ℕ) (st : Station) (w : Way) (x : Frame) → takenBy n st (clientBy n (st .settings) (st .flow) w x) ≡ stagedOf st (clientBy n (st .settings) (st .flow) w x)
-unfolding takenBy clientBy
-staged zero st w x = refl
-staged (suc n) st w x = refl
-
 module _ (st : Station) (class size hops : ℕ) where
   -- 1 where the station is out of range
   pub client-lost : test (stationOk st) ≡ false → offerClientOf st class size hops ≡ turnedOf st 1
-  unfolding takenBy
+  unfolding refusedOr
   client-lost e = rw (in-order (offerClientFaults st class size hops) refl, e)
 
   -- else 3 where the frame is
   pub client-coded : test (stationOk st) ≡ true → test (frameOk (st .settings .mtu) (givenFrame class size hops 0)) ≡ false → offerClientOf st class size hops ≡ turnedOf st 3
-  unfolding takenBy
+  unfolding refusedOr
   client-coded e f = rw (in-order (offerClientFaults st class size hops) refl, e, f)
 
   module _ (e : test (stationOk st) ≡ true) (f : test (frameOk (st .settings .mtu) (givenFrame class size hops 0)) ≡ true) where
     -- else what the stage says:
     pub client-staged : offerClientOf st class size hops ≡ stagedOf st (staging st class size hops)
     client-staged =
-        ap (λ (n : ℕ). takenBy n st (staging st class size hops)) number
-        ∙ staged (firstOf rows) st (wayFor st class) (clientFrame (wayFor st class) class size hops)
+        ap (λ (n : ℕ). said n (staging st class size hops)) number
+        ∙ of-answer _ _ (λ (r : flow.Client). said (firstOf rows) r ≡ stagedOf st r) _ (carried-by _ _ _) (refused-by _ _ _)
       where
         rows : List Fault
         rows = clientFaults (st .settings) (st .flow) (wayFor st class) (overFor st size hops)
+
+        -- the station's answer by a number, from the stage's answer
+        said : ℕ → flow.Client → Client
+        said n r = refusedOr (turnedOf st) n (takenOf st r)
 
         number : firstOf (offerClientFaults st class size hops) ≡ firstOf rows
         number = rw (in-order (offerClientFaults st class size hops) refl, in-order rows refl, e, f)

@@ -9,19 +9,15 @@ use Rattle.rates.specs.Rates.{shareOf}
 use Rattle.flow.specs.declared.Which.{Which}
 use Rattle.flow.specs.declared.Which.the-variants.{C}
 use Rattle.flow.specs.Which.{bucketOf, creditOf}
-use Rattle.flow.specs.Tick.{waits, amountOf}
+use Rattle.flow.specs.Tick.{waits}
 use Rattle.flow.specs.Tick as ticked
 use Rattle.flow.proofs.Tick as flow
 use Rattle.station.specs.declared.Station.{Station}
 use Rattle.station.specs.declared.Done.{Done}
 use Rattle.station.specs.Range.{StationOk}
-use Rattle.station.specs.Calls.{shareFor, flagsOk, tickOf}
+use Rattle.station.specs.Calls.{shareFor, flagsOk, tickOf, amountFor}
 use Rattle.station.proofs.Range.{facts-in-range}
 use Rattle.station.proofs.Calls.{tick-done}
-
--- what a shaper is given by a tick of this station
-abbrev pub amountFor : Station → Which → ℕ
-amountFor st w = amountOf (st .settings) (shareFor st) w
 
 -- C's amount is the smaller of its setting and floor(allowedRate / (ageCoef × ticks per interval)).
 pub c-amount : (st : Station)

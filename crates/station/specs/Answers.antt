@@ -1,6 +1,7 @@
--- What calls answer: a refusal gives its number alone and leaves the station untouched; else the number is 0 and the call is carried out.
+-- What calls answer: a refusal gives its number alone and leaves the station untouched; else the number is 0 and the call is carried out. Which of the
+-- two it is goes by the number of the call's rows, `refusedOr` of decide.
 -- Assumes nothing.
-use Prim.Native.Nat.{ℕ, zero, suc}
+use Prim.Native.Nat.{ℕ}
 use Rattle.queue.specs.Frame.{frameOf}
 use Rattle.flow.specs.declared.Flow.{Flow}
 use Rattle.flow.specs.declared.Selected as flow
@@ -25,13 +26,9 @@ withFair st f = record { settings = st .settings; flow = st .flow; fair = f }
 abbrev pub refusedOf : Station → ℕ → Done
 refusedOf st n = record { number = n; detail = 0; station = st }
 
+-- The call is carried out, and leaves this station.
 abbrev pub doneOf : Station → Done
 doneOf next = record { number = 0; detail = 0; station = next }
-
--- by the number of the rows: what the call leaves, or a refusal
-unfoldable pub doneBy : ℕ → Station → Station → Done
-doneBy zero st next = doneOf next
-doneBy (suc n) st next = refusedOf st (suc n)
 
 -- ---- what selection answers
 
@@ -54,7 +51,3 @@ chosenOf st = givenOf st (selectOf (st .settings) (st .flow))
 -- no frame
 abbrev pub notChosenOf : Station → ℕ → Selected
 notChosenOf st n = record { number = n; detail = 0; origin = 0; frame = frameOf 0; station = st }
-
-unfoldable pub chosenBy : ℕ → Station → Selected
-chosenBy zero st = chosenOf st
-chosenBy (suc n) st = notChosenOf st (suc n)

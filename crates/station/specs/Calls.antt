@@ -5,10 +5,12 @@ use mathlib.Core.Bool.{Bool, not}
 use mathlib.Core.List.{List, [], _∷_}
 use lib.Dec.{eqb}
 use Rattle.decide.specs.Test.{Test, test, _≤?_, _∧?_}
-use Rattle.decide.specs.Refusal.{Fault, fault, firstOf}
+use Rattle.decide.specs.Refusal.{Fault, fault, firstOf, refusedOr}
 use Rattle.settings.specs.declared.Settings.{Settings}
 use Rattle.settings.specs.Range.{settingsOk}
+use Rattle.flow.specs.declared.Which.{Which}
 use Rattle.flow.specs.Tick as flow
+use Rattle.flow.specs.Tick.{amountOf}
 use Rattle.rates.specs.Rates.{shareOf}
 use Rattle.fair.specs.Start as fair
 use Rattle.fair.specs.Age as interval
@@ -16,7 +18,7 @@ use Rattle.station.specs.declared.Station.{Station}
 use Rattle.station.specs.declared.Done.{Done}
 use Rattle.station.specs.declared.Selected.{Selected}
 use Rattle.station.specs.Range.{stationOk}
-use Rattle.station.specs.Answers.{withFlow, withFair, doneBy, chosenBy}
+use Rattle.station.specs.Answers.{withFlow, withFair, refusedOf, doneOf, chosenOf, notChosenOf}
 
 -- 1: a setting, or a lent station's state, is outside its range
 abbrev pub rangeFault : Station → Fault
@@ -33,7 +35,7 @@ startFaults s = fault 1 (not (test (settingsOk s))) ∷ []
 
 -- the station is fresh, whatever it was
 abbrev pub startOf : Station → Settings → Done
-startOf st s = doneBy (firstOf (startFaults s)) st (freshOf s)
+startOf st s = refusedOr (refusedOf st) (firstOf (startFaults s)) (doneOf (freshOf s))
 
 -- ---- tick
 
@@ -53,13 +55,17 @@ tickFaults st a b c = rangeFault st ∷ fault 3 (not (test (flagsOk a b c))) ∷
 abbrev pub shareFor : Station → ℕ
 shareFor st = shareOf (st .fair .allowed) (st .settings .fairness .age) (st .settings .fairness .ticks)
 
+-- what a shaper is given by a tick of this station
+abbrev pub amountFor : Station → Which → ℕ
+amountFor st w = amountOf (st .settings) (shareFor st) w
+
 -- the station after a tick: C's share is of allowedRate as it is lent
 abbrev pub tickedOf : Station → Bool → Bool → Bool → Station
 tickedOf st a b c = withFlow st (flow.tickOf (st .settings) (st .flow) (shareFor st) a b c)
 
 -- The host's tick says whether A, B, C traffic waits.
 abbrev pub tickOf : Station → ℕ → ℕ → ℕ → Done
-tickOf st a b c = doneBy (firstOf (tickFaults st a b c)) st (tickedOf st (eqb a 1) (eqb b 1) (eqb c 1))
+tickOf st a b c = refusedOr (refusedOf st) (firstOf (tickFaults st a b c)) (doneOf (tickedOf st (eqb a 1) (eqb b 1) (eqb c 1)))
 
 -- ---- select
 
@@ -68,7 +74,7 @@ selectFaults st = rangeFault st ∷ []
 
 -- The chosen frame leaves its queue, and is counted.
 abbrev pub selectOf : Station → Selected
-selectOf st = chosenBy (firstOf (selectFaults st)) st
+selectOf st = refusedOr (notChosenOf st) (firstOf (selectFaults st)) (chosenOf st)
 
 -- ---- age
 
@@ -80,4 +86,4 @@ abbrev pub agedOf : Station → Station
 agedOf st = withFair st (interval.ageOf (st .fair) (st .settings) (st .flow .secondary .held))
 
 abbrev pub ageOf : Station → Done
-ageOf st = doneBy (firstOf (ageFaults st)) st (agedOf st)
+ageOf st = refusedOr (refusedOf st) (firstOf (ageFaults st)) (doneOf (agedOf st))

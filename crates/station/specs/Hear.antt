@@ -1,17 +1,17 @@
 -- Fairness frames: what one that is heard can be refused for, in order, and changes; and what the station tells.
 -- Assumes nothing.
-use Prim.Native.Nat.{ℕ, zero, suc}
+use Prim.Native.Nat.{ℕ}
 use mathlib.Core.Bool.{not}
 use mathlib.Core.List.{List, [], _∷_}
 use Rattle.decide.specs.Test.{test}
-use Rattle.decide.specs.Refusal.{Fault, fault, firstOf}
+use Rattle.decide.specs.Refusal.{Fault, fault, firstOf, refusedOr}
 use Rattle.advert.specs.declared.Advert.{Advert}
 use Rattle.advert.specs.Frame.{whole, advertIn}
 use Rattle.fair.specs.Advertise.{ringletFault, ttlFault, addressFault, heardOf, toldOf}
 use Rattle.station.specs.declared.Station.{Station}
 use Rattle.station.specs.declared.Done.{Done}
 use Rattle.station.specs.declared.Told.{Told}
-use Rattle.station.specs.Answers.{withFair, doneBy}
+use Rattle.station.specs.Answers.{withFair, refusedOf, doneOf}
 use Rattle.station.specs.Calls.{rangeFault}
 
 -- ---- hear
@@ -26,14 +26,14 @@ abbrev pub changedOf : Station → Advert → Station
 changedOf st a = withFair st (heardOf (st .fair) a)
 
 abbrev pub listenOf : Station → Advert → Done
-listenOf st a = doneBy (firstOf (listenFaults st a)) st (changedOf st a)
+listenOf st a = refusedOr (refusedOf st) (firstOf (listenFaults st a)) (doneOf (changedOf st a))
 
 -- Another length, type, header kind .. : 2.
 abbrev pub hearFaults : Station → List ℕ → List Fault
 hearFaults st xs = fault 2 (not (test (whole xs))) ∷ listenFaults st (advertIn xs)
 
 abbrev pub hearOf : Station → List ℕ → Done
-hearOf st xs = doneBy (firstOf (hearFaults st xs)) st (changedOf st (advertIn xs))
+hearOf st xs = refusedOr (refusedOf st) (firstOf (hearFaults st xs)) (doneOf (changedOf st (advertIn xs)))
 
 -- ---- tell
 
@@ -44,10 +44,6 @@ tellFaults st = rangeFault st ∷ []
 abbrev pub notToldOf : ℕ → Told
 notToldOf n = record { number = n; detail = 0; advert = record { ringlet = 0; ttl = 0; high = 0; low = 0; rate = 0 } }
 
-unfoldable pub toldBy : ℕ → Advert → Told
-toldBy zero a = record { number = 0; detail = 0; advert = a }
-toldBy (suc n) a = notToldOf (suc n)
-
 -- the frame that the station advertises
 abbrev pub tellOf : Station → Told
-tellOf st = toldBy (firstOf (tellFaults st)) (toldOf (st .fair) (st .settings))
+tellOf st = refusedOr notToldOf (firstOf (tellFaults st)) (record { number = 0; detail = 0; advert = toldOf (st .fair) (st .settings) })

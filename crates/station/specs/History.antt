@@ -3,12 +3,16 @@
 use Prim.Native.Nat.{ℕ}
 use mathlib.Core.Bool.{cond}
 use mathlib.Core.List.{List, [], _∷_, _++_}
+use mathlib.Core.Path.{_≡_}
 use lib.Dec.{eqb}
 use Rattle.wire.specs.Wire.{Bytes}
 use Rattle.shaper.specs.declared.Event.{Event}
+use Rattle.shaper.specs.Credit.{endCredit, Permitted, AllValid}
+use Rattle.settings.specs.declared.Settings.{Settings}
 use Rattle.queue.specs.declared.Frame.{Frame}
 use Rattle.queue.specs.Frame.{frameOf}
 use Rattle.flow.specs.declared.Which.{Which}
+use Rattle.flow.specs.Which.{bucketOf, limitsFor}
 use Rattle.flow.specs.Tick.{tickEvents}
 use Rattle.flow.specs.Events.{clientEvents, selectEvents}
 use Rattle.station.specs.declared.Station.{Station}
@@ -40,24 +44,24 @@ pub record Answer : Type 0 where
   pub frame : Frame
 
 -- the answer, and the station afterwards
-pub record Step : Type 0 where
+pub record Stepped : Type 0 where
   pub answer : Answer
   pub station : Station
 
-abbrev pub numbered : ℕ → Station → Step
+abbrev pub numbered : ℕ → Station → Stepped
 numbered n st = record { answer = record { number = n; mark = 0; origin = 0; frame = frameOf 0 }; station = st }
 
-abbrev pub ofDone : Done → Step
+abbrev pub ofDone : Done → Stepped
 ofDone r = numbered (r .number) (r .station)
 
-abbrev pub ofClient : Client → Step
+abbrev pub ofClient : Client → Stepped
 ofClient r = record { answer = record { number = r .number; mark = r .mark; origin = 0; frame = frameOf 0 }; station = r .station }
 
-abbrev pub ofSelected : Selected → Step
+abbrev pub ofSelected : Selected → Stepped
 ofSelected r = record { answer = record { number = r .number; mark = 0; origin = r .origin; frame = r .frame }; station = r .station }
 
 -- Each call is lent what the one before left; telling and showing leave it as it is.
-abbrev pub step : Call → Station → Step
+abbrev pub step : Call → Station → Stepped
 step (tick a b c) st = ofDone (tickOf st a b c)
 step (offerClient class size hops) st = ofClient (offerClientOf st class size hops)
 step (offerTransit class size hops eligible) st = ofDone (offerTransitOf st class size hops eligible)
@@ -91,3 +95,9 @@ after st (c ∷ cs) = after (step c st .station) cs
 abbrev pub recordOf : Which → Station → List Call → List Event
 recordOf w st [] = []
 recordOf w st (c ∷ cs) = trace w c (step c st .answer) st ++ recordOf w (step c st .station) cs
+
+-- one shaper's record: from loLimit it ends at this credit, every send was permitted at its place, and each event is one of a record
+pub record Recorded (s : Settings) (w : Which) (credit : ℕ) (events : List Event) : Type 0 where
+  pub ends : credit ≡ endCredit (limitsFor s w) (bucketOf s w .lo) events
+  pub permitted : Permitted (limitsFor s w) (bucketOf s w .lo) events
+  pub valid : AllValid (limitsFor s w) events

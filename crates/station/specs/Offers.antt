@@ -1,10 +1,10 @@
 -- Frames in: what each offer can be refused for, in order, and what it answers.
 -- Assumes nothing.
-use Prim.Native.Nat.{ℕ, zero, suc, min}
+use Prim.Native.Nat.{ℕ, min}
 use mathlib.Core.Bool.{Bool, not}
 use mathlib.Core.List.{List, _∷_}
 use Rattle.decide.specs.Test.{test}
-use Rattle.decide.specs.Refusal.{Fault, fault, firstOf}
+use Rattle.decide.specs.Refusal.{Fault, fault, firstOf, refusedOr}
 use Rattle.queue.specs.declared.Frame.{Frame}
 use Rattle.queue.specs.Frame.{frameOk}
 use Rattle.flow.specs.declared.Client as flow
@@ -17,7 +17,7 @@ use Rattle.fair.specs.Count.{over}
 use Rattle.station.specs.declared.Station.{Station}
 use Rattle.station.specs.declared.Done.{Done}
 use Rattle.station.specs.declared.Client.{Client}
-use Rattle.station.specs.Answers.{withFlow, doneBy}
+use Rattle.station.specs.Answers.{withFlow, refusedOf, doneOf}
 use Rattle.station.specs.Calls.{rangeFault}
 
 -- ---- the frame that is offered
@@ -48,7 +48,7 @@ broughtOf st r = record { number = r .number; detail = 0; station = withFlow st 
 
 -- the frame stands last in the queue
 abbrev pub offerOf : Station → Line → Frame → Done
-offerOf st l x = doneBy (firstOf (offerFaults st l x)) st (withFlow st (enterOf (st .settings) (st .flow) l x .flow))
+offerOf st l x = refusedOr (refusedOf st) (firstOf (offerFaults st l x)) (doneOf (withFlow st (enterOf (st .settings) (st .flow) l x .flow)))
 
 -- Transit A goes to the primary queue, B and C to the secondary.
 abbrev pub offerTransitOf : Station → ℕ → ℕ → ℕ → ℕ → Done
@@ -89,10 +89,11 @@ clientFor st x = stagedOf st (staging st (x .class) (x .size) (x .hops))
 abbrev pub turnedOf : Station → ℕ → Client
 turnedOf st n = record { number = n; detail = 0; mark = 0; station = st }
 
-unfoldable pub takenBy : ℕ → Station → flow.Client → Client
-takenBy zero st r = record { number = 0; detail = 0; mark = r .mark; station = withFlow st (r .flow) }
-takenBy (suc n) st r = turnedOf st (suc n)
+-- the frame is in, with its mark
+abbrev pub takenOf : Station → flow.Client → Client
+takenOf st r = record { number = 0; detail = 0; mark = r .mark; station = withFlow st (r .flow) }
 
 -- The stage holds one client frame.
 abbrev pub offerClientOf : Station → ℕ → ℕ → ℕ → Client
-offerClientOf st class size hops = takenBy (firstOf (offerClientFaults st class size hops)) st (staging st class size hops)
+offerClientOf st class size hops =
+    refusedOr (turnedOf st) (firstOf (offerClientFaults st class size hops)) (takenOf st (staging st class size hops))

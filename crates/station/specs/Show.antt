@@ -1,10 +1,10 @@
 -- The reading of a station.
 -- Assumes nothing.
-use Prim.Native.Nat.{ℕ, zero, suc}
+use Prim.Native.Nat.{ℕ}
 use mathlib.Core.Bool.{cond}
 use mathlib.Core.List.{List, [], _∷_}
 use lib.Dec.{eqb}
-use Rattle.decide.specs.Refusal.{Fault, firstOf}
+use Rattle.decide.specs.Refusal.{Fault, firstOf, refusedOr}
 use Rattle.queue.specs.declared.Queue.{Queue}
 use Rattle.queue.specs.Frame.{frameOf}
 use Rattle.fair.specs.Start.{noneCounted}
@@ -63,9 +63,9 @@ blankOf =
           };
     }
 
-unfoldable pub shownBy : ℕ → Station → Shown
-shownBy zero st = record { number = 0; detail = 0; reading = readingOf st }
-shownBy (suc n) st = record { number = suc n; detail = 0; reading = blankOf }
+-- a refusal shows nothing
+abbrev pub notShownOf : ℕ → Shown
+notShownOf n = record { number = n; detail = 0; reading = blankOf }
 
 abbrev pub showOf : Station → Shown
-showOf st = shownBy (firstOf (showFaults st)) st
+showOf st = refusedOr notShownOf (firstOf (showFaults st)) (record { number = 0; detail = 0; reading = readingOf st })

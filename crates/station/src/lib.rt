@@ -26,7 +26,8 @@ pub struct Station {
     pub fair: Fair,
 }
 
-// What most calls answer: 0 or the number of the refusal, and the station afterwards.
+// What most calls answer: 0 or the number of the refusal, and the station afterwards. `detail`, here and below, is what a refusal says beside its number: 0,
+// as none says more.
 pub struct Done {
     pub number: u8,
     pub detail: u32,

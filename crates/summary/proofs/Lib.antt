@@ -1,4 +1,5 @@
 pub mod Integers
+pub mod Range
 pub mod Paper
 pub mod Rows
 pub mod Refused

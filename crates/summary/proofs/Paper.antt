@@ -1,17 +1,17 @@
 -- The paper's signed formulas are those by natural numbers: the join, the end credit, the range.
 -- Assumes nothing.
 use Prim.Native.Nat.{ℕ, _+_, _-_, _*_, _≤_, _<_, max}
-use mathlib.Core.Bool.{Bool, true, false, _&&_, _||_, true≢false}
+use mathlib.Core.Bool.{Bool, true, false, true≢false}
 use mathlib.Core.Logic.{_⊎_, inl, inr, ⊎-elim}
 use mathlib.Core.Path.{_≡_, refl, sym, ap, _∙_}
 use native.Mathlib.Omega.{arith}
-use borrow.Author.Tests.{leb-true, ltb-true, le-leb, lt-leb, lt-ltb, not-true, not-false}
-use lib.Dec.{leb, ltb}
-use lib.IntN.{pos, subℕ, natAbs, _+ℤ_, negℤ}
-use lib.Signed.{leZ, ltZ}
-use Rattle.decide.specs.Test.{Holds, test, both, either, and-i, or-r, facts, passes}
-use Rattle.decide.proofs.Cases.{by-cases, true-or-false}
-use Rattle.shaper.specs.Limits.{limitsOk, sameLimits}
+use borrow.Author.Tests.{leb-true, le-leb, lt-leb, not-true, not-false}
+use lib.IntN.{pos, subℕ, natAbs, _+ℤ_}
+use lib.Signed.{leZ, ltZ, _≤ℤ_}
+use Rattle.decide.specs.Test.{Holds, test, facts, passes}
+use Rattle.decide.proofs.Cases.{by-cases, true-or-false, le-or}
+use Rattle.shaper.specs.Limits.{sameLimits, mostSize}
+use Rattle.shaper.proofs.Ranges.{limits-facts, facts-limits}
 use Rattle.plain.specs.declared.Plain.{Plain}
 use Rattle.plain.specs.Plain.{plainNeed, plainDepth, plainJoined, plainEnd}
 use Rattle.plain.specs.Range.{plainRange, Sound, Same, Small}
@@ -19,8 +19,9 @@ use Rattle.plain.proofs.Laws.{in-range-sound, depth-least, depth-is, need-is, p
 use Rattle.plain.proofs.Ceiling.{depth-ceiling, ceiling-depth}
 use Rattle.summary.specs.declared.Summary.{Summary}
 use Rattle.summary.specs.Summary.{gain, ceilingOf, needℤ, joined, endℤ}
-use Rattle.summary.specs.Range.{countsOk, ceilingOk, needOk, inRange}
+use Rattle.summary.specs.Range.{inRange, InRange}
 use Rattle.summary.specs.Plain.{plainFrom, signedFrom}
+use Rattle.summary.proofs.Range.{ordered, ordered-test, in-range-exactly}
 use Rattle.summary.proofs.Integers.{sub-add, sub-le, sub-order, pos-sub, pos-less, pos-add, less-sub, neg-is, below-not, smaller-is, larger-pos, smaller-pos}
 
 -- ---- a summary and its natural numbers
@@ -73,9 +74,12 @@ same-bool true y f g = sym (f refl)
 same-bool false true f g = g refl
 same-bool false false f g = refl
 
--- the test that compares sub-le, as a fact on sums
-sums : (m n p q : ℕ) → leZ (subℕ m n) (subℕ p q) ≡ true → m + q ≤ p + n
-sums m n p q e = leb-true (m + q) (p + n) (sym (sub-order m n p q) ∙ e)
+-- an order of differences is one of sums, as facts
+sums : (m n p q : ℕ) → subℕ m n ≤ℤ subℕ p q → m + q ≤ p + n
+sums m n p q h = leb-true (m + q) (p + n) (sym (sub-order m n p q) ∙ ordered-test (subℕ m n) (subℕ p q) h)
+
+of-sums : (m n p q : ℕ) → m + q ≤ p + n → subℕ m n ≤ℤ subℕ p q
+of-sums m n p q h = ordered (subℕ m n) (subℕ p q) (sub-le m n p q h)
 
 module _ (p : Plain) where
   hi-gain : pos (p .limits .hi) +ℤ gain (signedFrom p) ≡ subℕ (p .limits .hi + p .accrued) (p .sent)
@@ -85,56 +89,36 @@ module _ (p : Plain) where
   need-gain = ap (λ z. pos (p .need) +ℤ z) (pos-less (p .accrued) (p .sent)) ∙ pos-add (p .need) (p .accrued) (p .sent)
 
   range-plain : inRange (signedFrom p) ≡ true → Holds (plainRange p)
-  unfolding inRange
   range-plain h =
-      let s = signedFrom p in
-      let a = both (test (limitsOk (p .limits))) (leb (p .events) 1000000 && (countsOk s && (ceilingOk s && needOk s))) h in
-      let b = both (leb (p .events) 1000000) (countsOk s && (ceilingOk s && needOk s)) (a .1) in
-      let k = both (countsOk s) (ceilingOk s && needOk s) (b .1) in
-      let n = both (ceilingOk s) (needOk s) (k .1) in
-      let k2 = both (leb (p .accrued) (65535 * p .events)) (leb (p .sent) (9216 * p .events)) (k .0) in
-      let e = both (leZ (s .ceiling) (pos (p .limits .hi))) (leZ (s .ceiling) (pos (p .limits .hi) +ℤ gain s) && leZ (negℤ (pos (9216 * p .events))) (s .ceiling)) (n .0) in
-      let e2 = both (leZ (s .ceiling) (pos (p .limits .hi) +ℤ gain s)) (leZ (negℤ (pos (9216 * p .events))) (s .ceiling)) (e .1) in
-      let m = both (leb (p .need) (p .limits .hi + 1)) (ltb (p .limits .hi) (p .need) || (leZ (pos 0) (s .ceiling) && leZ (pos 0) (pos (p .need) +ℤ gain s))) (n .1) in
-      let few = leb-true (p .events) 1000000 (b .0) in
-      let accrued-max = leb-true (p .accrued) (65535 * p .events) (k2 .0) in
-      let sent-max = leb-true (p .sent) (9216 * p .events) (k2 .1) in
-      let gained = sums (p .limits .hi) (p .depth) (p .limits .hi + p .accrued) (p .sent) (rw hi-gain at (e2 .0)) in
-      let lowest = sums 0 (9216 * p .events) (p .limits .hi) (p .depth) (rw neg-is at (e2 .1)) in
-      let need-most = leb-true (p .need) (p .limits .hi + 1) (m .0) in
-      (facts (limitsOk (p .limits)) (a .0), (few, (omega arith, usable (m .1))))
+      let r = in-range-exactly (signedFrom p) .0 h in
+      let gained = sums (p .limits .hi) (p .depth) (p .limits .hi + p .accrued) (p .sent) (rw hi-gain at (r .ceiling-gained)) in
+      let lowest = sums 0 (mostSize * p .events) (p .limits .hi) (p .depth) (rw neg-is at (r .ceiling-least)) in
+      (facts-limits (p .limits) (r .settings-valid), (r .events-most, (omega arith, by-cases (le-or (p .need) (p .limits .hi)) (λ k. inr (usable r k)) inl)))
     where
-      usable : (ltb (p .limits .hi) (p .need) || (leZ (pos 0) (subℕ (p .limits .hi) (p .depth)) && leZ (pos 0) (pos (p .need) +ℤ gain (signedFrom p)))) ≡ true → (p .limits .hi < p .need) ⊎ ((p .depth ≤ p .limits .hi) × (p .sent ≤ p .need + p .accrued))
-      usable u =
-          ⊎-elim
-          (λ h. inl (ltb-true (p .limits .hi) (p .need) h))
-          (λ h. inr
-          (let v = both (leZ (pos 0) (subℕ (p .limits .hi) (p .depth))) (leZ (pos 0) (pos (p .need) +ℤ gain (signedFrom p))) h in
-          let x = sums 0 0 (p .limits .hi) (p .depth) (v .0) in
-          let y = sums 0 0 (p .need + p .accrued) (p .sent) (rw need-gain at (v .1)) in
-          omega arith))
-          (either (ltb (p .limits .hi) (p .need)) (leZ (pos 0) (subℕ (p .limits .hi) (p .depth)) && leZ (pos 0) (pos (p .need) +ℤ gain (signedFrom p))) u)
+      usable : InRange (signedFrom p) → p .need ≤ p .limits .hi → (p .depth ≤ p .limits .hi) × (p .sent ≤ p .need + p .accrued)
+      usable r k =
+          let x = sums 0 0 (p .limits .hi) (p .depth) (r .ceiling-usable k) in
+          let y = sums 0 0 (p .need + p .accrued) (p .sent) (rw need-gain at (r .need-usable k)) in
+          omega arith
 
   plain-range : Holds (plainRange p) → inRange (signedFrom p) ≡ true
-  unfolding inRange
   plain-range h =
-      let s = signedFrom p in
-      let top : leZ (s .ceiling) (pos (p .limits .hi)) ≡ true = rw (pos-sub (p .limits .hi)) (sub-le (p .limits .hi) (p .depth) (p .limits .hi) 0 (omega arith)) in
-      let gained : leZ (s .ceiling) (pos (p .limits .hi) +ℤ gain s) ≡ true = rw hi-gain (sub-le (p .limits .hi) (p .depth) (p .limits .hi + p .accrued) (p .sent) (omega arith)) in
-      let lowest : leZ (negℤ (pos (9216 * p .events))) (s .ceiling) ≡ true = rw neg-is (sub-le 0 (9216 * p .events) (p .limits .hi) (p .depth) (omega arith)) in
-      let counts : countsOk s ≡ true = and-i (leb (p .accrued) (65535 * p .events)) (leb (p .sent) (9216 * p .events)) (le-leb (p .accrued) (65535 * p .events) (omega arith)) (le-leb (p .sent) (9216 * p .events) (omega arith)) in
-      let ceilings : ceilingOk s ≡ true = and-i (leZ (s .ceiling) (pos (p .limits .hi))) _ top (and-i (leZ (s .ceiling) (pos (p .limits .hi) +ℤ gain s)) _ gained lowest) in
-      let needs : needOk s ≡ true = and-i (leb (p .need) (p .limits .hi + 1)) _ (le-leb (p .need) (p .limits .hi + 1) (omega arith)) (usable (h .1 .1 .1)) in
-      and-i (test (limitsOk (p .limits))) (leb (p .events) 1000000 && (countsOk s && (ceilingOk s && needOk s))) (passes (limitsOk (p .limits)) (h .0))
-      (and-i (leb (p .events) 1000000) (countsOk s && (ceilingOk s && needOk s)) (le-leb (p .events) 1000000 (omega arith))
-      (and-i (countsOk s) (ceilingOk s && needOk s) counts (and-i (ceilingOk s) (needOk s) ceilings needs)))
+      in-range-exactly (signedFrom p) .1
+      (record {
+        settings-valid = limits-facts (p .limits) (h .0);
+        events-most = h .1 .0;
+        accrued-most = omega arith;
+        sent-most = omega arith;
+        ceiling-most = rw (pos-sub (p .limits .hi)) (of-sums (p .limits .hi) (p .depth) (p .limits .hi) 0 (omega arith));
+        ceiling-gained = rw hi-gain (of-sums (p .limits .hi) (p .depth) (p .limits .hi + p .accrued) (p .sent) (omega arith));
+        ceiling-least = rw neg-is (of-sums 0 (mostSize * p .events) (p .limits .hi) (p .depth) (omega arith));
+        need-most = omega arith;
+        ceiling-usable = λ k. let u = usable k in of-sums 0 0 (p .limits .hi) (p .depth) (omega arith);
+        need-usable = λ k. let u = usable k in rw need-gain (of-sums 0 0 (p .need + p .accrued) (p .sent) (omega arith));
+      })
     where
-      usable : (p .limits .hi < p .need) ⊎ ((p .depth ≤ p .limits .hi) × (p .sent ≤ p .need + p .accrued)) → (ltb (p .limits .hi) (p .need) || (leZ (pos 0) (subℕ (p .limits .hi) (p .depth)) && leZ (pos 0) (pos (p .need) +ℤ gain (signedFrom p)))) ≡ true
-      usable (inl u) = rw (lt-ltb (p .limits .hi) (p .need) u)
-      usable (inr u) =
-          let x = sub-le 0 0 (p .limits .hi) (p .depth) (omega arith) in
-          let y : leZ (pos 0) (pos (p .need) +ℤ gain (signedFrom p)) ≡ true = rw need-gain (sub-le 0 0 (p .need + p .accrued) (p .sent) (omega arith)) in
-          or-r (ltb (p .limits .hi) (p .need)) _ (and-i (leZ (pos 0) (subℕ (p .limits .hi) (p .depth))) _ x y)
+      usable : p .need ≤ p .limits .hi → (p .depth ≤ p .limits .hi) × (p .sent ≤ p .need + p .accrued)
+      usable k = ⊎-elim (λ u. absurd (omega arith)) (λ u. u) (h .1 .1 .1)
 
   pub range-signed : inRange (signedFrom p) ≡ test (plainRange p)
   range-signed =
@@ -144,13 +128,7 @@ module _ (p : Plain) where
 
 -- a summary in range has its ceiling at most at hiLimit
 pub not-above : (s : Summary) → inRange s ≡ true → leZ (s .ceiling) (pos (s .limits .hi)) ≡ true
-unfolding inRange
-not-above s h =
-    let a = both (test (limitsOk (s .limits))) (leb (s .events) 1000000 && (countsOk s && (ceilingOk s && needOk s))) h in
-    let b = both (leb (s .events) 1000000) (countsOk s && (ceilingOk s && needOk s)) (a .1) in
-    let k = both (countsOk s) (ceilingOk s && needOk s) (b .1) in
-    let n = both (ceilingOk s) (needOk s) (k .1) in
-    both (leZ (s .ceiling) (pos (s .limits .hi))) (leZ (s .ceiling) (pos (s .limits .hi) +ℤ gain s) && leZ (negℤ (pos (9216 * s .events))) (s .ceiling)) (n .0) .0
+not-above s h = ordered-test (s .ceiling) (pos (s .limits .hi)) (in-range-exactly s .0 h .ceiling-most)
 
 pub signed-plain : (s : Summary) → leZ (s .ceiling) (pos (s .limits .hi)) ≡ true → signedFrom (plainFrom s) ≡ s
 signed-plain s h = signed-eq (signedFrom (plainFrom s)) s refl refl refl refl (ceiling-depth (s .limits .hi) (s .ceiling) h) refl
@@ -181,7 +159,7 @@ below-range s b =
 
 -- ---- a join by way of the natural numbers
 
-pub joined-fits : (p q : Plain) → Small p → Small q → (plainJoined p q .events ≤ 2000000) × (plainJoined p q .depth ≤ 9223372036854775807)
+pub joined-fits : (p q : Plain) → Small p → Small q → (plainJoined p q .events ≤ 4294967295) × (plainJoined p q .depth ≤ 9223372036854775807)
 unfolding plainDepth
 joined-fits p q s t = (omega arith, omega arith)
 

@@ -7,13 +7,14 @@ use mathlib.Core.Logic.{_⊎_, inl, inr, ⊎-elim}
 use mathlib.Core.Path.{_≡_, refl, sym, ap, _∙_}
 use native.Mathlib.Omega.{arith}
 use lib.ListN.{length}
-use Rattle.decide.specs.Test.{Holds, test, passes}
+use Rattle.decide.specs.Test.{Holds, test, facts}
 use Rattle.decide.proofs.Cases.{le-or}
 use Rattle.shaper.specs.declared.Limits.{Limits}
 use Rattle.shaper.specs.declared.Event.{Event}
 use Rattle.shaper.specs.declared.Event.the-variants.{Waiting, Idle, Send}
-use Rattle.shaper.specs.Limits.{limitsOk, sameLimits}
+use Rattle.shaper.specs.Limits.{limitsOk, sameLimits, mostEvents}
 use Rattle.shaper.specs.Credit.{AllValid, Permitted, endCredit, accruedOf, sentOf}
+use Rattle.shaper.proofs.Ranges.{same-exactly}
 use Rattle.plain.specs.declared.Plain.{Plain}
 use Rattle.plain.specs.Plain.{plainEmpty, plainSingle, plainJoined, plainOf, plainEnd}
 use Rattle.plain.specs.Range.{Same}
@@ -25,38 +26,36 @@ use Rattle.summary.specs.declared.Outcome.{Outcome}
 use Rattle.summary.specs.Summary.{emptyOf, singleOf, joined, summaryOf}
 use Rattle.summary.specs.Range.{inRange}
 use Rattle.summary.specs.Answer.{joinOf, andThen, settleOf}
+use Rattle.summary.specs.Settle.{SettlesExactly}
 use Rattle.summary.specs.Plain.{plainFrom, signedFrom}
 use Rattle.summary.proofs.Integers.{pos-sub, pos-less, sub-eq}
 use Rattle.summary.proofs.Paper.{signed-eq, plain-signed, joined-signed, same-signed, in-range-plain, in-range-signed, joined-plain, settled-plain}
 use Rattle.summary.proofs.Rows.{joins, join-9, settles, settles-not}
 
-abbrev pub InRange : Summary → Type 0
-InRange s = inRange s ≡ true
-
 -- settings that are equal pass the test of equality
-pub same-settings : (a b : Summary) → a .limits ≡ b .limits → test (sameLimits (a .limits) (b .limits)) ≡ true
-same-settings a b e = passes (sameLimits (a .limits) (b .limits)) (ap (λ (l : Limits). l .mtu) e, (ap (λ (l : Limits). l .lo) e, ap (λ (l : Limits). l .hi) e))
+same-settings : (a b : Summary) → a .limits ≡ b .limits → test (sameLimits (a .limits) (b .limits)) ≡ true
+same-settings a b e = same-exactly (a .limits) (b .limits) .1 e
 
 -- ---- two summaries of one setting
 
-module _ (a b : Summary) (ha : InRange a) (hb : InRange b) (e : a .limits ≡ b .limits) where
+module _ (a b : Summary) (ha : inRange a ≡ true) (hb : inRange b ≡ true) (e : a .limits ≡ b .limits) where
   same-plain : Same (plainFrom a) (plainFrom b)
-  same-plain = (ap (λ (l : Limits). l .mtu) e, (ap (λ (l : Limits). l .lo) e, ap (λ (l : Limits). l .hi) e))
+  same-plain = facts (sameLimits (a .limits) (b .limits)) (same-settings a b e)
 
   by-plain : joined a b ≡ signedFrom (plainJoined (plainFrom a) (plainFrom b))
   by-plain = joined-plain a b ha hb (same-settings a b e)
 
   -- a join keeps the range
-  joined-range : a .events + b .events ≤ 1000000 → InRange (joined a b)
+  joined-range : a .events + b .events ≤ mostEvents → inRange (joined a b) ≡ true
   joined-range n =
       ap inRange by-plain
       ∙ in-range-signed (plainJoined (plainFrom a) (plainFrom b))
       (sound-in-range _ (joined-sound (plainFrom a) (plainFrom b) (in-range-sound _ (in-range-plain a ha)) (in-range-sound _ (in-range-plain b hb)) same-plain) n)
 
-  joins-few : a .events + b .events ≤ 1000000 → joinOf a b ≡ Answer.Summed (joined a b)
+  joins-few : a .events + b .events ≤ mostEvents → joinOf a b ≡ Answer.Summed (joined a b)
   joins-few n = joins a b ha hb (same-settings a b e) n
 
-  refuses : 1000000 < a .events + b .events → joinOf a b ≡ Answer.Refused 9
+  refuses : mostEvents < a .events + b .events → joinOf a b ≡ Answer.Refused 9
   refuses n = join-9 a b ha hb (same-settings a b e) n
 
   joined-events : joined a b .events ≡ a .events + b .events
@@ -71,23 +70,23 @@ module _ (a b : Summary) (ha : InRange a) (hb : InRange b) (e : a .limits ≡ b 
   plain-joined = ap plainFrom by-plain ∙ plain-signed (plainJoined (plainFrom a) (plainFrom b))
 
 -- Range kept by join: a join of two in range is in range, or 9.
-pub join-range : (a b : Summary) → InRange a → InRange b → a .limits ≡ b .limits → ((joinOf a b ≡ Answer.Summed (joined a b)) × InRange (joined a b)) ⊎ ((joinOf a b ≡ Answer.Refused 9) × (1000000 < a .events + b .events))
+pub join-range : (a b : Summary) → inRange a ≡ true → inRange b ≡ true → a .limits ≡ b .limits → ((joinOf a b ≡ Answer.Summed (joined a b)) × (inRange (joined a b) ≡ true)) ⊎ ((joinOf a b ≡ Answer.Refused 9) × (mostEvents < a .events + b .events))
 join-range a b ha hb e =
     ⊎-elim
     (λ n. inl (joins-few a b ha hb e n, joined-range a b ha hb e n))
     (λ n. inr (refuses a b ha hb e n, n))
-    (le-or (a .events + b .events) 1000000)
+    (le-or (a .events + b .events) mostEvents)
 
 -- ---- three
 
-module _ (a b c : Summary) (ha : InRange a) (hb : InRange b) (hc : InRange c) (e : a .limits ≡ b .limits) (f : b .limits ≡ c .limits) where
+module _ (a b c : Summary) (ha : inRange a ≡ true) (hb : inRange b ≡ true) (hc : inRange c ≡ true) (e : a .limits ≡ b .limits) (f : b .limits ≡ c .limits) where
   same-joined-left : joined a b .limits ≡ c .limits
   same-joined-left = joined-limits a b ha hb e ∙ e ∙ f
 
   same-joined-right : a .limits ≡ joined b c .limits
   same-joined-right = e ∙ sym (joined-limits b c hb hc f)
 
-  three : a .events + (b .events + c .events) ≤ 1000000 → joined (joined a b) c ≡ joined a (joined b c)
+  three : a .events + (b .events + c .events) ≤ mostEvents → joined (joined a b) c ≡ joined a (joined b c)
   three n =
       by-plain (joined a b) c (joined-range a b ha hb e (omega arith)) hc same-joined-left
       ∙ ap (λ p. signedFrom (plainJoined p (plainFrom c))) (plain-joined a b ha hb e)
@@ -95,23 +94,23 @@ module _ (a b c : Summary) (ha : InRange a) (hb : InRange b) (hc : InRange c) (e
       ∙ ap (λ p. signedFrom (plainJoined (plainFrom a) p)) (sym (plain-joined b c hb hc f))
       ∙ sym (by-plain a (joined b c) ha (joined-range b c hb hc f (omega arith)) same-joined-right)
 
-  many-left : 1000000 < a .events + (b .events + c .events) → andThen (joinOf a b) (λ z. joinOf z c) ≡ Answer.Refused 9
+  many-left : mostEvents < a .events + (b .events + c .events) → andThen (joinOf a b) (λ z. joinOf z c) ≡ Answer.Refused 9
   many-left n =
       ⊎-elim
       (λ m. let k = joined-events a b ha hb e in
       rw (joins-few a b ha hb e m) (refuses (joined a b) c (joined-range a b ha hb e m) hc same-joined-left (omega arith)))
       (λ m. rw (refuses a b ha hb e m))
-      (le-or (a .events + b .events) 1000000)
+      (le-or (a .events + b .events) mostEvents)
 
-  many-right : 1000000 < a .events + (b .events + c .events) → andThen (joinOf b c) (λ z. joinOf a z) ≡ Answer.Refused 9
+  many-right : mostEvents < a .events + (b .events + c .events) → andThen (joinOf b c) (λ z. joinOf a z) ≡ Answer.Refused 9
   many-right n =
       ⊎-elim
       (λ m. let k = joined-events b c hb hc f in
       rw (joins-few b c hb hc f m) (refuses a (joined b c) ha (joined-range b c hb hc f m) same-joined-right (omega arith)))
       (λ m. rw (refuses b c hb hc f m))
-      (le-or (b .events + c .events) 1000000)
+      (le-or (b .events + c .events) mostEvents)
 
-  few-both : a .events + (b .events + c .events) ≤ 1000000 → andThen (joinOf a b) (λ z. joinOf z c) ≡ andThen (joinOf b c) (λ z. joinOf a z)
+  few-both : a .events + (b .events + c .events) ≤ mostEvents → andThen (joinOf a b) (λ z. joinOf z c) ≡ andThen (joinOf b c) (λ z. joinOf a z)
   few-both n =
       let k = joined-events a b ha hb e in
       let m = joined-events b c hb hc f in
@@ -122,15 +121,15 @@ module _ (a b c : Summary) (ha : InRange a) (hb : InRange b) (hc : InRange c) (e
 
   -- Join is associative for in-range summaries of the same settings; both groupings give 9 or neither does.
   pub join-associative : andThen (joinOf a b) (λ z. joinOf z c) ≡ andThen (joinOf b c) (λ z. joinOf a z)
-  join-associative = ⊎-elim few-both (λ n. many-left n ∙ sym (many-right n)) (le-or (a .events + (b .events + c .events)) 1000000)
+  join-associative = ⊎-elim few-both (λ n. many-left n ∙ sym (many-right n)) (le-or (a .events + (b .events + c .events)) mostEvents)
 
 -- ---- the empty summary is neutral
 
 empty-signed : (l : Limits) → emptyOf l ≡ signedFrom (plainEmpty l)
 empty-signed l = signed-eq (emptyOf l) (signedFrom (plainEmpty l)) refl refl refl refl (pos-sub (l .hi)) refl
 
-module _ (a : Summary) (h : InRange a) where
-  empty-range : InRange (emptyOf (a .limits))
+module _ (a : Summary) (h : inRange a ≡ true) where
+  empty-range : inRange (emptyOf (a .limits)) ≡ true
   empty-range =
       ap inRange (empty-signed (a .limits))
       ∙ in-range-signed (plainEmpty (a .limits)) (in-range-plain a h .0, (omega arith, (omega arith, inr (omega arith))))
@@ -138,7 +137,7 @@ module _ (a : Summary) (h : InRange a) where
   plain-empty : plainFrom (emptyOf (a .limits)) ≡ plainEmpty (a .limits)
   plain-empty = ap plainFrom (empty-signed (a .limits)) ∙ plain-signed (plainEmpty (a .limits))
 
-  few : a .events ≤ 1000000
+  few : a .events ≤ mostEvents
   few = in-range-plain a h .1 .0
 
   pub join-empty-left : joinOf (emptyOf (a .limits)) a ≡ Answer.Summed a
@@ -191,13 +190,13 @@ module _ (l : Limits) (ok : Holds (limitsOk l)) where
   pub summary-sent : (es : List Event) → summaryOf l es .sent ≡ sentOf es
   summary-sent es = ap (λ (s : Summary). s .sent) (summary-signed es) ∙ plain-sent l es
 
-  pub summary-range : (es : List Event) → AllValid l es → length es ≤ 1000000 → InRange (summaryOf l es)
+  pub summary-range : (es : List Event) → AllValid l es → length es ≤ mostEvents → inRange (summaryOf l es) ≡ true
   summary-range es v n =
       let k = events-length l es in
       ap inRange (summary-signed es) ∙ in-range-signed (plainOf l es) (sound-in-range (plainOf l es) (plain-sound l ok es v) (omega arith))
 
   -- the summaries of two runs of events, joined, are the summary of both
-  pub join-append : (xs ys : List Event) → AllValid l xs → AllValid l ys → length xs + length ys ≤ 1000000 → joinOf (summaryOf l xs) (summaryOf l ys) ≡ Answer.Summed (summaryOf l (xs ++ ys))
+  pub join-append : (xs ys : List Event) → AllValid l xs → AllValid l ys → length xs + length ys ≤ mostEvents → joinOf (summaryOf l xs) (summaryOf l ys) ≡ Answer.Summed (summaryOf l (xs ++ ys))
   join-append xs ys v w n =
       let p = summary-events xs in
       let q = summary-events ys in
@@ -214,8 +213,8 @@ module _ (l : Limits) (ok : Holds (limitsOk l)) where
       ∙ ap signedFrom (sym (plain-append l ok xs ys v w))
       ∙ sym (summary-signed (xs ++ ys)))
 
-  module _ (es : List Event) (v : AllValid l es) (n : length es ≤ 1000000) (c : ℕ) (most : c ≤ l .hi) where
-    range-here : InRange (summaryOf l es)
+  module _ (es : List Event) (v : AllValid l es) (n : length es ≤ mostEvents) (c : ℕ) (most : c ≤ l .hi) where
+    range-here : inRange (summaryOf l es) ≡ true
     range-here = summary-range es v n
 
     most-here : c ≤ summaryOf l es .limits .hi
@@ -261,14 +260,8 @@ module _ (l : Limits) (ok : Holds (limitsOk l)) where
         let b = sent-bound l ok es v c most p in
         omega arith
 
--- For each starting credit from 0 to hiLimit a summary says exactly whether every send was permitted, and if so the credit at the end.
-pub record SettlesExactly (l : Limits) (es : List Event) (c : ℕ) : Type 0 where
-  pub permitted : Permitted l c es → settleOf (summaryOf l es) c ≡ Outcome.Permitted (endCredit l c es)
-  pub not-permitted : (Permitted l c es → ⊥) → settleOf (summaryOf l es) c ≡ Outcome.NotPermitted
-  pub said-permitted : (x : ℕ) → settleOf (summaryOf l es) c ≡ Outcome.Permitted x → Permitted l c es × (endCredit l c es ≡ x)
-  pub said-not : settleOf (summaryOf l es) c ≡ Outcome.NotPermitted → Permitted l c es → ⊥
-
-pub settle-exact : (l : Limits) → Holds (limitsOk l) → (es : List Event) → AllValid l es → length es ≤ 1000000 → (c : ℕ) → c ≤ l .hi → SettlesExactly l es c
+-- for every starting credit from 0 to hiLimit
+pub settle-exact : (l : Limits) → Holds (limitsOk l) → (es : List Event) → AllValid l es → length es ≤ mostEvents → (c : ℕ) → c ≤ l .hi → SettlesExactly l es c
 settle-exact l ok es v n c most =
     record {
       permitted = settle-permitted l ok es v n c most;

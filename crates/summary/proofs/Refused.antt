@@ -4,8 +4,8 @@ use Prim.Native.Nat.{ℕ, zero, suc}
 use mathlib.Core.Bool.{Bool, true, false}
 use mathlib.Core.Path.{_≡_, refl}
 use lib.Dec.{leb}
-use Rattle.decide.specs.Refusal.{firstOf}
-use Rattle.decide.proofs.Refusal.{RefusedExactly, refused-exactly}
+use Rattle.decide.specs.Refusal.{firstOf, RefusedExactly}
+use Rattle.decide.proofs.Refusal.{refused-exactly}
 use Rattle.shaper.specs.declared.Limits.{Limits}
 use Rattle.shaper.specs.declared.Event.{Event}
 use Rattle.summary.specs.declared.Summary.{Summary}

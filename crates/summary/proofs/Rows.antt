@@ -3,23 +3,20 @@
 use Prim.Native.Nat.{ℕ, _+_, _≤_, _<_}
 use mathlib.Core.Bool.{true, false}
 use mathlib.Core.Path.{_≡_, refl}
-use borrow.Author.Tests.{le-leb, lt-leb, le-ltb, lt-ltb, leb-true}
-use lib.Dec.{leb}
+use borrow.Author.Tests.{le-leb, lt-leb, le-ltb, lt-ltb}
 use lib.IntN.{natAbs}
-use Rattle.decide.specs.Test.{test, both}
-use Rattle.decide.proofs.Cases.{by-cases, true-or-false}
+use Rattle.decide.specs.Test.{test}
 use Rattle.decide.proofs.Refusal.{in-order}
 use Rattle.shaper.specs.declared.Limits.{Limits}
 use Rattle.shaper.specs.declared.Event.{Event}
-use Rattle.shaper.specs.declared.Event.the-variants.{Waiting, Idle, Send}
-use Rattle.shaper.specs.Limits.{limitsOk, sameLimits}
-use Rattle.shaper.specs.Credit.{Valid}
+use Rattle.shaper.specs.Limits.{limitsOk, sameLimits, mostEvents}
+use Rattle.shaper.specs.Credit.{eventOk}
 use Rattle.summary.specs.declared.Summary.{Summary}
 use Rattle.summary.specs.declared.Answer.{Answer}
 use Rattle.summary.specs.declared.Outcome.{Outcome}
 use Rattle.summary.specs.Summary.{emptyOf, singleOf, joined, endℤ}
 use Rattle.summary.specs.Range.{inRange}
-use Rattle.summary.specs.Answer.{emptyFaults, emptyAnswer, validEvent, singleFaults, singleAnswer, joinFaults, joinOf, settleFaults, settleOf}
+use Rattle.summary.specs.Answer.{emptyFaults, emptyAnswer, singleFaults, singleAnswer, joinFaults, joinOf, settleFaults, settleOf}
 
 module _ (l : Limits) where
   -- 1: a setting is outside its range
@@ -37,34 +34,13 @@ module _ (l : Limits) (e : Event) where
   single-1 o = rw (in-order (singleFaults l e) refl, o)
 
   -- 3: the event's number is outside its range
-  pub single-3 : test (limitsOk l) ≡ true → validEvent l e ≡ false → singleAnswer l e ≡ Answer.Refused 3
+  pub single-3 : test (limitsOk l) ≡ true → test (eventOk l e) ≡ false → singleAnswer l e ≡ Answer.Refused 3
   unfolding singleAnswer
   single-3 o v = rw (in-order (singleFaults l e) refl, o, v)
 
-  pub single-made : test (limitsOk l) ≡ true → validEvent l e ≡ true → singleAnswer l e ≡ Answer.Summed (singleOf l e)
+  pub single-made : test (limitsOk l) ≡ true → test (eventOk l e) ≡ true → singleAnswer l e ≡ Answer.Summed (singleOf l e)
   unfolding singleAnswer
   single-made o v = rw (in-order (singleFaults l e) refl, o, v)
-
--- frame size 16 to mtu
-pub too-small : (l : Limits) (z : ℕ) → z < 16 → validEvent l (Send z) ≡ false
-too-small l z h = rw (lt-leb 16 z h)
-
-pub too-large : (l : Limits) (z : ℕ) → l .mtu < z → validEvent l (Send z) ≡ false
-too-large l z h = by-cases (true-or-false (leb 16 z)) (λ e. rw (e, lt-leb z (l .mtu) h)) (λ e. rw e)
-
-pub fits-size : (l : Limits) (z : ℕ) → 16 ≤ z → z ≤ l .mtu → validEvent l (Send z) ≡ true
-fits-size l z h k = rw (le-leb 16 z h, le-leb z (l .mtu) k)
-
--- the test of an event is the range that the credit's laws go by
-pub valid-passes : (l : Limits) (e : Event) → Valid l e → validEvent l e ≡ true
-valid-passes l (Waiting x) v = le-leb x 65535 v
-valid-passes l (Idle x) v = le-leb x 65535 v
-valid-passes l (Send z) v = fits-size l z (v .0) (v .1)
-
-pub passes-valid : (l : Limits) (e : Event) → validEvent l e ≡ true → Valid l e
-passes-valid l (Waiting x) v = leb-true x 65535 v
-passes-valid l (Idle x) v = leb-true x 65535 v
-passes-valid l (Send z) v = let p = both (leb 16 z) (leb z (l .mtu)) v in (leb-true 16 z (p .0), leb-true z (l .mtu) (p .1))
 
 module _ (a b : Summary) where
   -- 3: a summary is outside its range, the first or the second
@@ -82,13 +58,13 @@ module _ (a b : Summary) where
   join-10 h k s = rw (in-order (joinFaults a b) refl, h, k, s)
 
   -- 9: over 1,000,000 events
-  pub join-9 : inRange a ≡ true → inRange b ≡ true → test (sameLimits (a .limits) (b .limits)) ≡ true → 1000000 < a .events + b .events → joinOf a b ≡ Answer.Refused 9
+  pub join-9 : inRange a ≡ true → inRange b ≡ true → test (sameLimits (a .limits) (b .limits)) ≡ true → mostEvents < a .events + b .events → joinOf a b ≡ Answer.Refused 9
   unfolding joinOf
-  join-9 h k s n = rw (in-order (joinFaults a b) refl, h, k, s, lt-ltb 1000000 (a .events + b .events) n)
+  join-9 h k s n = rw (in-order (joinFaults a b) refl, h, k, s, lt-ltb mostEvents (a .events + b .events) n)
 
-  pub joins : inRange a ≡ true → inRange b ≡ true → test (sameLimits (a .limits) (b .limits)) ≡ true → a .events + b .events ≤ 1000000 → joinOf a b ≡ Answer.Summed (joined a b)
+  pub joins : inRange a ≡ true → inRange b ≡ true → test (sameLimits (a .limits) (b .limits)) ≡ true → a .events + b .events ≤ mostEvents → joinOf a b ≡ Answer.Summed (joined a b)
   unfolding joinOf
-  joins h k s n = rw (in-order (joinFaults a b) refl, h, k, s, le-ltb 1000000 (a .events + b .events) n)
+  joins h k s n = rw (in-order (joinFaults a b) refl, h, k, s, le-ltb mostEvents (a .events + b .events) n)
 
 module _ (s : Summary) (c : ℕ) where
   -- 3: the summary or the starting credit is outside its range

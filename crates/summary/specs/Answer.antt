@@ -1,7 +1,7 @@
 -- What the calls of a summary answer: refusals by the rows that apply, else what the paper says.
 -- Assumes nothing.
 use Prim.Native.Nat.{ℕ, zero, suc, _+_}
-use mathlib.Core.Bool.{Bool, cond, not, _&&_}
+use mathlib.Core.Bool.{cond, not}
 use mathlib.Core.List.{List, [], _∷_}
 use lib.Dec.{leb, ltb}
 use lib.IntN.{natAbs}
@@ -9,8 +9,8 @@ use Rattle.decide.specs.Test.{test}
 use Rattle.decide.specs.Refusal.{Fault, fault, firstOf}
 use Rattle.shaper.specs.declared.Limits.{Limits}
 use Rattle.shaper.specs.declared.Event.{Event}
-use Rattle.shaper.specs.declared.Event.the-variants.{Waiting, Idle, Send}
-use Rattle.shaper.specs.Limits.{limitsOk, sameLimits}
+use Rattle.shaper.specs.Limits.{limitsOk, sameLimits, mostEvents}
+use Rattle.shaper.specs.Credit.{eventOk}
 use Rattle.summary.specs.declared.Summary.{Summary}
 use Rattle.summary.specs.declared.Answer.{Answer}
 use Rattle.summary.specs.declared.Outcome.{Outcome}
@@ -31,15 +31,9 @@ emptyFaults l = fault 1 (not (test (limitsOk l))) ∷ []
 unfoldable pub emptyAnswer : Limits → Answer
 emptyAnswer l = answered (firstOf (emptyFaults l)) (emptyOf l)
 
--- amount per tick 0 to 65,535; frame size 16 to mtu
-abbrev pub validEvent : Limits → Event → Bool
-validEvent l (Waiting x) = leb x 65535
-validEvent l (Idle x) = leb x 65535
-validEvent l (Send z) = leb 16 z && leb z (l .mtu)
-
 -- 1: a setting is outside its range. 3: the event's number is
 abbrev pub singleFaults : Limits → Event → List Fault
-singleFaults l e = fault 1 (not (test (limitsOk l))) ∷ fault 3 (not (validEvent l e)) ∷ []
+singleFaults l e = fault 1 (not (test (limitsOk l))) ∷ fault 3 (not (test (eventOk l e))) ∷ []
 
 unfoldable pub singleAnswer : Limits → Event → Answer
 singleAnswer l e = answered (firstOf (singleFaults l e)) (singleOf l e)
@@ -52,7 +46,7 @@ joinFaults a b =
     fault 3 (not (inRange a))
     ∷ fault 3 (not (inRange b))
     ∷ fault 10 (not (test (sameLimits (a .limits) (b .limits))))
-    ∷ fault 9 (ltb 1000000 (a .events + b .events))
+    ∷ fault 9 (ltb mostEvents (a .events + b .events))
     ∷ []
 
 unfoldable pub joinOf : Summary → Summary → Answer

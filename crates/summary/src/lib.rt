@@ -37,9 +37,14 @@ pub enum Outcome {
 }
 
 impl Summary {
-    pub const MAX_EVENTS: u32 = 1000000;
+    // Its limits: events at most so many, accrued and sent at most so many bytes an event; and the smallest send.
+    pub const MAX_EVENTS: u32 = Event::MAX_EVENTS;
 
-    pub const MIN_SIZE: u32 = 16;
+    pub const MAX_AMOUNT: u32 = Event::MAX_AMOUNT;
+
+    pub const MIN_SIZE: u32 = Event::MIN_SIZE as u32;
+
+    pub const MAX_SIZE: u32 = Limits::MAX_MTU;
 
     // The summary of no event. 1 where a setting is outside its range.
     pub fn empty(limits: Limits) -> Answer
@@ -195,8 +200,8 @@ fn one_tick(limits: Limits, ceiling: u32, amount: u16) -> Summary
 }
 
 // The summary whose ceiling is a depth below hiLimit.
-fn signed(p: Plain) -> Summary
-    requires { ⌜ (p .events ≤ 2000000) × (p .depth ≤ 9223372036854775807) ⌝ }
+pub fn signed(p: Plain) -> Summary
+    requires { ⌜ (p .events ≤ 4294967295) × (p .depth ≤ 9223372036854775807) ⌝ }
     ensures { λ r. ⌜ r ≡ signedFrom p ⌝ }
 {
     let limits = p.limits;

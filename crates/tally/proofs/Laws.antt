@@ -10,7 +10,7 @@ use Rattle.decide.proofs.Cases.{by-cases}
 use Rattle.shaper.specs.declared.Limits.{Limits}
 use Rattle.shaper.specs.declared.Event.{Event}
 use Rattle.shaper.specs.declared.Event.the-variants.{Waiting, Idle, Send}
-use Rattle.shaper.specs.Limits.{limitsOk}
+use Rattle.shaper.specs.Limits.{limitsOk, mostAmount, mostEvents}
 use Rattle.shaper.specs.Credit.{Valid, AllValid}
 use Rattle.shaper.specs.Kind.{kindOf, numberOf}
 use Rattle.plain.specs.declared.Plain.{Plain}
@@ -31,7 +31,7 @@ start-within lo = omega arith
 pub within-more : (m n : ℕ) (t : Tally) → m ≤ n → Within m t → Within n t
 within-more m n t h w = omega arith
 
-pub step-within : (rise k v n : ℕ) (t : Tally) → Within n t → rise ≤ 1048576 → v ≤ 65535 → Within (n + 1) (stepOf rise k v t)
+pub step-within : (rise k v n : ℕ) (t : Tally) → Within n t → rise ≤ 1048576 → v ≤ mostAmount → Within (n + 1) (stepOf rise k v t)
 step-within rise k v n t w hr hv =
     let f = fall-max k rise in
     by-cases (split (k ≡? 3))
@@ -98,7 +98,7 @@ some-need lo hi a d L low x w g e =
 abbrev tickOf : Limits → ℕ → ℕ → Plain
 tickOf l v f = record { limits = l; events = 1; accrued = v; sent = 0; depth = f; need = 0 }
 
-module _ (l : Limits) (n : ℕ) (t : Tally) (p : Ready l n t) (v : ℕ) (hv : v ≤ 65535) where
+module _ (l : Limits) (n : ℕ) (t : Tally) (p : Ready l n t) (v : ℕ) (hv : v ≤ mostAmount) where
   tick-step : (f : ℕ) →
       plainAt l (n + 1) (record { accrued = t .accrued + v; level = t .level + v; peak = max (t .peak) (t .level + v + f); low = t .low })
       ≡ plainJoined (plainAt l n t) (tickOf l v f)
@@ -118,7 +118,7 @@ module _ (l : Limits) (n : ℕ) (t : Tally) (p : Ready l n t) (v : ℕ) (hv : v 
       (λ h. some-need (l .lo) (l .hi) (t .accrued) _ _ _ _ (w .level-max) (h .0) (h .1)))
 
 -- no number of an event is above 65,535
-number-max : (l : Limits) → Holds (limitsOk l) → (e : Event) → Valid l e → numberOf e ≤ 65535
+number-max : (l : Limits) → Holds (limitsOk l) → (e : Event) → Valid l e → numberOf e ≤ mostAmount
 number-max l ok (Waiting x) v = v
 number-max l ok (Idle x) v = v
 number-max l ok (Send z) v = omega arith
@@ -148,7 +148,7 @@ module _ (l : Limits) (n : ℕ) (t : Tally) (p : Ready l n t) (e : Event) (ok : 
   step-sound = subst (λ (s : Plain). Sound s) (sym (step-joined l n t p e ok)) (joined-sound (plainAt l n t) single (p .sound) single-is-sound single-same)
 
   -- a walk goes on
-  pub step-ready : n < 1000000 → Ready l (n + 1) next
+  pub step-ready : n < mostEvents → Ready l (n + 1) next
   step-ready h =
       record {
         few = omega arith;

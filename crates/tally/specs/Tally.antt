@@ -5,6 +5,7 @@ use Prim.Native.Nat.{ℕ, _+_, _-_, _*_, _≤_, min, max}
 use mathlib.Core.Bool.{cond}
 use lib.Dec.{eqb, leb}
 use Rattle.shaper.specs.declared.Limits.{Limits}
+use Rattle.shaper.specs.Limits.{mostAmount, mostEvents}
 use Rattle.plain.specs.declared.Plain.{Plain}
 use Rattle.plain.specs.Range.{Sound}
 use Rattle.tally.specs.declared.Tally.{Tally}
@@ -57,14 +58,14 @@ plainAt l n t =
 
 -- the bounds of a tally of at most n events, whatever they hold: up to a million no sum wraps and no difference falls below 0
 pub record Within (n : ℕ) (t : Tally) : Type 0 where
-  pub accrued-max : t .accrued ≤ 65535 * n
-  pub level-min : base ≤ t .level + 65535 * n
+  pub accrued-max : t .accrued ≤ mostAmount * n
+  pub level-min : base ≤ t .level + mostAmount * n
   pub level-max : t .level ≤ base + t .accrued
   pub peak-min : t .level ≤ t .peak
-  pub peak-max : t .peak ≤ base + 1048576 + 65535 * n
+  pub peak-max : t .peak ≤ base + 1048576 + mostAmount * n
 
 -- a tally with which a walk can go on: n events are counted, and their summary is in range
 pub record Ready (l : Limits) (n : ℕ) (t : Tally) : Type 0 where
-  pub few : n ≤ 1000000
+  pub few : n ≤ mostEvents
   pub within : Within n t
   pub sound : Sound (plainAt l n t)

@@ -2,6 +2,7 @@
 // while it does not, 3 a send) and a number v (the amount, or the size). Any other kind counts as a tick: the faults are for the reader to find.
 ghost use mathlib.Core.Path.{_≡_};
 ghost use Prim.Native.Nat.{_≤_};
+ghost use Rattle.shaper.specs.Limits.{mostAmount, mostEvents};
 ghost use Rattle.tally.specs.Tally.{startOf, pickOf, fallOf, barOf, stepOf, Within, plainAt};
 use plain::Plain;
 use shaper::Limits;
@@ -37,7 +38,7 @@ pub fn start(lo: u32) -> Tally
 
 // The tally after one event more, whatever it holds; rise is hiLimit - loLimit.
 pub fn step(t: Tally, rise: u64, k: u64, v: u64) -> Tally
-    requires { ⌜ Within 1000000 t × (rise ≤ 1048576) × (v ≤ 65535) ⌝ }
+    requires { ⌜ Within mostEvents t × (rise ≤ 1048576) × (v ≤ mostAmount) ⌝ }
     ensures { λ r. ⌜ r ≡ stepOf rise k v t ⌝ }
 {
     let accrued = pick(k, t.accrued, t.accrued + v);
@@ -58,7 +59,7 @@ pub fn step(t: Tally, rise: u64, k: u64, v: u64) -> Tally
 
 // The summary of the n events that were tallied.
 pub fn finish(limits: Limits, n: u64, t: Tally) -> Plain
-    requires { ⌜ Within 1000000 t ⌝ }
+    requires { ⌜ Within mostEvents t ⌝ }
     ensures { λ r. ⌜ r ≡ plainAt limits n t ⌝ }
 {
     let lo = limits.lo as u64;

@@ -11,10 +11,10 @@ use Rattle.decide.proofs.Cases.{by-cases, le-or}
 use Rattle.ring.specs.declared.Way.{Way}
 use Rattle.ring.specs.declared.Way.the-variants.{Left, Right}
 use Rattle.ring.specs.declared.Choice.the-variants as choice
-use Rattle.ring.specs.Links.{otherOf, nextOf, aheadOf, reachOf}
+use Rattle.ring.specs.Links.{otherOf, nextOf, aheadOf, reachOf, stationAfter}
 use Rattle.ring.specs.Choosing.{distanceOf, reachesOf, chooseOf, Between, Placed}
 use Rattle.ring.proofs.Distances.{whole-ring}
-use Rattle.ring.proofs.Hops.{after, after-lt, after-suc, back, arrives, not-before, run-on, run-ends}
+use Rattle.ring.proofs.Hops.{after-lt, after-suc, back, arrives, not-before, run-on, run-ends}
 use Rattle.decide.proofs.Tests.{failing}
 use Rattle.ring.proofs.Faults.{placed-free, no-way-means}
 use Rattle.wrap.specs.declared.Outcome.the-variants.{Moved}
@@ -29,19 +29,19 @@ pub record Near (n own w at : ℕ) : Type 0 where
   pub way : Way
   pub hops : ℕ
   pub within : hops ≤ reachOf way n own w
-  pub there : at ≡ after way n own hops
+  pub there : at ≡ stationAfter way n own hops
 
 module _ (n own w : ℕ) (station : own < n) (broken : (way : Way) → reachOf way n own w < n) where
   -- on along the run
-  along : (way : Way) (i at : ℕ) → i ≤ reachOf way n own w → at ≡ after way n own i → aheadOf way n w at ≡ true → Near n own w (nextOf way n at)
+  along : (way : Way) (i at : ℕ) → i ≤ reachOf way n own w → at ≡ stationAfter way n own i → aheadOf way n w at ≡ true → Near n own w (nextOf way n at)
   along way i at l e u =
       by-cases (le-or (suc i) (reachOf way n own w))
       (λ k. record { way = way; hops = suc i; within = k; there = ap (nextOf way n) e ∙ sym (after-suc way n own i) })
       (λ k. let same : i ≡ reachOf way n own w = omega arith in
-      absurd (true≢false (sym u ∙ ap (λ (x : ℕ). aheadOf way n w x) (e ∙ ap (after way n own) same) ∙ run-ends way n w n own (broken way))))
+      absurd (true≢false (sym u ∙ ap (λ (x : ℕ). aheadOf way n w x) (e ∙ ap (stationAfter way n own) same) ∙ run-ends way n w n own (broken way))))
 
   -- back along the run, and past its start along the other
-  back-along : (way : Way) (i at : ℕ) → i ≤ reachOf way n own w → at ≡ after way n own i → aheadOf (otherOf way) n w at ≡ true
+  back-along : (way : Way) (i at : ℕ) → i ≤ reachOf way n own w → at ≡ stationAfter way n own i → aheadOf (otherOf way) n w at ≡ true
       → Near n own w (nextOf (otherOf way) n at)
   back-along way zero at l e u = along (otherOf way) zero at zero-le e u
   back-along way (suc i) at l e u =
@@ -49,13 +49,13 @@ module _ (n own w : ℕ) (station : own < n) (broken : (way : Way) → reachOf w
         way = way;
         hops = i;
         within = omega arith;
-        there = ap (nextOf (otherOf way) n) (e ∙ after-suc way n own i) ∙ back way n (after way n own i) (after-lt way n own i station);
+        there = ap (nextOf (otherOf way) n) (e ∙ after-suc way n own i) ∙ back way n (stationAfter way n own i) (after-lt way n own i station);
       }
 
   stays-near : (toward : Way) (at : ℕ) → Near n own w at → aheadOf toward n w at ≡ true → Near n own w (nextOf toward n at)
   stays-near toward at s = go toward (s .way) (s .hops) (s .within) (s .there)
     where
-      go : (toward way : Way) (i : ℕ) → i ≤ reachOf way n own w → at ≡ after way n own i → aheadOf toward n w at ≡ true
+      go : (toward way : Way) (i : ℕ) → i ≤ reachOf way n own w → at ≡ stationAfter way n own i → aheadOf toward n w at ≡ true
           → Near n own w (nextOf toward n at)
       go Left Left i l e = along Left i at l e
       go Left Right i l e = back-along Right i at l e
@@ -112,7 +112,7 @@ module _ (stations own target links : ℕ) (p : Placed stations own target links
 
     -- from i hops on, with k to go
     abbrev rest : ℕ → ℕ → Course
-    rest left i = courseOf stations links target home left atHome (after home stations own i)
+    rest left i = courseOf stations links target home left atHome (stationAfter home stations own i)
 
     -- whether a course delivers, and its hops
     abbrev told : Course → Bool × ℕ
@@ -121,13 +121,13 @@ module _ (stations own target links : ℕ) (p : Placed stations own target links
     straight : (k i left : ℕ) → i + k ≡ far → k ≤ left → told (rest left i) ≡ (true, k)
     straight zero i left e l =
         ap told
-        (delivered-there stations links target home left (after home stations own i)
-        (ap (after home stations own) (let f : i ≡ far = omega arith in f) ∙ arrives stations own target between (p .differ) home))
+        (delivered-there stations links target home left (stationAfter home stations own i)
+        (ap (stationAfter home stations own) (let f : i ≡ far = omega arith in f) ∙ arrives stations own target between (p .differ) home))
     straight (suc k) i zero e l = absurd (omega arith)
     straight (suc k) i (suc left) e l =
         let n = enough in
         ap told
-        (moves-home stations links target home left (after home stations own i)
+        (moves-home stations links target home left (stationAfter home stations own i)
         (not-before stations own target between (p .differ) home i (omega arith))
         (run-on home stations links stations own i (omega arith)))
         ∙ ap

@@ -4,14 +4,15 @@ use mathlib.Core.Path.{_≡_, refl, sym, ap, ap₂, _∙_}
 use mathlib.Core.Bool.{Bool, true, false, cond}
 use mathlib.Core.List.{[], _∷_}
 use mathlib.Core.Logic.{_⊎_, inl, inr, ⊎-elim}
-use Prim.Native.Nat.{ℕ, zero, suc, _+_, _*_, _/_, _%_, _≤_, _<_}
+use Prim.Native.Nat.{ℕ, _+_, _*_, _/_, _%_, _≤_, _<_}
 use native.Mathlib.Omega.{arith}
 use lib.Dec.{eqb}
 use lib.ListN.{length}
 use Rattle.decide.specs.Test.{test}
-use Rattle.decide.specs.Refusal.{fault, firstOf, Given}
-use Rattle.ring.specs.Choosing.{placeFaults, refusedOr, Placed}
-use Rattle.ring.proofs.Faults.{then, then-none, place-then, exactly-by, unrefused, placed as placed-of}
+use Rattle.decide.specs.Refusal.{fault, firstOf, refusedOr, Given}
+use Rattle.decide.proofs.Refused.{carried-by, refused-by, number-by, unrefused}
+use Rattle.ring.specs.Choosing.{placeFaults, Placed}
+use Rattle.ring.proofs.Faults.{then, then-none, place-then, exactly-by, placed as placed-of}
 use Rattle.wrap.specs.declared.Outcome.{Outcome}
 use Rattle.wrap.specs.declared.Outcome.the-variants.{Moved, Refused}
 use Rattle.wrap.specs.Walking.{Course, atHome, packedOf, sideOf, wholeOf, badHome, pathFaults, outcomeOf, pathOf, pathNumber}
@@ -44,17 +45,20 @@ module _ (stations own target links home : ℕ) where
   -- ---- the rows of the answer
 
   pub refused-place : (n : ℕ) → n ≡ place → (n ≡ 0 → ⊥) → Refused n ≡ pathOf stations own target links home
-  refused-place zero e f = absurd (f refl)
-  refused-place (suc n) e f = sym (opened ∙ ap (λ (m : ℕ). answer (then m (row (test (badHome home))))) (sym e))
+  refused-place n e f =
+      let h : 0 < n = omega (arith, f) in
+      sym (opened ∙ ap (λ (m : ℕ). answer (then m (row (test (badHome home))))) (sym e) ∙ ap answer (refused-by _ _ n h) ∙ refused-by _ _ n h)
 
   module _ (placed : place ≡ 0) where
     after : {b : Bool} → test (badHome home) ≡ b → pathOf stations own target links home ≡ answer (row b)
-    after f = opened ∙ ap (λ (m : ℕ). answer (then m (row (test (badHome home))))) placed ∙ ap (λ (c : Bool). answer (row c)) f
+    after f = opened ∙ ap answer (carried-by _ _ _ placed) ∙ ap (λ (c : Bool). answer (row c)) f
 
     pub refused-home : test (badHome home) ≡ true → Refused 3 ≡ pathOf stations own target links home
+    unfolding refusedOr
     refused-home f = sym (after f)
 
     pub found : test (badHome home) ≡ false → outcomeOf whole ≡ pathOf stations own target links home
+    unfolding refusedOr
     found f = sym (after f)
 
     -- a walk's one number is taken apart again
@@ -64,8 +68,7 @@ module _ (stations own target links home : ℕ) where
   -- ---- "Given exactly when"
 
   numbered : (n : ℕ) → pathNumber (answer n) ≡ n
-  numbered zero = refl
-  numbered (suc n) = refl
+  numbered = number-by pathNumber Refused _ (λ m. refl) refl
 
   pub number-first : pathNumber (pathOf stations own target links home) ≡ firstOf (pathFaults stations own target links home)
   unfolding pathOf
@@ -75,8 +78,7 @@ module _ (stations own target links home : ℕ) where
       → (pathOf stations own target links home ≡ Refused n → Given (pathFaults stations own target links home) n)
       × (Given (pathFaults stations own target links home) n → pathOf stations own target links home ≡ Refused n)
   unfolding pathOf
-  refused-exactly zero h = absurd (omega arith)
-  refused-exactly (suc n) h = exactly-by (pathFaults stations own target links home) refl answer pathNumber numbered (suc n) h
+  refused-exactly = exactly-by (pathFaults stations own target links home) refl pathNumber Refused _ (λ m. refl) refl
 
   -- ---- the path's length
 
@@ -84,7 +86,7 @@ module _ (stations own target links home : ℕ) where
   told : (delivered : Bool) (hops : ℕ) → pathOf stations own target links home ≡ Moved delivered hops
       → Placed stations own target links × (Moved delivered hops ≡ outcomeOf whole)
   told delivered hops e =
-      let g = unrefused Refused pathNumber (λ n. refl) (outcomeOf whole) (Moved delivered hops) refl (then place (row (test (badHome home)))) (sym opened ∙ e) in
+      let g = unrefused pathNumber Refused _ (λ n. refl) (then place (row (test (badHome home)))) (Moved delivered hops) (sym e ∙ opened) refl in
       (placed-of stations own target links (then-none place (row (test (badHome home))) (g .0)), g .1)
 
   -- The hops moved are the path's length, at most twice the stations: fewer where the frame is delivered, else all of them, or none. They fit a byte, and every
@@ -109,7 +111,7 @@ module _ (stations own target links home : ℕ) where
       record {
         counted = n;
         within = omega arith;
-        early = λ d. let e = delivered-early stations links target (sideOf home) own (p .station) (sym same-end ∙ d) in omega arith;
+        early = λ d. let e = delivered-early stations links target (sideOf home) (2 * stations) own (p .station) (sym same-end ∙ d) in omega arith;
         lost =
             λ d. ⊎-elim (λ z. inl (n ∙ z)) (λ z. inr (n ∙ z))
             (undelivered-hops stations links target (sideOf home) (2 * stations) own (p .station) (p .differ) (sym same-end ∙ d));

@@ -1,5 +1,5 @@
--- A delivered path takes fewer than 2 × stations hops. Where a frame stands, and on which ringlet, says how many hops it has still to go; so it meets
--- no station twice on one ringlet, and there are 2 × stations of such places. Assumes nothing.
+-- A delivered path takes fewer than 2 × stations hops, so more hops would deliver no other frame. Where a frame stands, and on which ringlet, says how many hops it
+-- has still to go; so it meets no station twice on one ringlet, and there are 2 × stations of such places. Assumes nothing.
 use mathlib.Core.Path.{_≡_, refl, sym, ap, _∙_, subst}
 use mathlib.Core.Bool.{Bool, true, false, cond, true≢false}
 use Prim.Native.Nat.{ℕ, zero, suc, _+_, _-_, _*_, _≤_, _<_, zero-le, suc-le-suc}
@@ -7,7 +7,7 @@ use native.Mathlib.Omega.{arith}
 use lib.Dec.{eqb, ltb}
 use lib.ListN.{length}
 use borrow.Author.Tests.{eqb-true, eq-eqb, ne-eqb, lt-ltb, le-ltb}
-use Rattle.decide.proofs.Cases.{by-cases, le-or}
+use Rattle.decide.proofs.Cases.{by-cases, le-or, true-or-false}
 use Rattle.ring.specs.declared.Way.{Way}
 use Rattle.ring.specs.Links.{otherOf, nextOf, aheadOf}
 use Rattle.ring.proofs.Around.{nextOf-lt}
@@ -92,62 +92,87 @@ module _ (stations links target : ℕ) (home : Way) where
 
   -- ---- the places: each station on the home side, and then each on the opposite ringlet
 
-  abbrev enough : ℕ
-  enough = suc (2 * stations)
-
   placeOf : Ringlet → ℕ → ℕ
   placeOf atHome at = at
   placeOf opposite at = stations + at
-
-  -- the hops still to go from a place
-  togo : ℕ → ℕ
-  togo v = cond (ltb v stations) (length (course enough atHome v .links)) (length (course enough opposite (v - stations) .links))
-
-  togo-from : (on : Ringlet) (at : ℕ) → at < stations → togo (placeOf on at) ≡ length (course enough on at .links)
-  unfolding placeOf togo
-  togo-from atHome at h = rw (lt-ltb at stations h)
-  togo-from opposite at h =
-      rw (le-ltb (stations + at) stations (omega arith))
-      (ap (λ (x : ℕ). length (course enough opposite x .links)) (let e : stations + at - stations ≡ at = omega arith in e))
 
   place-lt : (on : Ringlet) (at : ℕ) → at < stations → placeOf on at < 2 * stations
   unfolding placeOf
   place-lt atHome at h = omega arith
   place-lt opposite at h = omega arith
 
-  -- where a frame stands bears the hops that it has still to go
-  stands : (left : ℕ) (on : Ringlet) (at : ℕ) → at < stations → course left on at .delivered ≡ true → length (course left on at .links) < enough
-      → Borne togo (2 * stations) (length (course left on at .links))
-  stands left on at h d l =
-      record {
-        place = placeOf on at;
-        below = place-lt on at h;
-        bears = togo-from on at h ∙ ap (λ (c : Course). length (c .links)) (settled left enough on at .same d l);
-      }
+  -- of courses with so many hops left
+  module _ (most : ℕ) where
+    abbrev enough : ℕ
+    enough = suc most
 
-  -- so do the places behind it: all the numbers up to a course's length are borne, if those below it are
-  up-to : (left : ℕ) (on : Ringlet) (at : ℕ) → at < stations → course left on at .delivered ≡ true → length (course left on at .links) < enough
-      → ((i : ℕ) → i < length (course left on at .links) → Borne togo (2 * stations) i)
-      → (i : ℕ) → i < suc (length (course left on at .links)) → Borne togo (2 * stations) i
-  up-to left on at h d l below i k =
-      by-cases (le-or (suc i) (length (course left on at .links)))
-      (λ q. below i q)
-      (λ q. subst (Borne togo (2 * stations)) (let e : length (course left on at .links) ≡ i = omega arith in e) (stands left on at h d l))
+    -- the hops still to go from a place
+    togo : ℕ → ℕ
+    togo v = cond (ltb v stations) (length (course enough atHome v .links)) (length (course enough opposite (v - stations) .links))
 
-  abbrev Passed : ℕ → Course → Type 0
-  Passed left c = c .delivered ≡ true → length (c .links) < enough → (i : ℕ) → i < length (c .links) → Borne togo (2 * stations) i
+    togo-from : (on : Ringlet) (at : ℕ) → at < stations → togo (placeOf on at) ≡ length (course enough on at .links)
+    unfolding placeOf togo
+    togo-from atHome at h = rw (lt-ltb at stations h)
+    togo-from opposite at h =
+        rw (le-ltb (stations + at) stations (omega arith))
+        (ap (λ (x : ℕ). length (course enough opposite x .links)) (let e : stations + at - stations ≡ at = omega arith in e))
 
-  passed : (left : ℕ) (on : Ringlet) (at : ℕ) → at < stations → Passed left (course left on at)
-  passed =
-      of-course stations links target home (λ at. at < stations) (λ way at h u. nextOf-lt way stations at h) Passed
-      (λ left at d h t e f l i k. absurd (omega arith))
-      (λ left link on at h u r d l. let m : length (course left on at .links) < enough = omega arith in up-to left on at h d m (r d m))
+    -- where a frame stands bears the hops that it has still to go
+    stands : (left : ℕ) (on : Ringlet) (at : ℕ) → at < stations → course left on at .delivered ≡ true → length (course left on at .links) < enough
+        → Borne togo (2 * stations) (length (course left on at .links))
+    stands left on at h d l =
+        record {
+          place = placeOf on at;
+          below = place-lt on at h;
+          bears = togo-from on at h ∙ ap (λ (c : Course). length (c .links)) (settled left enough on at .same d l);
+        }
 
-  -- A delivered course takes fewer than 2 × stations hops: so it is the same whether delivery or the hops left are tested first.
-  pub delivered-early : (own : ℕ) → own < stations → course (2 * stations) atHome own .delivered ≡ true
-      → length (course (2 * stations) atHome own .links) < 2 * stations
-  delivered-early own h d =
-      let l = short stations links target home (2 * stations) atHome own in
-      let m : length (course (2 * stations) atHome own .links) < enough = omega arith in
-      fewer (2 * stations) (suc (length (course (2 * stations) atHome own .links))) togo
-      (up-to (2 * stations) atHome own h d m (passed (2 * stations) atHome own h d m))
+    -- so do the places behind it: all the numbers up to a course's length are borne, if those below it are
+    up-to : (left : ℕ) (on : Ringlet) (at : ℕ) → at < stations → course left on at .delivered ≡ true → length (course left on at .links) < enough
+        → ((i : ℕ) → i < length (course left on at .links) → Borne togo (2 * stations) i)
+        → (i : ℕ) → i < suc (length (course left on at .links)) → Borne togo (2 * stations) i
+    up-to left on at h d l below i k =
+        by-cases (le-or (suc i) (length (course left on at .links)))
+        (λ q. below i q)
+        (λ q. subst (Borne togo (2 * stations)) (let e : length (course left on at .links) ≡ i = omega arith in e) (stands left on at h d l))
+
+    abbrev Passed : ℕ → Course → Type 0
+    Passed left c = c .delivered ≡ true → length (c .links) < enough → (i : ℕ) → i < length (c .links) → Borne togo (2 * stations) i
+
+    passed : (left : ℕ) (on : Ringlet) (at : ℕ) → at < stations → Passed left (course left on at)
+    passed =
+        of-course stations links target home (λ at. at < stations) (λ way at h u. nextOf-lt way stations at h) Passed
+        (λ left at d h t e f l i k. absurd (omega arith))
+        (λ left link on at h u r d l. let m : length (course left on at .links) < enough = omega arith in up-to left on at h d m (r d m))
+
+    -- A delivered course takes fewer than 2 × stations hops, however many it may take.
+    pub delivered-early : (own : ℕ) → own < stations → course most atHome own .delivered ≡ true → length (course most atHome own .links) < 2 * stations
+    delivered-early own h d =
+        let l = short stations links target home most atHome own in
+        let m : length (course most atHome own .links) < enough = omega arith in
+        fewer (2 * stations) (suc (length (course most atHome own .links))) togo (up-to most atHome own h d m (passed most atHome own h d m))
+
+  -- ---- more hops than 2 × stations
+
+  module _ (more own : ℕ) (station : own < stations) (no-fewer : 2 * stations ≤ more) where
+    -- a course that is delivered takes so few hops that more of them leave it as it is,
+    pub same-course : course (2 * stations) atHome own .delivered ≡ true → course more atHome own ≡ course (2 * stations) atHome own
+    same-course d = let l = delivered-early (2 * stations) own station d in settled (2 * stations) more atHome own .same d (omega arith)
+
+    -- and so few that it needs no more of them:
+    no-later : course more atHome own .delivered ≡ true → course more atHome own ≡ course (2 * stations) atHome own
+    no-later d = sym (settled more (2 * stations) atHome own .same d (delivered-early more own station d))
+
+    -- more hops deliver no other frame.
+    pub more-hops : course more atHome own .delivered ≡ course (2 * stations) atHome own .delivered
+    more-hops =
+        by-cases (true-or-false (course more atHome own .delivered))
+        (λ d. ap (λ (c : Course). c .delivered) (no-later d))
+        (λ d. by-cases (true-or-false (course (2 * stations) atHome own .delivered))
+        (λ e. ap (λ (c : Course). c .delivered) (same-course e))
+        (λ e. d ∙ sym e))
+
+  -- One hop more than 2 × stations delivers no other frame. So it cannot be seen whether delivery or the hop limit is tested first, on either ringlet: a frame
+  -- that another order would deliver just as its last hop is used is delivered with a hop more.
+  pub one-hop-more : (own : ℕ) → own < stations → course (2 * stations + 1) atHome own .delivered ≡ course (2 * stations) atHome own .delivered
+  one-hop-more own h = more-hops (2 * stations + 1) own h (omega arith)

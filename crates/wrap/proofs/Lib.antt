@@ -1,3 +1,4 @@
+pub mod Exactly
 pub mod Courses
 mod Steps
 pub mod Early

@@ -6,11 +6,11 @@ use mathlib.Core.List.{List, [], _∷_, _++_}
 use lib.Dec.{eqb}
 use lib.ListN.{length}
 use Rattle.decide.specs.Test.{Test, test, _<?_, _∨?_}
-use Rattle.decide.specs.Refusal.{Fault, fault, firstOf}
+use Rattle.decide.specs.Refusal.{Fault, fault, firstOf, refusedOr}
 use Rattle.ring.specs.declared.Way.{Way}
 use Rattle.ring.specs.declared.Way.the-variants.{Left, Right}
 use Rattle.ring.specs.Links.{otherOf, nextOf, linkOf, aheadOf}
-use Rattle.ring.specs.Choosing.{placeFaults, refusedOr}
+use Rattle.ring.specs.Choosing.{placeFaults}
 use Rattle.wrap.specs.declared.Outcome.{Outcome}
 use Rattle.wrap.specs.declared.Outcome.the-variants.{Moved, Refused}
 

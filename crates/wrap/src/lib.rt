@@ -81,7 +81,7 @@ fn opposite_walk(
         return 2 * moved;
     }
     let away = ring::other(home);
-    if ahead(away, stations, links, at) {
+    if moves_on(away, stations, links, target, at) {
         let on = next(away, stations, at);
         return opposite_walk(stations, links, target, home, left - 1, on, 1, moved + 1);
     }
@@ -89,6 +89,14 @@ fn opposite_walk(
         return 2 * moved;
     }
     home_walk(stations, links, target, home, left, at, 0, moved)
+}
+
+// Whether a frame on the opposite ringlet moves on from a station: where the link ahead is usable, at its target too.
+fn moves_on(away: Way, stations: u64, links: u64, target: u64, at: u64) -> bool
+    requires { ⌜ Stops stations at ⌝ }
+    ensures { λ r. ⌜ r ≡ aheadOf away stations links at ⌝ }
+{
+    ahead(away, stations, links, at)
 }
 
 // Whether the link ahead of a station is usable.

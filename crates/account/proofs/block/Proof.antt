@@ -9,6 +9,7 @@ use borrow.Author.Needs.{needs}
 use lib.ListN.{length}
 use Rattle.shaper.specs.declared.Limits.{Limits}
 use Rattle.wire.specs.Wire.{le}
+use Rattle.shaper.specs.Limits.{mostEvents}
 use Rattle.tally.specs.Tally.{Within, Ready}
 use Rattle.tally.proofs.Laws.{step-within}
 use Rattle.record.proofs.Steps.{GoodAt}
@@ -100,7 +101,7 @@ loop-again c =
     let ex : x .result ≡ le 2 (a .s .now) (a .from + 6 * L .i) = cc in
     let ek : k .result ≡ le 2 (a .s .now) (a .from + 6 * L .i + 2) = cc in
     let ev : v .result ≡ le 2 (a .s .now) (a .from + 6 * L .i + 4) = cc in
-    let few : a .n + L .i < 1000000 = omega arith in
+    let few : a .n + L .i < mostEvents = omega arith in
     let room : a .from + 6 * L .i + 6 ≤ length (a .s .now) = omega arith in (
       omega arith,
       omega arith,

@@ -3,6 +3,7 @@
 use mathlib.Core.Path.{sym, _∙_}
 use Rattle.ring.proofs.Rows.{goes-regardless, goes-first, goes-second, goes-nowhere}
 use borrow.Author.Needs.{needs}
+use borrow.Author.Tests.{not-true, not-false}
 use Rattle.ring.proofs.goes.Statement.{statement}
 use Rattle.ring.proofs.goes.Tie as tie
 
@@ -41,11 +42,25 @@ other-requires c κs = search needs
 reaches-requires-2 : tie.Need-reaches-requires-2
 reaches-requires-2 c κs = search needs
 
+returns-3 : tie.Need-returns-3
+returns-3 c =
+    let two = c .before in
+    let turned = two .before in
+    let one = turned .before .before in
+    let start = one .before .before in
+    let a = start .before .args in
+    goes-nowhere (a .stations) (a .own) (a .target) (a .links) (a .side) (a .protection) (a .ring) (start .preferred .result) (start .preferred .ensures)
+    (one .before .if1 .left)
+    (sym (one .reaches .ensures) ∙ turned .before .if2 .left)
+    (turned .other .result)
+    (turned .other .ensures)
+    (sym (two .reaches2 .ensures) ∙ not-true (two .reaches2 .result) (c .if3 .taken))
+
 along-requires-3 : tie.Need-along-requires-3
 along-requires-3 c κs = search needs
 
-returns-3 : tie.Need-returns-3
-returns-3 c =
+returns-4 : tie.Need-returns-4
+returns-4 c =
     let two = c .before .before in
     let turned = two .before in
     let one = turned .before .before in
@@ -57,21 +72,7 @@ returns-3 c =
     (sym (one .reaches .ensures) ∙ turned .before .if2 .left)
     (turned .other .result)
     (turned .other .ensures)
-    (sym (two .reaches2 .ensures) ∙ c .before .if3 .taken)
-
-returns-4 : tie.Need-returns-4
-returns-4 c =
-    let two = c .before in
-    let turned = two .before in
-    let one = turned .before .before in
-    let start = one .before .before in
-    let a = start .before .args in
-    goes-nowhere (a .stations) (a .own) (a .target) (a .links) (a .side) (a .protection) (a .ring) (start .preferred .result) (start .preferred .ensures)
-    (one .before .if1 .left)
-    (sym (one .reaches .ensures) ∙ turned .before .if2 .left)
-    (turned .other .result)
-    (turned .other .ensures)
-    (sym (two .reaches2 .ensures) ∙ c .if3 .left)
+    (sym (two .reaches2 .ensures) ∙ not-false (two .reaches2 .result) (c .before .if3 .left))
 
 pub goes-spec : {M : Type 1} → statement M
 goes-spec =
@@ -85,6 +86,6 @@ goes-spec =
     returns-2
     other-requires
     reaches-requires-2
-    along-requires-3
     returns-3
+    along-requires-3
     returns-4)

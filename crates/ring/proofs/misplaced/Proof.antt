@@ -1,8 +1,10 @@
 -- `ring::misplaced` meets its contract: each return is a row of the definition.
 -- Assumes nothing.
+use native.Mathlib.Omega.{arith}
 use borrow.Author.Tests.{lt-ltb, le-ltb}
 use Rattle.decide.specs.Test.{test}
-use Rattle.ring.proofs.Faults.{bad-size, bad-word, bad-index, good, size-in}
+use Rattle.ring.proofs.Faults.{bad-size, bad-word, bad-index, good}
+use Rattle.ring.proofs.Exactly.{size-exactly}
 use Rattle.ring.proofs.misplaced.Statement.{statement}
 use Rattle.ring.proofs.misplaced.Tie as tie
 
@@ -15,8 +17,8 @@ returns c =
 shr-if2 : tie.Need-shr-if2
 unfolding test
 shr-if2 c =
-    let a = c .before .args in
-    size-in (a .stations) (a .own) (a .target) (a .links) (c .if1 .left) .1
+    let h = size-exactly (c .before .args .stations) .0 (c .if1 .left) in
+    omega arith
 
 returns-2 : tie.Need-returns-2
 unfolding test

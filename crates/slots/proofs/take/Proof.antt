@@ -2,7 +2,7 @@
 -- Assumes nothing.
 use Prim.Native.Nat.{_%_}
 use native.Mathlib.Omega.{arith}
-use Rattle.queue.specs.Queue.{firstOf, taken}
+use Rattle.queue.specs.Queue.{firstFrame, taken}
 use Rattle.slots.specs.Slots.{queueAt}
 use Rattle.slots.proofs.Anew.{slot-get}
 use borrow.Author.Needs.{needs}
@@ -64,7 +64,7 @@ same-length : tie.Need-same-length
 same-length c = search needs
 
 returns : tie.Need-returns
-unfolding taken firstOf
+unfolding taken firstFrame
 returns c =
     let made : _ = c .before .before in
     let fewer : _ = made .before .before in

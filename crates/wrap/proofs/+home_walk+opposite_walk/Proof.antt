@@ -16,6 +16,7 @@ use Rattle.wrap.proofs.opposite_walk.Kinds as opposite-walk-kinds
 use Rattle.wrap.proofs.+home_walk+opposite_walk.Lts-opposite_walk as opposite-walk-lts
 use Rattle.ring.proofs.other.Reads as other-reads
 use Rattle.wrap.proofs.ahead.Reads as ahead-reads
+use Rattle.wrap.proofs.moves_on.Reads as moves-on-reads
 use Rattle.wrap.proofs.next.Reads as next-reads
 use Rattle.wrap.proofs.+home_walk+opposite_walk.{statement}
 use Rattle.wrap.proofs.+home_walk+opposite_walk.Tie.{close}
@@ -61,8 +62,8 @@ abbrev opposite-walk-calls : ℕ → opposite-walk-lts.Claims
 opposite-walk-calls t = (
   other-reads.Asked,
   other-reads.Learnt,
-  ahead-reads.Asked,
-  ahead-reads.Learnt,
+  moves-on-reads.Asked,
+  moves-on-reads.Learnt,
   next-reads.Asked,
   next-reads.Learnt,
   opposite-walk-below t,
@@ -156,8 +157,8 @@ opposite-walk-returns t c =
 opposite-walk-other-requires : (t : ℕ) → opposite-walk-lts.Need-other-requires (opposite-walk-calls t) (opposite-walk-at t) opposite-walk.Post
 opposite-walk-other-requires t c κs = search needs
 
-opposite-walk-ahead-requires : (t : ℕ) → opposite-walk-lts.Need-ahead-requires (opposite-walk-calls t) (opposite-walk-at t) opposite-walk.Post
-opposite-walk-ahead-requires t c κs = search needs
+opposite-walk-moves-on-requires : (t : ℕ) → opposite-walk-lts.Need-moves-on-requires (opposite-walk-calls t) (opposite-walk-at t) opposite-walk.Post
+opposite-walk-moves-on-requires t c κs = search needs
 
 opposite-walk-next-requires : (t : ℕ) → opposite-walk-lts.Need-next-requires (opposite-walk-calls t) (opposite-walk-at t) opposite-walk.Post
 opposite-walk-next-requires t c κs = search needs
@@ -184,8 +185,8 @@ opposite-walk-returns-2 t c =
     moves-away (a .stations) (a .links) (a .target) (a .home) (a .left) (a .at) (a .moved) (turned .before .if1 .left)
     (turned .other .result)
     (turned .other .ensures)
-    (seen .ahead .result)
-    (seen .ahead .ensures)
+    (seen .moves-on .result)
+    (seen .moves-on .ensures)
     (on .before .if2 .taken)
     (on .next .ensures)
     (c .opposite-walk .ensures)
@@ -203,8 +204,8 @@ opposite-walk-returns-3 t c =
     caught-away (a .stations) (a .links) (a .target) (a .home) (a .left) (a .at) (a .moved) (turned .before .if1 .left)
     (turned .other .result)
     (turned .other .ensures)
-    (seen .ahead .result)
-    (seen .ahead .ensures)
+    (seen .moves-on .result)
+    (seen .moves-on .ensures)
     (p .1)
     (p .0)
     (c .before .if2 .left)
@@ -219,8 +220,8 @@ opposite-walk-home-walk-requires t c κs =
     behind (a .stations) (a .links) (a .target) (a .home) (a .left) (a .at) (a .moved) (turned .before .if1 .left)
     (turned .other .result)
     (turned .other .ensures)
-    (seen .ahead .result)
-    (seen .ahead .ensures)
+    (seen .moves-on .result)
+    (seen .moves-on .ensures)
     (c .before .if2 .left) in
     (omega arith, (start .pre .1 .0, λ z. b))
 
@@ -233,8 +234,8 @@ opposite-walk-returns-4 t c =
     turned-back (a .stations) (a .links) (a .target) (a .home) (a .left) (a .at) (a .moved) (turned .before .if1 .left)
     (turned .other .result)
     (turned .other .ensures)
-    (seen .ahead .result)
-    (seen .ahead .ensures)
+    (seen .moves-on .result)
+    (seen .moves-on .ensures)
     (c .before .before .if2 .left) in
     c .home-walk .ensures ∙ ap (packedOf (a .moved)) (sym back)
 
@@ -263,7 +264,7 @@ pub +home-walk+opposite-walk-spec : {M : Type 1} → statement M
     (opposite-walk-mul-result t)
     (opposite-walk-returns t)
     (opposite-walk-other-requires t)
-    (opposite-walk-ahead-requires t)
+    (opposite-walk-moves-on-requires t)
     (opposite-walk-next-requires t)
     (opposite-walk-sub-opposite-walk t)
     (opposite-walk-add-opposite-walk t)

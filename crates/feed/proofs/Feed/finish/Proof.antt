@@ -26,7 +26,7 @@ returns-3 : tie.Need-returns-3
 returns-3 c = sym (finish-whole _ _ (c .before .before .before .stage .given .1) (omega (arith, c .if1 .left)))
 
 returns-4 : tie.Need-returns-4
-returns-4 c = sym (finish-stopped _ _ (c .before .stage2 .given .1))
+returns-4 c = sym (finish-stopped (c .before .before .before .args .self) _ (c .before .stage2 .given .1))
 
 pub finish-spec : {M : Type 1} → statement M
 finish-spec =

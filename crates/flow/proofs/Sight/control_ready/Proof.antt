@@ -8,7 +8,7 @@ use lib.Dec.{leb}
 use Rattle.decide.specs.Test.{test, _≤?_, _<?_, left, denied}
 use Rattle.shaper.specs.Credit.{permits}
 use Rattle.queue.specs.declared.Frame.{Frame}
-use Rattle.queue.specs.Queue.{firstOf, spaceOf}
+use Rattle.queue.specs.Queue.{firstFrame, spaceOf}
 use Rattle.settings.specs.declared.Settings.{Settings}
 use Rattle.flow.specs.declared.Flow.{Flow}
 use Rattle.flow.specs.Select.{controlReady}
@@ -20,7 +20,7 @@ use Rattle.flow.proofs.Sight.control_ready.Statement.{statement}
 use Rattle.flow.proofs.Sight.control_ready.Tie as tie
 
 -- the tests of a queue that holds a frame, of what was asked
-ready : (s : Settings) (f : Flow) {permitted : Bool} {size primary secondary : ℕ} → test (0 <? f .control .count) ≡ true → size ≡ firstOf (f .control) .size
+ready : (s : Settings) (f : Flow) {permitted : Bool} {size primary secondary : ℕ} → test (0 <? f .control .count) ≡ true → size ≡ firstFrame (f .control) .size
     → primary ≡ spaceOf (f .primary) (s .queues .primary) → secondary ≡ spaceOf (f .secondary) (s .queues .secondary)
     → permitted ≡ permits (f .credits .m) (s .shapers .m .lo)
     → ((leb size primary && leb size secondary) && permitted) ≡ test (controlReady s f)
@@ -28,8 +28,8 @@ unfolding test
 ready s f h z p q m =
     rw (h, z, p, q, m)
     (chain
-    (firstOf (f .control) .size ≤? spaceOf (f .primary) (s .queues .primary))
-    ((firstOf (f .control) .size ≤? spaceOf (f .secondary) (s .queues .secondary)) ∷ (s .shapers .m .lo <? f .credits .m) ∷ []))
+    (firstFrame (f .control) .size ≤? spaceOf (f .primary) (s .queues .primary))
+    ((firstFrame (f .control) .size ≤? spaceOf (f .secondary) (s .queues .secondary)) ∷ (s .shapers .m .lo <? f .credits .m) ∷ []))
 
 holds-frame-requires : tie.Need-holds-frame-requires
 holds-frame-requires c κs = search needs

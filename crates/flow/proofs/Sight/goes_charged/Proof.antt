@@ -2,7 +2,7 @@
 -- Assumes nothing.
 use mathlib.Core.Path.{_≡_, sym, _∙_}
 use mathlib.Core.List.{[], _∷_}
-use Rattle.queue.specs.Queue.{firstOf}
+use Rattle.queue.specs.Queue.{firstFrame}
 use Rattle.queue.specs.Front.{fronted}
 use Rattle.flow.specs.Pick.{frontAt}
 use Rattle.flow.specs.Which.{sends, fed}
@@ -24,7 +24,7 @@ returns c =
     let f = x .self in
     let e : out .goes .result ≡ ofFront f (f .credits) (x .line) = out .goes .ensures ∙ front-picked f (f .credits) (x .line) in
     rw (c .charge .ensures, e, front-seen f (x .line))
-    (sym (front-picked f (fed (x .settings) (f .credits) (sends (x .which ∷ []) (firstOf (fronted (frontAt f (x .line))) .size))) (x .line)))
+    (sym (front-picked f (fed (x .settings) (f .credits) (sends (x .which ∷ []) (firstFrame (fronted (frontAt f (x .line))) .size))) (x .line)))
 
 pub goes-charged-spec : {M : Type 1} → statement M
 goes-charged-spec = tie.close (tie.spec goes-requires charge-requires returns)

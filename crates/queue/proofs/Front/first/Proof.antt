@@ -1,7 +1,7 @@
 -- The first slot of such a queue holds the word.
 -- Assumes nothing.
 use borrow.Author.Needs.{needs}
-use Rattle.queue.specs.Queue.{firstOf}
+use Rattle.queue.specs.Queue.{firstFrame}
 use Rattle.queue.proofs.Front.first.Statement.{statement}
 use Rattle.queue.proofs.Front.first.Tie as tie
 
@@ -9,7 +9,7 @@ of-requires : tie.Need-of-requires
 of-requires c κs = search needs
 
 returns : tie.Need-returns
-unfolding firstOf
+unfolding firstFrame
 returns c = c .of .ensures
 
 pub first-spec : {M : Type 1} → statement M

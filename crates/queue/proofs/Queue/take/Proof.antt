@@ -2,7 +2,7 @@
 -- Assumes nothing.
 use mathlib.Core.Path.{refl}
 use borrow.Author.Needs.{needs}
-use Rattle.queue.specs.Queue.{firstOf, taken}
+use Rattle.queue.specs.Queue.{firstFrame, taken}
 use Rattle.queue.proofs.Queue.take.Statement.{statement}
 use Rattle.queue.proofs.Queue.take.Tie as tie
 
@@ -55,7 +55,7 @@ cast-next-4 : tie.Need-cast-next-4
 cast-next-4 c = search needs
 
 returns : tie.Need-returns
-unfolding firstOf taken
+unfolding firstFrame taken
 returns c = rw (c .less2 .ensures, c .before .before .less .ensures, c .before .before .before .of .ensures) refl
 
 pub take-spec : {M : Type 1} → statement M

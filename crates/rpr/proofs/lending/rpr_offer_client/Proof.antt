@@ -35,7 +35,7 @@ returns-2 c =
     let tested : _ = called .before .before .before in
     let said = rw (called .before .read .ensures) at (called .offer-client .ensures) in
     whole-gives _ (tested .before .before .args .station .now) _ (tested .if1 .left) _ _ _
-    (taken-back _ _ _ _ _ said (turned-down _ _ _ _ (c .before .if2 .taken)))
+    (taken-back _ _ _ _ _ _ said (turned-down _ _ _ _ (c .before .if2 .taken)))
 
 write-credits-requires : tie.Need-write-credits-requires
 write-credits-requires c κs = search needs
@@ -57,11 +57,12 @@ returns-3 c =
     let left : _ = charged .before .before .before .before in
     let called : _ = left .before .before in
     let tested : _ = called .before .before .before in
-    let xs : _ = tested .before .before .args .station .now in
+    let a : _ = tested .before .before .args in
+    let xs : _ = a .station .now in
     let said = rw (called .before .read .ensures) at (called .offer-client .ensures) in
     let b =
-    taken-left xs _ _ _ _ said (left .if2 .left) (λ (f : Flow). stageIn (creditsIn xs f) f)
-    (client-written xs (λ j. tested .before .slice-known .given j .fits) (tested .if1 .left) _ _ _) in
+    taken-left xs _ _ _ _ _ said (left .if2 .left) (λ (f : Flow). stageIn (creditsIn xs f) f)
+    (client-written xs (λ j. tested .before .slice-known .given j .fits) (tested .if1 .left) (a .class) (a .size) (a .hops)) in
     let both = staged .write-stage .ensures ∙ ap (λ (l : List ℕ). stageIn l (called .offer-client .result .station .flow)) (charged .write-credits .ensures) in
     whole-gives _ xs _ (tested .if1 .left) _ _ _ (c .marked .ensures ∙ b .0, both ∙ b .1)
 

@@ -1,7 +1,7 @@
 -- Each refusal by its row; the ceiling at the depth of the size.
 -- Assumes nothing.
 use Prim.Native.Nat.{_+_}
-use mathlib.Core.Bool.{true}
+use mathlib.Core.Bool.{true, false}
 use mathlib.Core.Path.{_≡_, sym, ap, _∙_}
 use borrow.Author.Tests.{not-true, not-false}
 use native.Mathlib.Omega.{arith}
@@ -9,12 +9,14 @@ use lib.IntN.{ℤ}
 use mir.Facts.{toZ-ofZ}
 use mir.Syntax.{w64}
 use mir.Val.{toZ, ofZ}
-use Rattle.decide.specs.Test.{test}
+use Rattle.decide.specs.Test.{test, passes, decided}
+use Rattle.shaper.specs.declared.Event.the-variants.{Send}
 use Rattle.shaper.specs.Limits.{limitsOk}
+use Rattle.shaper.specs.Credit.{eventOk}
 use Rattle.plain.proofs.Ceiling.{ceiling-fits}
 use Rattle.summary.specs.declared.Answer.{Answer}
 use Rattle.summary.proofs.Integers.{pos-less}
-use Rattle.summary.proofs.Rows.{single-1, single-3, single-made, too-small, too-large, fits-size}
+use Rattle.summary.proofs.Rows.{single-1, single-3, single-made}
 use borrow.Author.Needs.{needs}
 use Rattle.summary.proofs.Summary.send.Statement.{statement}
 use Rattle.summary.proofs.Summary.send.Tie as tie
@@ -29,10 +31,10 @@ returns : tie.Need-returns
 returns c = sym (single-1 _ _ (sym (c .before .in-range .ensures) ∙ not-true _ (c .if1 .taken)))
 
 returns-2 : tie.Need-returns-2
-returns-2 c = sym (single-3 _ _ (settings (c .before)) (too-small (c .before .before .before .args .limits) _ (c .if2 .taken)))
+returns-2 c = sym (single-3 _ _ (settings (c .before)) (sym (decided (eventOk (c .before .before .before .args .limits) (Send _)) false (λ h. omega arith))))
 
 returns-3 : tie.Need-returns-3
-returns-3 c = sym (single-3 _ _ (settings (c .before .before .before)) (too-large (c .before .before .before .before .before .args .limits) _ (c .if3 .taken)))
+returns-3 c = sym (single-3 _ _ (settings (c .before .before .before)) (sym (decided (eventOk (c .before .before .before .before .before .args .limits) (Send _)) false (λ h. omega arith))))
 
 ceiling-of-requires : tie.Need-ceiling-of-requires
 ceiling-of-requires c κs = search needs
@@ -51,7 +53,7 @@ returns-4 c =
     (ap (λ (x : ℤ). toZ w64 (ofZ w64 x)) (c .before .ceiling-of .ensures)
     ∙ toZ-ofZ (record { sfits = ceiling-fits (l .hi) z (omega arith) (omega arith) })
     ∙ sym (pos-less (l .hi) z))
-    ∙ sym (single-made _ _ (settings (c .before .before .before .before .before)) (fits-size l _ (c .before .before .before .before .if2 .left) (c .before .before .if3 .left)))
+    ∙ sym (single-made _ _ (settings (c .before .before .before .before .before)) (passes (eventOk l (Send z)) (omega arith)))
 
 pub send-spec : {M : Type 1} → statement M
 send-spec =

@@ -1,0 +1,190 @@
+-- The definitions say what stands there: nearly all by what they are.
+-- Assumes nothing.
+use Prim.Native.Nat.{ℕ, _+_, _-_, _%_, _<_}
+use mathlib.Core.Bool.{true}
+use mathlib.Core.List.{List, _∷_}
+use mathlib.Core.Path.{_≡_, refl, ap, _∙_}
+use native.Mathlib.Nat.{mod-eq-of-lt, add-mod-right}
+use native.Mathlib.Omega.{arith}
+use borrow.Author.Tests.{eq-eqb, ne-eqb, ltb-true, lt-ltb}
+use Rattle.wire.specs.Wire.{le, be, digits, put}
+use Rattle.slots.specs.Slots.{wordsAt}
+use Rattle.queue.specs.Queue.{sizes}
+use Rattle.flow.specs.declared.Which.{Which}
+use Rattle.flow.specs.declared.Which.the-variants.{M, A, B, C, D}
+use Rattle.flow.specs.Which.{numberOf, member}
+use Rattle.flow.proofs.Held.{head-first}
+use Rattle.rates.specs.Rates.{partOf, smoothedOf, agedOf, rampedOf, allowanceOf, ownRateOf, countedOf, shareOf}
+use Rattle.answer.specs.Bytes.{bitOf}
+use Rattle.ring.specs.declared.Way.the-variants.{Left}
+use Rattle.ring.specs.Links.{nextOf}
+use Rattle.station.specs.declared.Station.{Station}
+use Rattle.paper.specs.Names.{ShaperNames, QueueNames, RateNames, PartNames, EntryNames, HistoryNames, RingNames, ByteNames, Names}
+
+-- ---- shapers
+
+first : (w : Which) (ws : List Which) → member w (w ∷ ws) ≡ true
+first M ws = refl
+first A ws = refl
+first B ws = refl
+first C ws = refl
+first D ws = refl
+
+-- two shapers have two numbers
+same-which : (v w : Which) → numberOf v ≡ numberOf w → v ≡ w
+same-which M M e = refl
+same-which M A e = absurd (omega arith)
+same-which M B e = absurd (omega arith)
+same-which M C e = absurd (omega arith)
+same-which M D e = absurd (omega arith)
+same-which A M e = absurd (omega arith)
+same-which A A e = refl
+same-which A B e = absurd (omega arith)
+same-which A C e = absurd (omega arith)
+same-which A D e = absurd (omega arith)
+same-which B M e = absurd (omega arith)
+same-which B A e = absurd (omega arith)
+same-which B B e = refl
+same-which B C e = absurd (omega arith)
+same-which B D e = absurd (omega arith)
+same-which C M e = absurd (omega arith)
+same-which C A e = absurd (omega arith)
+same-which C B e = absurd (omega arith)
+same-which C C e = refl
+same-which C D e = absurd (omega arith)
+same-which D M e = absurd (omega arith)
+same-which D A e = absurd (omega arith)
+same-which D B e = absurd (omega arith)
+same-which D C e = absurd (omega arith)
+same-which D D e = refl
+
+shapers : ShaperNames
+shapers =
+    record {
+      settings = λ s. (refl, refl, refl, refl, refl);
+      credits = λ c. (refl, refl, refl, refl, refl);
+      limits = λ s w. refl;
+      permitted = λ credit lo. (ltb-true lo credit, lt-ltb lo credit);
+      ticks = λ x. (refl, refl);
+      nobody = λ w. refl;
+      first = first;
+      further = λ v w ws n. rw (ne-eqb (numberOf v) (numberOf w) (λ e. n (same-which v w e)));
+      one-send = λ ws size w e. rw e;
+      no-send = λ ws size w e. rw e;
+    }
+
+lines : QueueNames
+unfolding sizes
+lines =
+    record {
+      queues = λ f. (refl, refl, refl);
+      capacities = λ s. (refl, refl, refl);
+      sums = (refl, λ x xs. refl);
+      first = head-first;
+      holding = λ q. (λ h. h, λ h. h);
+      in-stage = λ f. (λ h. h, λ h. h);
+      no-stage = λ f e. rw e;
+      on-stage = λ f n. rw (lt-ltb 0 (f .stage) (omega arith));
+      from-here = λ r origin e. rw (eq-eqb (r .origin) origin e);
+      from-elsewhere = λ r origin n. rw (ne-eqb (r .origin) origin n);
+      staged = λ way class size hops. refl;
+    }
+
+rates : RateNames
+unfolding partOf smoothedOf agedOf rampedOf allowanceOf ownRateOf countedOf shareOf
+rates =
+    record {
+      smoothed = λ coef lp rate. refl;
+      aged = λ rate coef. refl;
+      ramped = λ allowed unreserved coef. refl;
+      allowance = λ received weight unit unreserved. refl;
+      own = λ rate weight unit. refl;
+      counted = λ counter size. refl;
+      share = λ allowed coef ticks. refl;
+    }
+
+anew : (st : Station) → PartNames st
+anew st =
+    record {
+      flow = λ f. refl;
+      fair = λ f. refl;
+      credits = λ c. refl;
+      stage = λ w. refl;
+      counters = λ c. refl;
+      heard = λ a. refl;
+      done = refl;
+      refused = λ n. refl;
+      turned = λ n. refl;
+    }
+
+entries : EntryNames
+entries = record { brief = λ r. refl; charge = λ r. refl; marked = λ r. refl; chosen = λ r. refl }
+
+histories : (st : Station) (w : Which) → HistoryNames st w
+histories st w =
+    record {
+      no-call = (refl, refl);
+      a-call = λ c cs. (refl, refl);
+      tick = λ a b c. refl;
+      client = λ class size hops. refl;
+      transit = λ class size hops eligible. refl;
+      control = λ size. refl;
+      select = refl;
+      age = refl;
+      hear = λ frame bytes. refl;
+      tell = refl;
+      show = refl;
+      of-done = λ r. refl;
+      of-client = λ r. refl;
+      of-selected = λ r. refl;
+    }
+
+-- ---- the ring
+
+left : (stations k : ℕ) → k + 1 < stations → nextOf Left stations (k + 1) ≡ k
+left stations k h =
+    ap (λ (x : ℕ). x % stations) (let e : k + 1 + (stations - 1) ≡ k + stations = omega arith in e) ∙ add-mod-right k stations ∙ mod-eq-of-lt (omega arith)
+
+left-last : (stations : ℕ) → 0 < stations → nextOf Left stations 0 ≡ stations - 1
+left-last stations h = ap (λ (x : ℕ). x % stations) (let e : 0 + (stations - 1) ≡ stations - 1 = omega arith in e) ∙ mod-eq-of-lt (omega arith)
+
+sides : RingNames
+unfolding bitOf
+sides =
+    record {
+      codes = (refl, refl);
+      home = (refl, refl);
+      bits = (refl, refl);
+      placed = λ stations own target links. (
+        λ p. (p .ring, p .small, p .station, p .reached, p .differ, p .clear),
+        λ h. record { ring = h .0; small = h .1; station = h .2; reached = h .3; differ = h .4; clear = h .5 },
+      );
+      left = left;
+      left-last = left-last;
+      no-hop = λ way stations at. refl;
+      one-hop = λ way stations at n. refl;
+      ends = λ delivered. refl;
+      over = λ link rest. refl;
+    }
+
+numbers : ByteNames
+unfolding le be digits put wordsAt
+numbers =
+    record {
+      bytes = λ xs. (λ h. h, λ h. h);
+      le-none = λ xs at. refl;
+      le-more = λ n xs at. refl;
+      be-none = λ xs at. refl;
+      be-more = λ n xs at. refl;
+      digits-none = λ v. refl;
+      digits-more = λ n v. refl;
+      words-none = λ xs at. refl;
+      words-more = λ n xs at. refl;
+      words-from = λ xs k n. refl;
+      held = λ q. refl;
+      puts = λ xs at bs. refl;
+      usual = λ weight unit ticks rate. refl;
+    }
+
+pub names : Names
+names = record { shapers = shapers; lines = lines; rates = rates; anew = anew; entries = entries; histories = histories; sides = sides; numbers = numbers }
