@@ -1,11 +1,12 @@
 -- Selection, row by row: of the table's rows the first that holds.
 -- Assumes nothing.
 use Prim.Native.Nat.{ℕ}
-use mathlib.Core.Bool.{Bool, true, false, cond, true≢false}
+use mathlib.Core.Bool.{Bool, true, false, cond}
 use mathlib.Core.Logic.{inl, inr}
-use mathlib.Core.Path.{_≡_, refl, sym, subst, _∙_}
+use mathlib.Core.Path.{_≡_, refl, subst}
 use borrow.Author.Tests.{lt-ltb}
-use Rattle.decide.specs.Test.{Test, test, Holds, facts, passes, decided}
+use Rattle.decide.specs.Test.{test, Holds, facts, passes}
+use Rattle.decide.proofs.Tests.{fails, failing}
 use Rattle.settings.specs.declared.Settings.{Settings}
 use Rattle.flow.specs.declared.Flow.{Flow}
 use Rattle.flow.specs.declared.Line.the-variants.{Control, Primary, Secondary}
@@ -44,14 +45,6 @@ secondary-permitted s f e = lt-ltb (s .shapers .d .lo) (f .credits .d) (facts (s
 
 -- ---- the table as laws: each row goes exactly when it holds and none before it does
 
--- a row's test as a fact, or that it does not hold
-module _ (t : Test) where
-  not-held : test t ≡ false → Holds t → ⊥
-  not-held e h = true≢false (sym (passes t h) ∙ e)
-
-  held-not : (Holds t → ⊥) → test t ≡ false
-  held-not d = sym (decided t false d)
-
 module _ (s : Settings) (f : Flow) where
   rows : (a b c d e : Bool) → test (controlReady s f) ≡ a → test (primaryReady f) ≡ b → test (needy s f) ≡ c → test (stageReady f) ≡ d → test (secondaryReady s f) ≡ e
       → Goes s f (cond a (leavesCharged s f Control M) (cond b (leaves f Primary) (cond c (leaves f Secondary) (cond d (leavesStage f) (cond e (leavesCharged s f Secondary D) (nothingOf f))))))
@@ -70,16 +63,16 @@ module _ (s : Settings) (f : Flow) where
   -- each row tells the condition of its origin
   told : {r : Selected} → Goes s f r → When s f (r .origin)
   told (control a) = facts (controlReady s f) a
-  told (primary a b) = (not-held (controlReady s f) a, facts (primaryReady f) b)
-  told (pressed a b c) = (not-held (controlReady s f) a, (not-held (primaryReady f) b, inl (facts (needy s f) c)))
-  told (staged a b c d) = (not-held (controlReady s f) a, (not-held (primaryReady f) b, (not-held (needy s f) c, facts (stageReady f) d)))
+  told (primary a b) = (fails (controlReady s f) a, facts (primaryReady f) b)
+  told (pressed a b c) = (fails (controlReady s f) a, (fails (primaryReady f) b, inl (facts (needy s f) c)))
+  told (staged a b c d) = (fails (controlReady s f) a, (fails (primaryReady f) b, (fails (needy s f) c, facts (stageReady f) d)))
   told (secondary a b c d e) = (
-    not-held (controlReady s f) a,
-    (not-held (primaryReady f) b, inr (not-held (needy s f) c, (not-held (stageReady f) d, facts (secondaryReady s f) e))),
+    fails (controlReady s f) a,
+    (fails (primaryReady f) b, inr (fails (needy s f) c, (fails (stageReady f) d, facts (secondaryReady s f) e))),
   )
   told (nothing a b c d e) = (
-    not-held (controlReady s f) a,
-    (not-held (primaryReady f) b, (not-held (needy s f) c, (not-held (stageReady f) d, not-held (secondaryReady s f) e))),
+    fails (controlReady s f) a,
+    (fails (primaryReady f) b, (fails (needy s f) c, (fails (stageReady f) d, fails (secondaryReady s f) e))),
   )
 
   -- an origin is answered only under its condition
@@ -93,7 +86,7 @@ module _ (s : Settings) (f : Flow) where
   -- primary goes exactly when control does not and it holds a frame
   pub primary-exactly : GoesExactly s f 2 (leaves f Primary)
   primary-exactly =
-      record { only = only-when 2; whenever = λ h. goes-selected s f (primary (held-not (controlReady s f) (h .0)) (passes (primaryReady f) (h .1))) }
+      record { only = only-when 2; whenever = λ h. goes-selected s f (primary (failing (controlReady s f) (h .0)) (passes (primaryReady f) (h .1))) }
 
   -- secondary goes only when mtu > its space, or when the stage is empty and D permits,
   pub secondary-only : selectOf s f .origin ≡ 3 → When s f 3
@@ -101,20 +94,20 @@ module _ (s : Settings) (f : Flow) where
 
   -- and does so: with nothing charged
   pub needy-goes : No (controlReady s f) → No (primaryReady f) → Holds (needy s f) → selectOf s f ≡ leaves f Secondary
-  needy-goes a b c = goes-selected s f (pressed (held-not (controlReady s f) a) (held-not (primaryReady f) b) (passes (needy s f) c))
+  needy-goes a b c = goes-selected s f (pressed (failing (controlReady s f) a) (failing (primaryReady f) b) (passes (needy s f) c))
 
   -- or with D charged
   pub secondary-goes : No (controlReady s f) → No (primaryReady f) → No (needy s f) → No (stageReady f) → Holds (secondaryReady s f)
       → selectOf s f ≡ leavesCharged s f Secondary D
   secondary-goes a b c d e =
-      goes-selected s f (secondary (held-not (controlReady s f) a) (held-not (primaryReady f) b) (held-not (needy s f) c) (held-not (stageReady f) d) (passes (secondaryReady s f) e))
+      goes-selected s f (secondary (failing (controlReady s f) a) (failing (primaryReady f) b) (failing (needy s f) c) (failing (stageReady f) d) (passes (secondaryReady s f) e))
 
   -- the stage goes exactly when none before it does and it holds a frame
   pub stage-exactly : GoesExactly s f 4 (leavesStage f)
   stage-exactly =
       record {
         only = only-when 4;
-        whenever = λ h. goes-selected s f (staged (held-not (controlReady s f) (h .0)) (held-not (primaryReady f) (h .1 .0)) (held-not (needy s f) (h .1 .1 .0)) (passes (stageReady f) (h .1 .1 .1)));
+        whenever = λ h. goes-selected s f (staged (failing (controlReady s f) (h .0)) (failing (primaryReady f) (h .1 .0)) (failing (needy s f) (h .1 .1 .0)) (passes (stageReady f) (h .1 .1 .1)));
       }
 
   -- nothing goes exactly when no row holds
@@ -122,5 +115,5 @@ module _ (s : Settings) (f : Flow) where
   nothing-exactly =
       record {
         only = only-when 0;
-        whenever = λ h. goes-selected s f (nothing (held-not (controlReady s f) (h .0)) (held-not (primaryReady f) (h .1 .0)) (held-not (needy s f) (h .1 .1 .0)) (held-not (stageReady f) (h .1 .1 .1 .0)) (held-not (secondaryReady s f) (h .1 .1 .1 .1)));
+        whenever = λ h. goes-selected s f (nothing (failing (controlReady s f) (h .0)) (failing (primaryReady f) (h .1 .0)) (failing (needy s f) (h .1 .1 .0)) (failing (stageReady f) (h .1 .1 .1 .0)) (failing (secondaryReady s f) (h .1 .1 .1 .1)));
       }

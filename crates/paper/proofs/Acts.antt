@@ -8,7 +8,7 @@ use mathlib.Core.Path.{_≡_, refl, sym, ap, subst}
 use native.Mathlib.Omega.{arith}
 use borrow.Author.Tests.{eqb-true, eq-eqb, ne-eqb}
 use lib.Dec.{eqb}
-use Rattle.decide.specs.Test.{test, Holds, both, and-i, passes}
+use Rattle.decide.specs.Test.{test, both, and-i, passes}
 use Rattle.decide.proofs.Cases.{by-cases, true-or-false}
 use Rattle.settings.specs.declared.Settings.{Settings}
 use Rattle.queue.specs.declared.Frame.{Frame}
@@ -47,11 +47,8 @@ use Rattle.station.proofs.Offers.{offer-taken, client-occupied, client-denied, 
 use Rattle.station.proofs.Hear.{tell-done, show-done}
 use Rattle.station.proofs.History.{trace-creditless}
 use Rattle.wire.specs.Wire.{le, digits}
+use Rattle.paper.proofs.Reasons.{denied-by, flags-exactly}
 use Rattle.paper.specs.Acts.{Starts, Brings, Passes, Stages, YesNo, Acts, Traces, ReadsOff}
-
--- a test whose facts do not hold is false
-pub denied-by : {b : Bool} {P : Type 0} → (b ≡ true → P) → (P → ⊥) → b ≡ false
-denied-by {b} means n = by-cases (true-or-false b) (λ e. absurd (n (means e))) (λ e. e)
 
 pub starts : (s : Settings) → Starts s
 unfolding ownRateOf emptyQueue
@@ -66,13 +63,6 @@ starts s =
       whatever = λ st ok. start-done st s (settings.facts-in-range s ok);
       refused = λ st n. start-refused st s (denied-by (settings.in-range-facts s) n);
     }
-
--- yes or no is at most 1
-at-most-1 : {x : ℕ} → YesNo x → x ≤ 1
-at-most-1 y = by-cases y (λ e. omega arith) (λ e. omega arith)
-
-pub flags-hold : {a b c : ℕ} → YesNo a × YesNo b × YesNo c → Holds (flagsOk a b c)
-flags-hold h = (at-most-1 (h .0), (at-most-1 (h .1), at-most-1 (h .2)))
 
 -- a flow with one queue anew
 module _ (f : Flow) (q : Queue) where
@@ -116,7 +106,7 @@ module _ {st : Station} (ok : StationOk st) where
       })
 
   empty : (Staged (st .flow) → ⊥) → stageHolds (st .flow) ≡ false
-  empty none = by-cases (true-or-false (stageHolds (st .flow))) (λ h. absurd (none (staged (st .flow) .0 h))) (λ h. h)
+  empty none = denied-by (staged (st .flow) .0) none
 
   module _ (class size hops : ℕ) (frame : FrameOk (st .settings .mtu) (givenFrame class size hops 0)) where
     -- what is asked for 7: the frame is eligible, and would pass the rate
@@ -147,7 +137,7 @@ module _ {st : Station} (ok : StationOk st) where
   unfolding flow.tickOf
   tick-credits a b c flags =
       subst (λ (r : Done). r ≡ doneOf (withFlow st (withCredits (st .flow) (r .station .flow .credits))))
-      (sym (tick-done st a b c in-range (passes (flagsOk a b c) (flags-hold flags)))) refl
+      (sym (tick-done st a b c in-range (passes (flagsOk a b c) (flags-exactly a b c .1 flags)))) refl
 
   pub acts : Acts st
   acts =

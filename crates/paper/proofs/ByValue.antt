@@ -4,7 +4,8 @@ use Prim.Native.Nat.{ℕ}
 use mathlib.Core.Bool.{true, false}
 use mathlib.Core.List.{List}
 use mathlib.Core.Path.{_≡_, _∙_}
-use Rattle.decide.specs.Test.{Test, Holds, test, facts, passes}
+use Rattle.decide.proofs.Tests.{failing}
+use Rattle.decide.specs.Test.{test, passes}
 use Rattle.queue.specs.declared.Frame.{Frame}
 use Rattle.queue.specs.Frame.{frameOk, FrameOk}
 use Rattle.queue.proofs.Word.{frame-facts, frame-holds}
@@ -22,9 +23,7 @@ use Rattle.station.proofs.Range.{in-range-facts, facts-in-range}
 use Rattle.station.proofs.Calls.{tick-lost, tick-coded, select-lost, age-lost}
 use Rattle.station.proofs.Offers.{offer-lost, offer-coded, offer-full, client-lost, client-coded}
 use Rattle.station.proofs.Hear.{hear-not-whole, hear-whole, listen-own, listen-lost, listen-far, listen-self, listen-done, tell-lost, show-lost}
-use Rattle.paper.proofs.Acts.{denied-by}
-use Rattle.paper.proofs.Reasons.{yes-no}
-use Rattle.paper.specs.Acts.{YesNo}
+use Rattle.paper.proofs.Reasons.{denied-by, flags-exactly}
 use Rattle.paper.specs.ByValue.{Lost, Unfit, Listens}
 
 pub lost : (st : Station) → (StationOk st → ⊥) → Lost st
@@ -41,21 +40,14 @@ lost st n =
       show = show-lost st out;
     }
 
-flags-mean : (a b c : ℕ) → test (flagsOk a b c) ≡ true → YesNo a × YesNo b × YesNo c
-flags-mean a b c e = let h = facts (flagsOk a b c) e in (yes-no a .0 (h .0), yes-no b .0 (h .1 .0), yes-no c .0 (h .1 .1))
-
--- a test whose facts do not hold
-fails : (t : Test) → (Holds t → ⊥) → test t ≡ false
-fails t = denied-by (facts t)
-
 pub unfit : {st : Station} → StationOk st → Unfit st
 unfit {st} ok =
     let mtu = st .settings .mtu in
     let in-range = facts-in-range st ok in
-    let outside : (x : Frame) → (FrameOk mtu x → ⊥) → test (frameOk mtu x) ≡ false = λ x n. fails (frameOk mtu x) (λ h. n (frame-facts mtu x h)) in
+    let outside : (x : Frame) → (FrameOk mtu x → ⊥) → test (frameOk mtu x) ≡ false = λ x n. failing (frameOk mtu x) (λ h. n (frame-facts mtu x h)) in
     let inside : (x : Frame) → FrameOk mtu x → test (frameOk mtu x) ≡ true = λ x h. passes (frameOk mtu x) (frame-holds mtu x h) in
     record {
-      tick = λ a b c n. tick-coded st a b c in-range (denied-by (flags-mean a b c) n);
+      tick = λ a b c n. tick-coded st a b c in-range (failing (flagsOk a b c) (λ h. n (flags-exactly a b c .0 h)));
       transit = λ class size hops eligible n.
           let x = givenFrame class size hops eligible in offer-coded st (queueFor class) x in-range (outside x n);
       control = λ size n. offer-coded st Control (controlFrame size) in-range (outside (controlFrame size) n);
@@ -72,12 +64,12 @@ listens st frame =
     let range = facts-in-range st in
     let ttl = ttlOk (a .ttl) in
     record {
-      broken = λ n. hear-not-whole st frame (fails (whole frame) n);
+      broken = λ n. hear-not-whole st frame (failing (whole frame) n);
       own-ringlet = λ w r. hear-whole st frame (passes (whole frame) w) ∙ listen-own st a (passes (ownRinglet s a) r);
-      lost = λ w r n. hear-whole st frame (passes (whole frame) w) ∙ listen-lost st a (fails (ownRinglet s a) r) (denied-by (in-range-facts st) n);
-      ttl = λ w r ok t. hear-whole st frame (passes (whole frame) w) ∙ listen-far st a (fails (ownRinglet s a) r) (range ok) (fails ttl t);
+      lost = λ w r n. hear-whole st frame (passes (whole frame) w) ∙ listen-lost st a (failing (ownRinglet s a) r) (denied-by (in-range-facts st) n);
+      ttl = λ w r ok t. hear-whole st frame (passes (whole frame) w) ∙ listen-far st a (failing (ownRinglet s a) r) (range ok) (failing ttl t);
       own-address = λ w r ok t o. hear-whole st frame (passes (whole frame) w)
-          ∙ listen-self st a (fails (ownRinglet s a) r) (range ok) (passes ttl t) (passes (ownAddress s a) o);
+          ∙ listen-self st a (failing (ownRinglet s a) r) (range ok) (passes ttl t) (passes (ownAddress s a) o);
       heard = λ w r ok t o. hear-whole st frame (passes (whole frame) w)
-          ∙ listen-done st a (fails (ownRinglet s a) r) (range ok) (passes ttl t) (fails (ownAddress s a) o);
+          ∙ listen-done st a (failing (ownRinglet s a) r) (range ok) (passes ttl t) (failing (ownAddress s a) o);
     }

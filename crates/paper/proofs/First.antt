@@ -65,7 +65,7 @@ use Rattle.paper.specs.Reasons.{readRefused, roomRefused, Spaces, Carrie
 use Rattle.paper.specs.Acts.{YesNo}
 use Rattle.paper.specs.First.{Refuses, RefusesLent, Tested, Condition1}
 use Rattle.paper.proofs.Earliest.{refuses-record}
-use Rattle.paper.proofs.Reasons.{refuses-alone, Meant, none, row, tried, denies, faulted, tests, tested, equal, below, both-exactly, yes-no}
+use Rattle.paper.proofs.Reasons.{refuses-alone, Meant, none, row, tried, denies, faulted, tests, tested, equal, below, both-exactly, flags-exactly}
 
 -- ---- by the rows
 
@@ -96,12 +96,7 @@ frame-out : (mtu : ℕ) (x : Frame) → (not (test (frameOk mtu x)) ≡ true) �
 frame-out mtu x = denies (test (frameOk mtu x)) (tested (frameOk mtu x) (frame-facts mtu x, frame-holds mtu x))
 
 flags-out : (a b c : ℕ) → (not (test (flagsOk a b c)) ≡ true) ↔ (YesNo a × YesNo b × YesNo c → ⊥)
-flags-out a b c =
-    denies (test (flagsOk a b c))
-    (tested (flagsOk a b c) (
-      λ h. (yes-no a .0 (h .0), yes-no b .0 (h .1 .0), yes-no c .0 (h .1 .1)),
-      λ h. (yes-no a .1 (h .0), (yes-no b .1 (h .1), yes-no c .1 (h .2))),
-    ))
+flags-out a b c = denies (test (flagsOk a b c)) (tested (flagsOk a b c) (flags-exactly a b c))
 
 -- ---- the station's calls
 

@@ -14,7 +14,7 @@ use Rattle.flow.specs.declared.Which.{Which}
 use Rattle.flow.specs.declared.Which.the-variants.{M, A, B, C, D}
 use Rattle.flow.specs.Which.{numberOf, member}
 use Rattle.flow.proofs.Held.{head-first}
-use Rattle.rates.specs.Rates.{partOf, smoothedOf, agedOf, rampedOf, allowanceOf, ownRateOf, countedOf, shareOf}
+use Rattle.rates.specs.Rates.{partOf, smoothedOf, agedOf, rampedOf, allowanceOf, ownRateOf, shareOf}
 use Rattle.answer.specs.Bytes.{bitOf}
 use Rattle.ring.specs.declared.Way.the-variants.{Left}
 use Rattle.ring.specs.Links.{nextOf}
@@ -91,7 +91,7 @@ lines =
     }
 
 rates : RateNames
-unfolding partOf smoothedOf agedOf rampedOf allowanceOf ownRateOf countedOf shareOf
+unfolding partOf smoothedOf agedOf rampedOf allowanceOf ownRateOf shareOf
 rates =
     record {
       smoothed = λ coef lp rate. refl;
@@ -99,7 +99,6 @@ rates =
       ramped = λ allowed unreserved coef. refl;
       allowance = λ received weight unit unreserved. refl;
       own = λ rate weight unit. refl;
-      counted = λ counter size. refl;
       share = λ allowed coef ticks. refl;
     }
 

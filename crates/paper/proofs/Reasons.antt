@@ -15,6 +15,7 @@ use Rattle.decide.proofs.Refusal.{in-order, first-exact}
 use Rattle.wire.specs.Wire.{digits}
 use Rattle.rpr.specs.Shape.{Bears}
 use Rattle.paper.specs.Reasons.{RefusedWhen, refused, passed, CarriedOut}
+use Rattle.station.specs.Calls.{flagsOk}
 use Rattle.paper.specs.Acts.{YesNo}
 
 -- ---- rows and their reasons
@@ -41,6 +42,10 @@ denies b exactly = (
   λ e p. true≢false (sym (exactly .1 p) ∙ not-true b e),
   λ n. by-cases (true-or-false b) (λ e. absurd (n (exactly .0 e))) (λ e. ap not e),
 )
+
+-- a test whose fact does not hold is false
+pub denied-by : {b : Bool} {P : Type 0} → (b ≡ true → P) → (P → ⊥) → b ≡ false
+denied-by {b} means n = by-cases (true-or-false b) (λ e. absurd (n (means e))) (λ e. e)
 
 pub tests : (t : Test) → (test t ≡ true) ↔ Holds t
 tests t = (facts t, passes t)
@@ -69,6 +74,13 @@ pub yes-no : (x : ℕ) → (x ≤ 1) ↔ YesNo x
 yes-no x = (
   λ h. by-cases (split (x ≤? 0)) (λ z. inl (omega arith)) (λ z. inr (omega arith)),
   λ y. by-cases y (λ e. omega arith) (λ e. omega arith),
+)
+
+-- each of a tick's flags is yes or no
+pub flags-exactly : (a b c : ℕ) → Holds (flagsOk a b c) ↔ (YesNo a × YesNo b × YesNo c)
+flags-exactly a b c = (
+  λ h. (yes-no a .0 (h .0), yes-no b .0 (h .1 .0), yes-no c .0 (h .1 .1)),
+  λ h. (yes-no a .1 (h .0), (yes-no b .1 (h .1), yes-no c .1 (h .2))),
 )
 
 -- ---- one number alone

@@ -2,17 +2,15 @@
 -- Assumes nothing.
 use Prim.Native.Nat.{ℕ, _*_, _≤_}
 use mathlib.Core.Bool.{true, true≢false}
-use mathlib.Core.Logic.{_⊎_, inl, inr, _↔_}
-use mathlib.Core.Path.{_≡_, refl, sym, subst, _∙_}
+use mathlib.Core.Logic.{_⊎_, _↔_}
+use mathlib.Core.Path.{_≡_, refl, sym, _∙_}
 use native.Mathlib.Omega.{arith}
 use borrow.Author.Tests.{leb-true, le-leb}
 use lib.ListN.{length}
 use Rattle.decide.specs.Test.{Test, test, Holds, facts, passes}
-use Rattle.decide.proofs.Tests.{fails}
 use Rattle.settings.specs.declared.Settings.{Settings}
 use Rattle.flow.specs.declared.Flow.{Flow}
-use Rattle.flow.specs.declared.Selected.{Selected}
-use Rattle.flow.specs.Select.{controlReady, primaryReady, needy, stageReady, secondaryReady, When}
+use Rattle.flow.specs.Select.{controlReady, primaryReady, needy, stageReady, secondaryReady}
 use Rattle.flow.proofs.Ready as ready
 use Rattle.flow.proofs.Select as select
 use Rattle.flow.proofs.Frames.{select-moves}
@@ -38,8 +36,9 @@ use Rattle.paper.specs.Second.{Ready, Selects, Ages, Joins, Reaches, Wra
 use Rattle.paper.proofs.Rules.{ticks, charges, enters, counts, tells, reads, writes, hears}
 use Rattle.station.proofs.Interval.{holds-till-interval}
 use Rattle.queue.proofs.Word.{word-frame, frame-fits, word-not-empty}
+use Rattle.paper.proofs.Reasons.{flags-exactly}
 use Rattle.paper.proofs.Names.{names}
-use Rattle.paper.proofs.Acts.{starts, flags-hold, acts, traces, reads-off}
+use Rattle.paper.proofs.Acts.{starts, acts, traces, reads-off}
 use Rattle.paper.proofs.ByValue.{lost, unfit, listens}
 use Rattle.paper.proofs.Host.{lays, hosts, begins, settings-words, choice-told, choice-refused, path-told, path-refused}
 
@@ -58,32 +57,17 @@ is-ready s f =
       secondary = held (secondaryReady s f) (ready.secondary-ready-exactly s f);
     }
 
--- each row's origin, and what held
-row-when : {s : Settings} {f : Flow} {r : Selected} → select.Goes s f r → When s f (r .origin)
-row-when (select.control a) = facts _ a
-row-when (select.primary a b) = (fails _ a, facts _ b)
-row-when (select.pressed a b c) = (fails _ a, (fails _ b, inl (facts _ c)))
-row-when (select.staged a b c d) = (fails _ a, (fails _ b, (fails _ c, facts _ d)))
-row-when (select.secondary a b c d e) = (fails _ a, (fails _ b, inr (fails _ c, (fails _ d, facts _ e))))
-row-when (select.nothing a b c d e) = (fails _ a, (fails _ b, (fails _ c, (fails _ d, fails _ e))))
-
 selects : (s : Settings) (f : Flow) → Selects s f
 selects s f =
     record {
       ready = is-ready s f;
-      control = select.control-exactly s f;
-      primary = select.primary-exactly s f;
+      control = select.control-exactly s f .whenever;
+      primary = λ c p. select.primary-exactly s f .whenever (c, p);
       needy-secondary = select.needy-goes s f;
-      stage = select.stage-exactly s f;
+      stage = λ c p n g. select.stage-exactly s f .whenever (c, (p, (n, g)));
       secondary = select.secondary-goes s f;
-      nothing = select.nothing-exactly s f;
-      first = select.control-exactly s f .whenever;
-      then-primary = λ c p. select.primary-exactly s f .whenever (c, p);
-      then-stage = λ c p n g. select.stage-exactly s f .whenever (c, (p, (n, g)));
-      else-nothing = λ c p n g d. select.nothing-exactly s f .whenever (c, (p, (n, (g, d))));
-      not = λ t. (λ n. n, λ n. n);
+      nothing = λ c p n g d. select.nothing-exactly s f .whenever (c, (p, (n, (g, d))));
       origins = (refl, refl, refl, refl, refl);
-      answered = subst (λ (r : Selected). When s f (r .origin)) (sym (select.goes-selected s f (select.goes s f))) (row-when (select.goes s f));
       unchanged = refl;
       m-charged = refl;
       d-charged = refl;
@@ -193,7 +177,7 @@ second-condition =
       lost = lost;
       unfit = λ st. unfit;
       listening = listens;
-      ticks = λ st ok a b c flags. ticks st ok a b c (flags-hold flags);
+      ticks = λ st ok a b c flags. ticks st ok a b c (flags-exactly a b c .1 flags);
       charges = charges;
       entry = enters;
       words = λ mtu x most ok. (word-frame x (frame-fits most ok), λ e. let some = word-not-empty most ok in omega arith);

@@ -40,6 +40,7 @@ use Rattle.sheet.specs.Sheet.{summaryAt}
 use Rattle.rpr.proofs.Promises.{join-leaves, join-done, settle-permitted, settle-not-permitted}
 use Rattle.rpr.specs.Calls.{joinRows, joinAnswer}
 use Rattle.rpr.proofs.Station.{carried-said}
+use Rattle.paper.proofs.Reasons.{denied-by}
 use Rattle.paper.specs.Summaries.{Follows, OneShaper, Sums, RecordBytes, Formed, Singles, Constructs, JoinsTwo, SettlesFrom, Groups, LentSummaries, SummaryPlaces, SummaryRules}
 
 follows : (l : Limits) (c : ℕ) → Follows l c
@@ -175,14 +176,10 @@ one-shaper s =
       refused = λ z h. rw (in-order (chargeFaults s) refl, le-ltb (s .limits .lo) (s .credit) h);
     }
 
--- a summary that is not in range
-out-of-range : (s : Summary) → (InRange s → ⊥) → inRange s ≡ false
-out-of-range s n = by-cases (true-or-false (inRange s)) (λ e. absurd (n (in-range-exactly s .0 e))) (λ e. e)
-
 join-out : (a b : Summary) → (InRange a × InRange b → ⊥) → joinOf a b ≡ Answer.Refused 3
 join-out a b n =
     by-cases (true-or-false (inRange a))
-    (λ e. rows.join-3-second a b e (out-of-range b (λ h. n (in-range-exactly a .0 e, h))))
+    (λ e. rows.join-3-second a b e (denied-by (in-range-exactly b .0) (λ h. n (in-range-exactly a .0 e, h))))
     (λ e. rows.join-3-first a b e)
 
 settle-out : (s : Summary) (c : ℕ) → (InRange s × (c ≤ s .limits .hi) → ⊥) → settleOf s c ≡ Outcome.Refused 3

@@ -29,7 +29,7 @@ use Rattle.flow.specs.declared.Which.the-variants.{M, A, B, C, D}
 use Rattle.flow.specs.Which.{bucketOf, creditOf, limitsFor, member, sends}
 use Rattle.flow.specs.Parts.{queueOf, capacityOf, withCredits, withStage}
 use Rattle.flow.specs.Offer.{markOf, clientFrame}
-use Rattle.rates.specs.Rates.{smoothedOf, agedOf, rampedOf, allowanceOf, ownRateOf, countedOf, shareOf}
+use Rattle.rates.specs.Rates.{smoothedOf, agedOf, rampedOf, allowanceOf, ownRateOf, shareOf}
 use Rattle.fair.specs.declared.Fair.{Fair}
 use Rattle.fair.specs.declared.Four.{Four}
 use Rattle.fair.specs.Advertise.{heardOf}
@@ -110,8 +110,6 @@ pub record RateNames : Type 0 where
   pub allowance : (received weight unit unreserved : ℕ) → allowanceOf received weight unit unreserved ≡ min unreserved (received * weight * unit)
   -- floor(localFairRate / (weight × unit)), at most 65,534
   pub own : (rate weight unit : ℕ) → ownRateOf rate weight unit ≡ min (rate / (weight * unit)) 65534
-  -- Counters stop at 2,147,483,647.
-  pub counted : (counter size : ℕ) → countedOf counter size ≡ min (counter + size) 2147483647
   -- floor(allowedRate / (ageCoef × ticks per interval))
   pub share : (allowed coef ticks : ℕ) → shareOf allowed coef ticks ≡ allowed / (coef * ticks)
 

@@ -8,7 +8,7 @@ use mathlib.Core.List.{List, [], _∷_}
 use mathlib.Core.Logic.{_⊎_, _↔_}
 use mathlib.Core.Path.{_≡_}
 use lib.ListN.{length, take}
-use Rattle.decide.specs.Test.{Test, Holds}
+use Rattle.decide.specs.Test.{Holds}
 use Rattle.settings.specs.declared.Settings.{Settings}
 use Rattle.settings.specs.Range.{SettingsOk}
 use Rattle.settings.specs.Words.{settingsLength, settingsAt}
@@ -23,7 +23,7 @@ use Rattle.flow.specs.declared.Which.{Which}
 use Rattle.flow.specs.declared.Which.the-variants.{M, D}
 use Rattle.flow.specs.Which.{creditOf, sends, fed}
 use Rattle.flow.specs.Select as flow
-use Rattle.flow.specs.Select.{controlReady, primaryReady, needy, stageReady, secondaryReady, leaves, leavesCharged, leavesStage, nothingOf, No, When, GoesExactly}
+use Rattle.flow.specs.Select.{controlReady, primaryReady, needy, stageReady, secondaryReady, leaves, leavesCharged, leavesStage, nothingOf}
 use Rattle.flow.specs.Range.{FlowOk}
 use Rattle.flow.specs.Frames.{Holding, Staged, Moves}
 use Rattle.fair.specs.declared.Fair.{Fair}
@@ -62,7 +62,7 @@ pub record Ready (s : Settings) (f : Flow) : Type 0 where
       → Holds (controlReady s f)
       ↔ ((x .size ≤ spaceOf (f .primary) (s .queues .primary))
       × ((x .size ≤ spaceOf (f .secondary) (s .queues .secondary)) × (s .shapers .m .lo < f .credits .m)))
-  pub no-control : framesOf (f .control) ≡ [] → No (controlReady s f)
+  pub no-control : framesOf (f .control) ≡ [] → Holds (controlReady s f) → ⊥
   -- primary
   pub primary : Holds (primaryReady f) ↔ Holding (f .primary)
   -- secondary, if mtu > its space
@@ -76,30 +76,23 @@ pub record Ready (s : Settings) (f : Flow) : Type 0 where
 pub record Selects (s : Settings) (f : Flow) : Type 0 where
   pub ready : Ready s f
   -- control, if its head's size fits the space of both transit queues and M permits (M charged);
-  pub control : GoesExactly s f 1 (leavesCharged s f Control M)
+  pub control : Holds (controlReady s f) → flow.selectOf s f ≡ leavesCharged s f Control M
   -- primary;
-  pub primary : GoesExactly s f 2 (leaves f Primary)
+  pub primary : (Holds (controlReady s f) → ⊥) → Holds (primaryReady f) → flow.selectOf s f ≡ leaves f Primary
   -- secondary, if mtu > its space (nothing charged);
-  pub needy-secondary : No (controlReady s f) → No (primaryReady f) → Holds (needy s f) → flow.selectOf s f ≡ leaves f Secondary
+  pub needy-secondary : (Holds (controlReady s f) → ⊥) → (Holds (primaryReady f) → ⊥) → Holds (needy s f) → flow.selectOf s f ≡ leaves f Secondary
   -- stage;
-  pub stage : GoesExactly s f 4 (leavesStage f)
+  pub stage : (Holds (controlReady s f) → ⊥) → (Holds (primaryReady f) → ⊥) → (Holds (needy s f) → ⊥) → Holds (stageReady f)
+      → flow.selectOf s f ≡ leavesStage f
   -- secondary, if D permits (D charged);
-  pub secondary : No (controlReady s f) → No (primaryReady f) → No (needy s f) → No (stageReady f) → Holds (secondaryReady s f)
-      → flow.selectOf s f ≡ leavesCharged s f Secondary D
+  pub secondary : (Holds (controlReady s f) → ⊥) → (Holds (primaryReady f) → ⊥) → (Holds (needy s f) → ⊥) → (Holds (stageReady f) → ⊥)
+      → Holds (secondaryReady s f) → flow.selectOf s f ≡ leavesCharged s f Secondary D
   -- nothing.
-  pub nothing : GoesExactly s f 0 (nothingOf f)
-  -- The same rows as they stand.
-  pub first : Holds (controlReady s f) → flow.selectOf s f ≡ leavesCharged s f Control M
-  pub then-primary : No (controlReady s f) → Holds (primaryReady f) → flow.selectOf s f ≡ leaves f Primary
-  pub then-stage : No (controlReady s f) → No (primaryReady f) → No (needy s f) → Holds (stageReady f) → flow.selectOf s f ≡ leavesStage f
-  pub else-nothing : No (controlReady s f) → No (primaryReady f) → No (needy s f) → No (stageReady f) → No (secondaryReady s f)
-      → flow.selectOf s f ≡ nothingOf f
-  pub not : (t : Test) → No t ↔ (Holds t → ⊥)
-  -- Where it came from: nothing 0, control 1, primary 2, secondary 3, stage 4.
+  pub nothing : (Holds (controlReady s f) → ⊥) → (Holds (primaryReady f) → ⊥) → (Holds (needy s f) → ⊥) → (Holds (stageReady f) → ⊥)
+      → (Holds (secondaryReady s f) → ⊥) → flow.selectOf s f ≡ nothingOf f
+  -- Where it came from: control 1, primary 2, secondary 3, stage 4, nothing 0; and where nothing goes nothing changes.
   pub origins : (leaves f Control .origin ≡ 1) × (leaves f Primary .origin ≡ 2) × (leaves f Secondary .origin ≡ 3) × (leavesStage f .origin ≡ 4)
       × (nothingOf f .origin ≡ 0)
-  -- Each origin that is answered is one of these, under its condition; where nothing goes nothing changes.
-  pub answered : When s f (flow.selectOf s f .origin)
   pub unchanged : nothingOf f .flow ≡ f
   -- What is charged, and what is not.
   pub m-charged : leavesCharged s f Control M .flow .credits ≡ fed s (f .credits) (sends (M ∷ []) (firstFrame (f .control) .size))
