@@ -1,26 +1,23 @@
 -- Events that stand at their places are passed: each goes over to the tally as the laws of the rest say, and what is left keeps its answer.
 -- Assumes nothing.
-use Prim.Native.Nat.{ℕ, _+_, _*_, _-_, _≤_, _<_}
+use Prim.Native.Nat.{ℕ, _+_, _-_, _≤_, _<_}
 use mathlib.Core.Bool.{Bool, true, false, cond}
 use mathlib.Core.List.{List}
 use mathlib.Core.Path.{_≡_, refl, _∙_}
 use native.Mathlib.Omega.{arith}
 use native.Mathlib.Nat.{add-zero, add-assoc}
-use lib.ListN.{length, drop}
+use lib.ListN.{length}
 use Rattle.decide.specs.Test.{Holds, test}
 use Rattle.shaper.specs.declared.Limits.{Limits}
 use Rattle.shaper.specs.Limits.{limitsOk, mostEvents}
 use Rattle.wire.specs.Wire.{le, Bytes}
 use Rattle.tally.specs.declared.Tally.{Tally}
 use Rattle.tally.specs.Tally.{stepOf, Ready}
-use Rattle.record.specs.declared.Step.the-variants.{Stands}
 use Rattle.record.specs.Read.{good}
-use Rattle.record.specs.Step.{stepAt}
 use Rattle.record.proofs.Fields.{Good, good-facts}
-use Rattle.record.proofs.Steps.{GoodAt, Stood, step-stands}
-use Rattle.account.specs.Rest.{restOf, Passed}
-use Rattle.summary.specs.declared.Answer.the-variants.{Refused}
-use Rattle.account.proofs.Rest.{rest-good, rest-good-ready, rest-over}
+use Rattle.record.proofs.Steps.{GoodAt, Stood}
+use Rattle.account.specs.Rest.{Passed}
+use Rattle.account.proofs.Rest.{rest-good, rest-good-ready}
 
 -- ---- sizes, whatever the bytes hold
 
@@ -39,33 +36,30 @@ depth-max l n t p = omega (arith, p .few, p .within .level-min, p .within .peak-
 
 module _ (l : Limits) (xs : List ℕ) (from n : ℕ) (t : Tally) where
   -- none
-  pub passed-none : Ready l n t → Passed l xs from n t 0 t
-  passed-none p = record { ready = rw add-zero p; same = rw (add-zero n, add-zero from) }
+  pub passed-none : Ready l n t → Passed l xs from n t 0 from t
+  passed-none p = record { ready = rw add-zero p; same = λ late left. rw (add-zero left, add-zero n) }
 
   -- one, whose fields are good
   pub passed-one : Ready l n t → n < mostEvents → Bytes xs → from + 6 ≤ length xs → GoodAt (l .mtu) xs from →
-      Passed l xs from n t 1 (stepOf (l .hi - l .lo) (le 2 xs (from + 2)) (le 2 xs (from + 4)) t)
-  passed-one p few b h g = record { ready = rest-good-ready l n t p xs from few b g; same = rest-good l n t p xs from few b h g }
+      Passed l xs from n t 1 (from + 6) (stepOf (l .hi - l .lo) (le 2 xs (from + 2)) (le 2 xs (from + 4)) t)
+  passed-one p few b h g = record { ready = rest-good-ready l n t p xs from few b g; same = λ late left. rest-good l n t p late left xs from b h g }
 
   -- some, and then some more
-  pub passed-then : (m : ℕ) (u : Tally) (k : ℕ) (v : Tally) → Passed l xs from n t m u → Passed l xs (from + 6 * m) (n + m) u k v → Passed l xs from n t (m + k) v
-  passed-then m u k v p q =
-      let z : from + 6 * m + 6 * k ≡ from + 6 * (m + k) = omega arith in
-      record { ready = rw (add-assoc n m k) at (q .ready); same = p .same ∙ (rw (z, add-assoc n m k) at (q .same)) }
+  pub passed-then : (m mid : ℕ) (u : Tally) (k to : ℕ) (v : Tally) → Passed l xs from n t m mid u → Passed l xs mid (n + m) u k to v → Passed l xs from n t (m + k) to v
+  passed-then m mid u k to v p q =
+      record {
+        ready = rw (add-assoc n m k) at (q .ready);
+        same = λ late left. let z : left + (m + k) ≡ left + k + m = omega arith in rw z (p .same late (left + k)) ∙ (rw (add-assoc n m k) at (q .same late left));
+      }
 
-  -- one that the decoder finds; what is left begins where the decoder says
-  pub passed-found : Ready l n t → n < mostEvents → Bytes xs → (k v c next : ℕ) → stepAt (l .mtu) xs from ≡ Stands k v c next →
-      (next ≡ from + 6) × Passed l xs from n t 1 (stepOf (l .hi - l .lo) k v t)
-  passed-found p few b k v c next e =
-      let s = step-stands (l .mtu) xs from k v c next e in
+  -- those of an item that the decoder finds, where so many may come
+  pub passed-found : Ready l n t → Bytes xs → (k v c next : ℕ) → Stood (l .mtu) xs from k v c next → n + c ≤ mostEvents →
+      Passed l xs from n t c next (stepOf (l .hi - l .lo) k v t)
+  passed-found p b k v c next s few =
       let g : GoodAt (l .mtu) xs from = rw (s .length-field, ← s .kind-field, ← s .number-field) (s .fields) in
-      (s .six, rw (s .kind-field, s .number-field) (passed-one p few b (s .fits) g))
+      rw (s .one, s .six, s .kind-field, s .number-field) (passed-one p (omega (arith, s .one)) b (s .fits) g)
 
--- ---- what stops a walk, and what the test with no branch tells
-
--- any byte after the millionth event gives 9
-pub rest-late : (l : Limits) (n : ℕ) (t : Tally) (xs : List ℕ) (at : ℕ) → n ≡ mostEvents → at < length xs → restOf l n t (drop at xs) ≡ Refused 9
-rest-late l n t xs at e h = rw e (rest-over l t xs at h)
+-- ---- what the test with no branch tells
 
 -- an event that adds no fault is good
 pub flaw-none : (mtu len kind num : ℕ) → _≡_ {A = ℕ} (cond (test (good mtu len kind num)) 0 1) 0 → Good mtu len kind num

@@ -1,8 +1,9 @@
 -- What is left of a record has the answer of the whole: at the start, after each event, at a fault and at the end.
 -- Assumes nothing.
-use Prim.Native.Nat.{ℕ, suc, _+_, _-_, _≤_, _<_}
-use mathlib.Core.List.{List, []}
+use Prim.Native.Nat.{ℕ, _+_, _-_, _≤_, _<_}
+use mathlib.Core.List.{List}
 use mathlib.Core.Path.{_≡_, refl, sym, ap, _∙_}
+use native.Mathlib.Numerals.{add-one}
 use native.Mathlib.Omega.{arith}
 use lib.ListN.{length, drop}
 use Rattle.decide.specs.Test.{Holds}
@@ -20,15 +21,13 @@ use Rattle.tally.proofs.Laws.{step-rest, step-ready, start-rest, end-rest}
 use Rattle.summary.specs.declared.Answer.{Answer}
 use Rattle.summary.specs.Plain.{signedFrom}
 use Rattle.summary.proofs.Promises.{summary-signed}
-use Rattle.record.specs.declared.Header.{Header}
 use Rattle.record.specs.declared.Header.the-variants.{Settings, Unreadable}
-use Rattle.record.specs.declared.Step.{Step}
-use Rattle.record.specs.declared.Step.the-variants.{Stands, Faulty}
+use Rattle.record.specs.declared.Step.the-variants.{Faulty}
 use Rattle.record.specs.Read.{Events, faulty, events, onward, readFrom, under}
-use Rattle.record.specs.Step.{headerOf, stepAt}
+use Rattle.record.specs.Step.{headerOf, stepWithin}
 use Rattle.record.proofs.Fields.{event-good, valid-good}
-use Rattle.record.proofs.Steps.{Headed, header-stands, header-faulty, read-end, read-over, GoodAt, read-good, Stood, Failed, step-faulty}
-use Rattle.record.proofs.Written.{Wrote, events-written}
+use Rattle.record.proofs.Steps.{header-stands, header-faulty, read-end, GoodAt, read-good, failed-within}
+use Rattle.record.proofs.Written.{events-written}
 use Rattle.account.specs.Account.{summarized, summarizeOf}
 use Rattle.account.specs.Rest.{rested, restOf}
 
@@ -37,12 +36,12 @@ abbrev ValidEvents : Limits → Events → Type 0
 ValidEvents l (faulty n) = Unit {0}
 ValidEvents l (events es) = AllValid l es
 
-valid-by : (l : Limits) (left : ℕ) (ys : List ℕ) → Bytes ys → (r : Events) → readFrom (l .mtu) left ys ≡ r → ValidEvents l r
-valid-by l left ys b (faulty n) e = tt
-valid-by l left ys b (events es) e = events-written l left ys es b e .valid
+valid-by : (late : ℕ) (l : Limits) (left : ℕ) (ys : List ℕ) → Bytes ys → (r : Events) → readFrom late (l .mtu) left 0 ys ≡ r → ValidEvents l r
+valid-by late l left ys b (faulty n) e = tt
+valid-by late l left ys b (events es) e = events-written late l left ys es b e .valid
 
-valid-read : (l : Limits) (left : ℕ) (ys : List ℕ) → Bytes ys → ValidEvents l (readFrom (l .mtu) left ys)
-valid-read l left ys b = valid-by l left ys b (readFrom (l .mtu) left ys) refl
+valid-read : (late : ℕ) (l : Limits) (left : ℕ) (ys : List ℕ) → Bytes ys → ValidEvents l (readFrom late (l .mtu) left 0 ys)
+valid-read late l left ys b = valid-by late l left ys b (readFrom late (l .mtu) left 0 ys) refl
 
 -- ---- the start
 
@@ -51,12 +50,12 @@ start-by l ok (faulty n) v = refl
 start-by l ok (events es) v = ap Answer.Summed (summary-signed l ok es ∙ ap signedFrom (sym (start-rest l ok es v)))
 
 -- a header that stands: what is left is all behind it
-pub rest-start : (xs : List ℕ) (l : Limits) → Bytes xs → headerOf xs ≡ Settings l → summarizeOf xs ≡ restOf l 0 (startOf (l .lo)) (drop 14 xs)
+pub rest-start : (xs : List ℕ) (l : Limits) → Bytes xs → headerOf xs ≡ Settings l → summarizeOf xs ≡ restOf 9 l mostEvents 0 (startOf (l .lo)) (drop 14 xs)
 unfolding summarizeOf restOf
 rest-start xs l b e =
     let h = header-stands xs l e in
     ap summarized (h .goes-on)
-    ∙ start-by l (h .in-range) (readFrom (l .mtu) mostEvents (drop 14 xs)) (valid-read l mostEvents (drop 14 xs) (bytes-drop 14 xs b))
+    ∙ start-by l (h .in-range) (readFrom 9 (l .mtu) mostEvents 0 (drop 14 xs)) (valid-read 9 l mostEvents (drop 14 xs) (bytes-drop 14 xs b))
 
 -- one that does not
 pub rest-unreadable : (xs : List ℕ) (n : ℕ) → headerOf xs ≡ Unreadable n → summarizeOf xs ≡ Answer.Refused n
@@ -82,39 +81,33 @@ module _ (xs : List ℕ) (at : ℕ) (l : Limits) (g : GoodAt (l .mtu) xs at) whe
 
 module _ (l : Limits) (n : ℕ) (t : Tally) (p : Ready l n t) where
   -- at the end the tally is the summary
-  pub rest-end : (xs : List ℕ) (at : ℕ) → length xs ≤ at → restOf l n t (drop at xs) ≡ Answer.Summed (signedFrom (plainAt l n t))
+  pub rest-end : (late left : ℕ) (xs : List ℕ) (at : ℕ) → length xs ≤ at → restOf late l left n t (drop at xs) ≡ Answer.Summed (signedFrom (plainAt l n t))
   unfolding restOf
-  rest-end xs at h = rw (read-end (l .mtu) (mostEvents - n) xs at h) (ap (λ q. Answer.Summed (signedFrom q)) (end-rest l n t p))
+  rest-end late left xs at h = rw (read-end late (l .mtu) left xs at h) (ap (λ q. Answer.Summed (signedFrom q)) (end-rest l n t p))
 
   step-by : (e : Event) → Valid l e → (r : Events) → ValidEvents l r →
       rested l (plainAt l n t) (onward 0 e r) ≡ rested l (plainAt l (n + 1) (stepOf (l .hi - l .lo) (kindOf e) (numberOf e) t)) r
   step-by e v (faulty m) w = refl
   step-by e v (events es) w = ap (λ q. Answer.Summed (signedFrom q)) (step-rest l n t p e v es w)
 
-  module _ (xs : List ℕ) (at : ℕ) (few : n < mostEvents) where
-    left-is : mostEvents - n ≡ suc (mostEvents - (n + 1))
-    left-is = omega arith
+  -- good fields at a place, where one more may come: the event is counted, and what stands behind it is left
+  pub rest-good : (late left : ℕ) (xs : List ℕ) (at : ℕ) → Bytes xs → at + 6 ≤ length xs → GoodAt (l .mtu) xs at →
+      restOf late l (left + 1) n t (drop at xs) ≡ restOf late l left (n + 1) (stepOf (l .hi - l .lo) (le 2 xs (at + 2)) (le 2 xs (at + 4)) t) (drop (at + 6) xs)
+  unfolding restOf
+  rest-good late left xs at b h g =
+      let f = fields-at xs at l g in
+      let rest = drop (at + 6) xs in
+      rw (add-one left, read-good late (l .mtu) xs at left h g)
+      (rw (f .0, f .1) at (step-by (eventAt xs at) (valid-at xs at l g b) (readFrom late (l .mtu) left 0 rest) (valid-read late l left rest (bytes-drop (at + 6) xs b))))
 
-    -- good fields at a place: the event is counted, and what stands behind it is left
-    pub rest-good : Bytes xs → at + 6 ≤ length xs → GoodAt (l .mtu) xs at → restOf l n t (drop at xs) ≡ restOf l (n + 1) (stepOf (l .hi - l .lo) (le 2 xs (at + 2)) (le 2 xs (at + 4)) t) (drop (at + 6) xs)
-    unfolding restOf
-    rest-good b h g =
-        let f = fields-at xs at l g in
-        let left = mostEvents - (n + 1) in
-        rw (left-is, read-good (l .mtu) xs at left h g)
-        (rw (f .0, f .1) at (step-by (eventAt xs at) (valid-at xs at l g b) (readFrom (l .mtu) left (drop (at + 6) xs)) (valid-read l left (drop (at + 6) xs) (bytes-drop (at + 6) xs b))))
+  pub rest-good-ready : (xs : List ℕ) (at : ℕ) → n < mostEvents → Bytes xs → GoodAt (l .mtu) xs at →
+      Ready l (n + 1) (stepOf (l .hi - l .lo) (le 2 xs (at + 2)) (le 2 xs (at + 4)) t)
+  rest-good-ready xs at few b g =
+      let f = fields-at xs at l g in
+      rw (f .0, f .1) at (step-ready l n t p (eventAt xs at) (valid-at xs at l g b) few)
 
-    pub rest-good-ready : Bytes xs → GoodAt (l .mtu) xs at → Ready l (n + 1) (stepOf (l .hi - l .lo) (le 2 xs (at + 2)) (le 2 xs (at + 4)) t)
-    rest-good-ready b g =
-        let f = fields-at xs at l g in
-        rw (f .0, f .1) at (step-ready l n t p (eventAt xs at) (valid-at xs at l g b) few)
-
-    -- a fault at a place
-    pub rest-faulty : (f : ℕ) → stepAt (l .mtu) xs at ≡ Faulty f → restOf l n t (drop at xs) ≡ Answer.Refused f
-    unfolding restOf
-    rest-faulty f e = rw (left-is, step-faulty (l .mtu) xs at f e .stops (mostEvents - (n + 1)))
-
--- any byte after the millionth event gives 9
-pub rest-over : (l : Limits) (t : Tally) (xs : List ℕ) (at : ℕ) → at < length xs → restOf l mostEvents t (drop at xs) ≡ Answer.Refused 9
+-- a fault at a place, or a byte after the last event that may come
+pub rest-faulty : (late : ℕ) (l : Limits) (left n : ℕ) (t : Tally) (xs : List ℕ) (at f : ℕ) → stepWithin late left (l .mtu) xs at ≡ Faulty f →
+    restOf late l left n t (drop at xs) ≡ Answer.Refused f
 unfolding restOf
-rest-over l t xs at h = rw (read-over (l .mtu) xs at h)
+rest-faulty late l left n t xs at f e = rw (failed-within late left (l .mtu) xs at f e .1)

@@ -45,7 +45,7 @@ pub fn summarize(s: &[u8]) -> Answer
 // whole block.
 fn events(s: &[u8], limits: Limits) -> Answer
     requires { ⌜ (14 ≤ length (now s)) × Holds (limitsOk limits) ⌝ }
-    ensures { λ r. ⌜ r ≡ restOf limits 0 (startOf (limits .lo)) (drop 14 (now (s .entry))) ⌝ }
+    ensures { λ r. ⌜ r ≡ restOf 9 limits mostEvents 0 (startOf (limits .lo)) (drop 14 (now (s .entry))) ⌝ }
 {
     let count = decide::lesser((s.len() as u64 - 14) / 384, MAX_BLOCKS);
     let mut b: u64 = 0;
@@ -56,20 +56,20 @@ fn events(s: &[u8], limits: Limits) -> Answer
         let next = block(s, at, limits, n, t);
         let bad = next.bad;
         if bad != 0 {
-            return walk(s, at, limits, n, t);
+            return walk(s, at, limits, n, t, MAX_EVENTS - n, 9);
         }
         t = next.tally;
         at += 384;
         n += 64;
         b += 1;
     }
-    walk(s, at, limits, n, t)
+    walk(s, at, limits, n, t, MAX_EVENTS - n, 9)
 }
 
 // The tally of the 64 events from a place on, with no branch on what they hold.
 fn block(s: &[u8], from: usize, limits: Limits, n: u64, start: Tally) -> Tallied
     requires { ⌜ (from + 384 ≤ length (now s)) × Ready limits n start × (n + 64 ≤ mostEvents) ⌝ }
-    ensures { λ r. ⌜ (r .bad ≡ 0 → Passed limits (now (s .entry)) from n start 64 (r .tally)) ⌝ }
+    ensures { λ r. ⌜ (r .bad ≡ 0 → Passed limits (now (s .entry)) from n start 64 (from + 384) (r .tally)) ⌝ }
 {
     let mtu = limits.mtu as u64;
     let rise = limits.hi as u64 - limits.lo as u64;
@@ -101,38 +101,43 @@ fn flaw(mtu: u64, length: u64, kind: u64, number: u64) -> u64
     }
 }
 
-// The answer to a record of which n events stand in a tally and the rest begins at a place: one event at a time, to the end or the first fault.
-fn walk(s: &[u8], from: usize, limits: Limits, count: u64, start: Tally) -> Answer
-    requires { ⌜ Ready limits count start ⌝ }
-    ensures { λ r. ⌜ r ≡ restOf limits count start (drop from (now (s .entry))) ⌝ }
+// The answer to a record of which so many events stand in a tally and the rest begins at a place: one item at a time, to the end or the first fault. So many
+// more events may come, and any byte after the last of them gives `late`.
+fn walk(
+    s: &[u8],
+    from: usize,
+    limits: Limits,
+    done: u64,
+    start: Tally,
+    budget: u64,
+    late: u64,
+) -> Answer
+    requires { ⌜ Ready limits done start × (done + budget ≤ mostEvents) ⌝ }
+    ensures { λ r. ⌜ r ≡ restOf late limits budget done start (drop from (now (s .entry))) ⌝ }
 {
     let mtu = limits.mtu;
     let rise = limits.hi as u64 - limits.lo as u64;
     let mut at = from;
-    let mut n = count;
+    let mut n = done;
+    let mut left = budget;
     let mut t = start;
     loop {
-        match record::event_at(s, at, mtu) {
+        match record::event_within(s, at, mtu, left, late) {
             Step::Stands {
                 kind,
                 number,
-                count: _,
+                count,
                 next,
             } => {
-                if n == MAX_EVENTS {
-                    return Answer::Refused(9);
-                }
                 t = tally::step(t, rise, wide(kind), wide(number));
-                n += 1;
+                n += count as u64;
+                left -= count as u64;
                 at = next;
             }
             Step::End => {
                 return Answer::Summed(summary::signed(tally::finish(limits, n, t)));
             }
             Step::Faulty(fault) => {
-                if n == MAX_EVENTS {
-                    return Answer::Refused(9);
-                }
                 return Answer::Refused(fault);
             }
         }

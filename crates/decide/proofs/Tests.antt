@@ -1,6 +1,6 @@
 -- What a test that is false says, and when two tests are equal.
 -- Assumes nothing.
-use mathlib.Core.Bool.{true, false, true≢false}
+use mathlib.Core.Bool.{false, true≢false}
 use mathlib.Core.Path.{_≡_, sym, _∙_}
 use Rattle.decide.specs.Test.{Test, Holds, test, passes, facts, decided}
 use Rattle.decide.proofs.Cases.{by-cases, true-or-false}

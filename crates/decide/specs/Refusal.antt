@@ -1,4 +1,5 @@
--- Refusals: of several faults, which one counts. Each call of the library lists its faults as rows, and its answer's number is `firstOf` of them.
+-- Refusals: of several faults, which one counts. A call's faults are rows, and its number is `firstOf` of them. Within a record the earliest fault counts
+-- instead, and has its own definition (`record`); so has a text in hex.
 -- Assumes nothing.
 use Prim.Native.Nat.{ℕ, zero, suc, _*_, _≤_, _<_}
 use mathlib.Core.Bool.{Bool, true, cond, not, _&&_, _||_}

@@ -13,20 +13,20 @@ use station::Station;
 // What most calls answer: 0 or the number of the refusal. `detail`, here and below, is what a refusal says beside its number: 0, as none says more.
 pub struct Brief {
     pub number: u8,
-    pub detail: u32,
+    pub detail: u64,
 }
 
 // What a client's offer answers: also the mark that its frame was given.
 pub struct Marked {
     pub number: u8,
-    pub detail: u32,
+    pub detail: u64,
     pub mark: u32,
 }
 
 // What goes next: where it comes from (0 nothing, 1 control, 2 primary, 3 secondary, 4 stage), and the frame.
 pub struct Chosen {
     pub number: u8,
-    pub detail: u32,
+    pub detail: u64,
     pub origin: u32,
     pub frame: Frame,
 }

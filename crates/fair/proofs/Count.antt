@@ -20,73 +20,71 @@ raised-within counts counter size h =
 module _ (f : Fair) where
   -- downstream congested and hops > hopsToCongestion, which is 256 − ttl
   pub beyond-exactly : (hops : ℕ) →
-      (test (beyond f hops) ≡ true → (f .downstream ≡ 1) × (256 - f .ttl < hops))
-      × ((f .downstream ≡ 1) × (256 - f .ttl < hops) → test (beyond f hops) ≡ true)
+      (test (beyond f hops) ≡ true → (f .received .downstream ≡ 1) × (256 - f .received .ttl < hops))
+      × ((f .received .downstream ≡ 1) × (256 - f .received .ttl < hops) → test (beyond f hops) ≡ true)
   beyond-exactly hops = (facts (beyond f hops), passes (beyond f hops))
 
   -- 7 exactly if downstream congested, hops > hopsToCongestion and addRateCongested + size > allowedRateCongested
   pub over-exactly : (size hops : ℕ) →
-      (test (over f size hops) ≡ true → ((f .downstream ≡ 1) × (hopsToCongestion f < hops)) × (f .allowedc < f .counters .addc + size))
-      × (((f .downstream ≡ 1) × (hopsToCongestion f < hops)) × (f .allowedc < f .counters .addc + size) → test (over f size hops) ≡ true)
+      (test (over f size hops) ≡ true → ((f .received .downstream ≡ 1) × (hopsToCongestion f < hops)) × (f .decided .allowedc < f .counters .addc + size))
+      × (((f .received .downstream ≡ 1) × (hopsToCongestion f < hops)) × (f .decided .allowedc < f .counters .addc + size) → test (over f size hops) ≡ true)
   over-exactly size hops = (facts (over f size hops), passes (over f size hops))
 
-  module _ (hops size : ℕ) where
+  module _ (s : Settings) (hops size : ℕ) where
     -- An eligible stage frame adds its size to addRate, also to the Congested twin if downstream congested and hops > hopsToCongestion;
     pub stage-beyond : test (beyond f hops) ≡ true →
-        countOf f 4 1 hops size
+        countOf s f 4 1 hops size
         ≡ withCounters (record { add = countedOf (f .counters .add) size; fw = f .counters .fw; addc = countedOf (f .counters .addc) size; fwc = f .counters .fwc }) f
     unfolding test raisedOf
     stage-beyond e = rw e
 
     pub stage-within : test (beyond f hops) ≡ false →
-        countOf f 4 1 hops size
+        countOf s f 4 1 hops size
         ≡ withCounters (record { add = countedOf (f .counters .add) size; fw = f .counters .fw; addc = f .counters .addc; fwc = f .counters .fwc }) f
     unfolding test raisedOf
     stage-within e = rw e
 
     -- a secondary one to fwRate, and to its twin likewise.
     pub secondary-beyond : test (beyond f hops) ≡ true →
-        countOf f 3 1 hops size
+        countOf s f 3 1 hops size
         ≡ withCounters (record { add = f .counters .add; fw = countedOf (f .counters .fw) size; addc = f .counters .addc; fwc = countedOf (f .counters .fwc) size }) f
     unfolding test raisedOf
     secondary-beyond e = rw e
 
     pub secondary-within : test (beyond f hops) ≡ false →
-        countOf f 3 1 hops size
+        countOf s f 3 1 hops size
         ≡ withCounters (record { add = f .counters .add; fw = countedOf (f .counters .fw) size; addc = f .counters .addc; fwc = f .counters .fwc }) f
     unfolding test raisedOf
     secondary-within e = rw e
 
     -- a frame that is neither is not counted:
     pub not-counted : (origin mark : ℕ) → test (fromStage origin mark) ≡ false → test (fromSecondary origin mark) ≡ false →
-        countOf f origin mark hops size ≡ f
+        countOf s f origin mark hops size ≡ f
     unfolding test raisedOf
     not-counted origin mark a b = rw (a, b)
 
     -- one that is not eligible,
-    pub unmarked : (origin mark : ℕ) → (mark ≡ 1 → ⊥) → countOf f origin mark hops size ≡ f
+    pub unmarked : (origin mark : ℕ) → (mark ≡ 1 → ⊥) → countOf s f origin mark hops size ≡ f
     unmarked origin mark n =
         not-counted origin mark
         (sym (decided (fromStage origin mark) false (λ h. n (h .1))))
         (sym (decided (fromSecondary origin mark) false (λ h. n (h .1))))
 
     -- and one from another place.
-    pub other-origin : (origin mark : ℕ) → (origin ≡ 4 → ⊥) → (origin ≡ 3 → ⊥) → countOf f origin mark hops size ≡ f
+    pub other-origin : (origin mark : ℕ) → (origin ≡ 4 → ⊥) → (origin ≡ 3 → ⊥) → countOf s f origin mark hops size ≡ f
     other-origin origin mark n m =
         not-counted origin mark
         (sym (decided (fromStage origin mark) false (λ h. n (h .0))))
         (sym (decided (fromSecondary origin mark) false (λ h. m (h .0))))
 
   -- Local congestion and own rate hold till the next interval: nothing but the counters changes.
-  pub count-holds : (origin mark hops size : ℕ) → withCounters (f .counters) (countOf f origin mark hops size) ≡ f
-  count-holds origin mark hops size = refl
+  pub count-holds : (s : Settings) (origin mark hops size : ℕ) → withCounters (f .counters) (countOf s f origin mark hops size) ≡ f
+  count-holds s origin mark hops size = refl
 
   -- a counted state is in range
-  pub count-in-range : (s : Settings) (origin mark hops size : ℕ) → FairOk s f → FairOk s (countOf f origin mark hops size)
+  pub count-in-range : (s : Settings) (origin mark hops size : ℕ) → FairOk s f → FairOk s (countOf s f origin mark hops size)
   count-in-range s origin mark hops size ok =
       record {
-        own-most = ok .own-most;
-        rate-most = ok .rate-most;
         of-counters =
             record {
               add-most = raised-within _ _ size (ok .of-counters .add-most);
@@ -95,12 +93,6 @@ module _ (f : Fair) where
               fwc-most = raised-within _ _ size (ok .of-counters .fwc-most);
             };
         of-smoothed = ok .of-smoothed;
-        local-most = ok .local-most;
-        allowed-most = ok .allowed-most;
-        allowedc-most = ok .allowedc-most;
-        ttl-least = ok .ttl-least;
-        ttl-most = ok .ttl-most;
-        congested-most = ok .congested-most;
-        downstream-most = ok .downstream-most;
-        high-most = ok .high-most;
+        of-decided = ok .of-decided;
+        of-received = ok .of-received;
       }

@@ -11,7 +11,7 @@ use Rattle.fair.specs.declared.Fair.{Fair}
 use Rattle.fair.specs.Range.{fairOk}
 use Rattle.fair.specs.Count.{beyond, over, raisedOf, countOf}
 use Rattle.fair.specs.Age.{adjustOf, allowedOf, allowedcOf, ageOf}
-use Rattle.fair.specs.Advertise.{toldOf, heardOf}
+use Rattle.fair.specs.Advertise.{toldOf, receivedOf, heardOf}
 
 -- ringlet 0, address 00-01-00-00-00-02, low threshold 1,000, weight 2, rate unit 4, unreservedRate 1,000,000, default coefficients
 abbrev pub settings : Settings
@@ -24,6 +24,7 @@ settings =
       shapers = record { m = b; a = b; b = b; c = b; d = b };
       queues = record { control = 100000; primary = 100000; secondary = 200000; threshold = 1000 };
       fairness = record { weight = 2; unit = 4; ticks = 100; unreserved = 1000000; age = 4; lp = 64; ramp = 64 };
+      site = record {};
     }
 
 -- congested both ways, as told by 00-03-00-00-00-04 with this ttl and rate 125, at this own rate
@@ -31,16 +32,8 @@ abbrev pub state : (own ttl : ℕ) → Fair
 state own ttl = record {
   counters = record { add = 6400; fw = 100; addc = 936; fwc = 2147483600 };
   smoothed = record { add = 37; fw = 0; addc = 0; fwc = 0 };
-  local = 136;
-  allowed = 136;
-  allowedc = 1000;
-  own = own;
-  congested = 1;
-  downstream = 1;
-  ttl = ttl;
-  high = 3;
-  low = 4;
-  rate = 125;
+  decided = record { local = 136; allowed = 136; allowedc = 1000; own = own; congested = 1 };
+  received = record { downstream = 1; ttl = ttl; high = 3; low = 4; rate = 125 };
 }
 
 abbrev pub frame : (ttl high low rate : ℕ) → Advert
@@ -56,31 +49,31 @@ pub record Examples : Type 0 where
   pub size-64 : test (over (state 17 250) 64 7) ≡ false
   pub size-65 : test (over (state 17 250) 65 7) ≡ true
   -- a stage frame of 64 bytes, and a secondary one, whose twin stops at its largest
-  pub stage : countOf (state 17 250) 4 1 7 64 .counters ≡ record { add = 6464; fw = 100; addc = 1000; fwc = 2147483600 }
-  pub secondary : countOf (state 17 250) 3 1 7 64 .counters ≡ record { add = 6400; fw = 164; addc = 936; fwc = 2147483647 }
+  pub stage : countOf settings (state 17 250) 4 1 7 64 .counters ≡ record { add = 6464; fw = 100; addc = 1000; fwc = 2147483600 }
+  pub secondary : countOf settings (state 17 250) 3 1 7 64 .counters ≡ record { add = 6400; fw = 164; addc = 936; fwc = 2147483647 }
   -- 1,001 bytes in the secondary queue: lpAddRate is floor((63 × 37 + 6,400) / 64) = 136, own rate floor(136 / 8) = 17
   pub full-smoothed : ageOf (state 9 250) settings 1001 .smoothed .add ≡ 136
   pub full-counter : ageOf (state 9 250) settings 1001 .counters .add ≡ 4800
-  pub full-congested : ageOf (state 9 250) settings 1001 .congested ≡ 1
-  pub full-allowed : ageOf (state 9 250) settings 1001 .allowed ≡ 136
-  pub full-own : ageOf (state 9 250) settings 1001 .own ≡ 17
+  pub full-congested : ageOf (state 9 250) settings 1001 .decided .congested ≡ 1
+  pub full-allowed : ageOf (state 9 250) settings 1001 .decided .allowed ≡ 136
+  pub full-own : ageOf (state 9 250) settings 1001 .decided .own ≡ 17
   -- 125 × 2 × 4
-  pub full-allowedc : ageOf (state 9 250) settings 1001 .allowedc ≡ 1000
+  pub full-allowedc : ageOf (state 9 250) settings 1001 .decided .allowedc ≡ 1000
   -- 1,000 bytes: not congested; 136 + floor(999,864 / 64); own rate is cut
-  pub room-congested : ageOf (state 9 250) settings 1000 .congested ≡ 0
-  pub room-allowed : ageOf (state 9 250) settings 1000 .allowed ≡ 15758
-  pub room-own : ageOf (state 9 250) settings 1000 .own ≡ 65534
+  pub room-congested : ageOf (state 9 250) settings 1000 .decided .congested ≡ 0
+  pub room-allowed : ageOf (state 9 250) settings 1000 .decided .allowed ≡ 15758
+  pub room-own : ageOf (state 9 250) settings 1000 .decided .own ≡ 65534
   -- own 125 ≤ received 125; own 126 > received 125, whose frame goes on unless its ttl was 193
   pub own-told : toldOf (state 125 250) settings ≡ frame 255 1 2 125
   pub received-told : toldOf (state 126 250) settings ≡ frame 249 3 4 125
   pub last-told : toldOf (state 126 193) settings ≡ frame 255 1 2 65535
   -- a rate of 65,535 clears what was received
-  pub cleared : heardOf (state 17 250) (frame 200 5 6 65535) .downstream ≡ 0
-  pub cleared-ttl : heardOf (state 17 250) (frame 200 5 6 65535) .ttl ≡ 255
-  pub set-ttl : heardOf (state 17 250) (frame 200 5 6 65534) .ttl ≡ 200
+  pub cleared : heardOf (state 17 250) (frame 200 5 6 65535) .received .downstream ≡ 0
+  pub cleared-ttl : heardOf (state 17 250) (frame 200 5 6 65535) .received .ttl ≡ 255
+  pub set-ttl : heardOf (state 17 250) (frame 200 5 6 65534) .received .ttl ≡ 200
 
 pub examples : Examples
-unfolding test fairOk raisedOf adjustOf allowedOf allowedcOf toldOf heardOf partOf smoothedOf shownOf agedOf rampedOf allowanceOf ownRateOf countedOf
+unfolding test fairOk raisedOf adjustOf allowedOf allowedcOf toldOf receivedOf partOf smoothedOf shownOf agedOf rampedOf allowanceOf ownRateOf countedOf
 examples =
     record {
       ttl-193 = refl;

@@ -1,5 +1,5 @@
 -- What a frame changes that is heard, row by row; the faults that it can have; and the range. Assumes nothing.
-use Prim.Native.Nat.{ℕ, _≤_, _<_}
+use Prim.Native.Nat.{_≤_, _<_}
 use mathlib.Core.Bool.{true, false, true≢false}
 use mathlib.Core.Path.{_≡_, refl, sym, _∙_}
 use native.Mathlib.Omega.{arith}
@@ -9,28 +9,34 @@ use Rattle.decide.proofs.Cases.{by-cases, le-or}
 use Rattle.advert.specs.declared.Advert.{Advert}
 use Rattle.settings.specs.declared.Settings.{Settings}
 use Rattle.fair.specs.declared.Fair.{Fair}
-use Rattle.fair.specs.Range.{ttlOk, FairOk}
-use Rattle.fair.specs.Advertise.{receivedOf, heardOf, ownRinglet, ownAddress, ttlFault}
+use Rattle.fair.specs.Range.{ttlOk, ReceivedOk, FairOk}
+use Rattle.fair.specs.Start.{noneReceived}
+use Rattle.fair.specs.Advertise.{receivedOf, withReceived, heardOf, ownRinglet, ownAddress, ttlFault}
+use Rattle.fair.proofs.Range.{none-received-ok}
+
+-- what a frame leaves as received: one that clears, and others
+module _ (a : Advert) where
+  pub received-clears : a .rate ≡ 65535 → receivedOf a ≡ noneReceived
+  unfolding receivedOf test
+  received-clears e = rw (eq-eqb (a .rate) 65535 e)
+
+  pub received-sets : (a .rate ≡ 65535 → ⊥) → receivedOf a ≡ record { downstream = 1; ttl = a .ttl; high = a .high; low = a .low; rate = a .rate }
+  unfolding receivedOf test
+  received-sets n = rw (ne-eqb (a .rate) 65535 n)
 
 module _ (f : Fair) (a : Advert) where
   -- A rate of 65,535 clears downstream congestion, with received ttl 255, received address and rate 0;
-  pub heard-clears : a .rate ≡ 65535 → heardOf f a ≡ receivedOf f 0 255 0 0 0
-  unfolding heardOf test
-  heard-clears e = rw (eq-eqb (a .rate) 65535 e)
+  pub heard-clears : a .rate ≡ 65535 → heardOf f a ≡ withReceived noneReceived f
+  heard-clears e = rw (received-clears a e)
 
   -- others set it.
-  pub heard-sets : (a .rate ≡ 65535 → ⊥) → heardOf f a ≡ receivedOf f 1 (a .ttl) (a .high) (a .low) (a .rate)
-  unfolding heardOf test
-  heard-sets n = rw (ne-eqb (a .rate) 65535 n)
+  pub heard-sets : (a .rate ≡ 65535 → ⊥)
+      → heardOf f a ≡ withReceived (record { downstream = 1; ttl = a .ttl; high = a .high; low = a .low; rate = a .rate }) f
+  heard-sets n = rw (received-sets a n)
 
   -- Local congestion and own rate hold till the next interval, and so do all rates.
-  pub heard-holds :
-      (heardOf f a .congested ≡ f .congested) × (heardOf f a .own ≡ f .own) × (heardOf f a .local ≡ f .local)
-      × (heardOf f a .allowed ≡ f .allowed) × (heardOf f a .allowedc ≡ f .allowedc)
-  heard-holds =
-      by-cases (split (a .rate ≡? 65535))
-      (λ e. rw (heard-clears e) (refl, refl, refl, refl, refl))
-      (λ n. rw (heard-sets n) (refl, refl, refl, refl, refl))
+  pub heard-holds : heardOf f a .decided ≡ f .decided
+  heard-holds = refl
 
 module _ (s : Settings) (a : Advert) where
   -- 2: the frame's ringlet bit is the station's own
@@ -52,28 +58,16 @@ module _ (s : Settings) (a : Advert) where
 
 -- ---- the range
 
-module _ (s : Settings) (f : Fair) (ok : FairOk s f) where
-  received-in-range : (downstream ttl high low rate : ℕ) → downstream ≤ 1 → 193 ≤ ttl → ttl ≤ 255 → high ≤ 65535 → rate ≤ 65534 →
-      FairOk s (receivedOf f downstream ttl high low rate)
-  received-in-range downstream ttl high low rate d l m h r =
-      record {
-        own-most = ok .own-most;
-        rate-most = r;
-        of-counters = ok .of-counters;
-        of-smoothed = ok .of-smoothed;
-        local-most = ok .local-most;
-        allowed-most = ok .allowed-most;
-        allowedc-most = ok .allowedc-most;
-        ttl-least = l;
-        ttl-most = m;
-        congested-most = ok .congested-most;
-        downstream-most = d;
-        high-most = h;
-      }
+-- a frame with a ttl of 193 to 255, and an address and a rate as any frame has, leaves what is received in range
+received-in-range : (a : Advert) → 193 ≤ a .ttl → a .ttl ≤ 255 → a .high ≤ 65535 → a .rate ≤ 65535 → ReceivedOk (receivedOf a)
+received-in-range a l m h r =
+    by-cases (split (a .rate ≡? 65535))
+    (λ e. rw (received-clears a e) none-received-ok)
+    (λ n. rw (received-sets a n)
+    (record { rate-most = omega (arith, r, n); ttl-least = l; ttl-most = m; downstream-most = omega arith; high-most = h }))
 
-  -- a frame with a ttl of 193 to 255, and an address and a rate as any frame has, leaves a state in range
-  pub heard-in-range : (a : Advert) → 193 ≤ a .ttl → a .ttl ≤ 255 → a .high ≤ 65535 → a .rate ≤ 65535 → FairOk s (heardOf f a)
-  heard-in-range a l m h r =
-      by-cases (split (a .rate ≡? 65535))
-      (λ e. rw (heard-clears f a e) (received-in-range 0 255 0 0 0 (omega arith) (omega arith) (omega arith) (omega arith) (omega arith)))
-      (λ n. rw (heard-sets f a n) (received-in-range 1 (a .ttl) (a .high) (a .low) (a .rate) (omega arith) l m h (omega (arith, r, n))))
+-- and with it the state
+pub heard-in-range : (s : Settings) (f : Fair) → FairOk s f → (a : Advert) → 193 ≤ a .ttl → a .ttl ≤ 255 → a .high ≤ 65535 → a .rate ≤ 65535 →
+    FairOk s (heardOf f a)
+heard-in-range s f ok a l m h r =
+    record { of-counters = ok .of-counters; of-smoothed = ok .of-smoothed; of-decided = ok .of-decided; of-received = received-in-range a l m h r }

@@ -5,6 +5,7 @@ use mathlib.Core.List.{[], _∷_}
 use mathlib.Core.Path.{_≡_, refl, sym, _∙_}
 use native.Mathlib.Omega.{arith}
 use Rattle.decide.specs.Test.{passes, decided}
+use Rattle.decide.proofs.Tests.{fails}
 use Rattle.decide.proofs.Refusal.{in-order}
 use Rattle.advert.proofs.ReadBack.{parse-written}
 use Rattle.settings.specs.declared.Settings.{Settings}
@@ -12,11 +13,11 @@ use Rattle.settings.specs.Range.{SettingsOk}
 use Rattle.fair.specs.declared.Fair.{Fair}
 use Rattle.fair.specs.Range.{ttlOk, FairOk}
 use Rattle.fair.specs.Advertise.{ownFrame, passedOn, lastHop, toldOf, ownRinglet, ringletFault, ttlFault, addressFault}
-use Rattle.fair.proofs.Told.{told-each}
+use Rattle.fair.proofs.Told.{last-exactly, told-each}
 use Rattle.fair.specs.ReadBack.{Sound, ReadBack}
 
 -- settings and state in range; the low 32 bits of an address are a 32-bit number
-module _ (s : Settings) (f : Fair) (settings : SettingsOk s) (ok : FairOk s f) (own-low : s .address .low < 4294967296) (low : f .low < 4294967296) where
+module _ (s : Settings) (f : Fair) (settings : SettingsOk s) (ok : FairOk s f) (own-low : s .address .low < 4294967296) (low : f .received .low < 4294967296) where
   own-sound : (rate : ℕ) → rate ≤ 65535 → Sound s (ownFrame s rate)
   own-sound rate h =
       record {
@@ -33,27 +34,27 @@ module _ (s : Settings) (f : Fair) (settings : SettingsOk s) (ok : FairOk s f) (
         bit = refl;
       }
 
-  passed-sound : (f .ttl ≡ 193 → ⊥) → Sound s (passedOn f s)
+  passed-sound : (f .received .ttl ≡ 193 → ⊥) → Sound s (passedOn f s)
   passed-sound n =
-      let least : 194 ≤ f .ttl = omega (arith, ok .ttl-least, n) in
+      let least : 194 ≤ f .received .ttl = omega (arith, ok .of-received .ttl-least, n) in
       record {
         fits =
             record {
               ringlet-fits = omega arith;
-              ttl-fits = omega (arith, ok .ttl-most);
-              high-fits = omega (arith, ok .high-most);
+              ttl-fits = omega (arith, ok .of-received .ttl-most);
+              high-fits = omega (arith, ok .of-received .high-most);
               low-fits = low;
-              rate-fits = omega (arith, ok .rate-most);
+              rate-fits = omega (arith, ok .of-received .rate-most);
             };
         ttl-least = omega arith;
-        ttl-most = omega (arith, ok .ttl-most);
+        ttl-most = omega (arith, ok .of-received .ttl-most);
         bit = refl;
       }
 
   pub told-sound : Sound s (toldOf f s)
   told-sound =
-      told-each f s (Sound s) (own-sound 65535 (omega arith)) (own-sound (f .own) (omega (arith, ok .own-most)))
-      (λ e. passed-sound (λ h. mathlib.Core.Bool.true≢false (sym (passes (lastHop (f .ttl)) h) ∙ e)))
+      told-each f s (Sound s) (own-sound 65535 (omega arith)) (own-sound (f .decided .own) (omega (arith, ok .of-decided .own-most)))
+      (λ e. passed-sound (λ h. fails (lastHop (f .received .ttl)) e (last-exactly (f .received .ttl) .1 h)))
 
   other-bit : toldOf f s .ringlet ≡ s .ringlet → ⊥
   other-bit e = let b = told-sound .bit in let m = settings .ringlet-most in omega arith

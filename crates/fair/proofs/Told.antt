@@ -1,10 +1,11 @@
 -- What is advertised, row by row: each row follows from the definition by whether its tests hold. Assumes nothing.
-use Prim.Native.Nat.{_≤_, _<_}
+use Prim.Native.Nat.{ℕ, _≤_, _<_}
 use mathlib.Core.Bool.{true, false}
-use mathlib.Core.Logic.{_⊎_, inl, inr, ⊎-elim}
+use mathlib.Core.Logic.{_⊎_, inl, inr, ⊎-elim, _↔_}
 use mathlib.Core.Path.{_≡_, sym}
 use native.Mathlib.Omega.{arith}
-use Rattle.decide.specs.Test.{test, passes, decided}
+use Rattle.decide.specs.Test.{test, Holds, passes, decided}
+use Rattle.decide.proofs.Tests.{failing}
 use Rattle.decide.proofs.Cases.{of-each}
 use Rattle.advert.specs.declared.Advert.{Advert}
 use Rattle.settings.specs.declared.Settings.{Settings}
@@ -13,7 +14,11 @@ use Rattle.fair.specs.Advertise.{ownFrame, passedOn, uncongested, ownCou
 
 -- the received rate counts: downstream congested, and not locally too or own > received
 abbrev pub ReceivedCounts : Fair → Type 0
-ReceivedCounts f = (f .downstream ≡ 1) × ((f .congested ≡ 0) ⊎ (f .rate < f .own))
+ReceivedCounts f = (f .received .downstream ≡ 1) × ((f .decided .congested ≡ 0) ⊎ (f .received .rate < f .decided .own))
+
+-- a received frame goes no further if its ttl was 193
+pub last-exactly : (ttl : ℕ) → Holds (lastHop ttl) ↔ (ttl ≡ 193)
+last-exactly ttl = (λ h. h, λ h. h)
 
 module _ (f : Fair) (s : Settings) where
   -- ---- the cases of the definition
@@ -22,39 +27,39 @@ module _ (f : Fair) (s : Settings) where
   unfolding toldOf
   told-free e = rw e
 
-  pub told-own : test (uncongested f) ≡ false → test (ownCounts f) ≡ true → toldOf f s ≡ ownFrame s (f .own)
+  pub told-own : test (uncongested f) ≡ false → test (ownCounts f) ≡ true → toldOf f s ≡ ownFrame s (f .decided .own)
   unfolding toldOf
   told-own n e = rw (n, e)
 
-  pub told-last : test (uncongested f) ≡ false → test (ownCounts f) ≡ false → test (lastHop (f .ttl)) ≡ true → toldOf f s ≡ ownFrame s 65535
+  pub told-last : test (uncongested f) ≡ false → test (ownCounts f) ≡ false → test (lastHop (f .received .ttl)) ≡ true → toldOf f s ≡ ownFrame s 65535
   unfolding toldOf
   told-last n m e = rw (n, m, e)
 
-  pub told-passed : test (uncongested f) ≡ false → test (ownCounts f) ≡ false → test (lastHop (f .ttl)) ≡ false → toldOf f s ≡ passedOn f s
+  pub told-passed : test (uncongested f) ≡ false → test (ownCounts f) ≡ false → test (lastHop (f .received .ttl)) ≡ false → toldOf f s ≡ passedOn f s
   unfolding toldOf
   told-passed n m e = rw (n, m, e)
 
   -- what holds of a FULL frame, of an own one, and of a received one whose ttl was not 193, holds of what is told
-  pub told-each : (P : Advert → Type 0) → P (ownFrame s 65535) → P (ownFrame s (f .own)) → (test (lastHop (f .ttl)) ≡ false → P (passedOn f s)) →
+  pub told-each : (P : Advert → Type 0) → P (ownFrame s 65535) → P (ownFrame s (f .decided .own)) → (test (lastHop (f .received .ttl)) ≡ false → P (passedOn f s)) →
       P (toldOf f s)
   unfolding toldOf
   told-each P full own passed =
       of-each P (test (uncongested f)) _ _ (λ e. full)
-      (λ e. of-each P (test (ownCounts f)) _ _ (λ e. own) (λ e. of-each P (test (lastHop (f .ttl))) _ _ (λ e. full) passed))
+      (λ e. of-each P (test (ownCounts f)) _ _ (λ e. own) (λ e. of-each P (test (lastHop (f .received .ttl))) _ _ (λ e. full) passed))
 
   -- ---- one law for each row
 
   -- Advertise 65,535 (FULL_RATE) when not congested either way;
-  pub not-congested : f .congested ≡ 0 → f .downstream ≡ 0 → toldOf f s ≡ ownFrame s 65535
+  pub not-congested : f .decided .congested ≡ 0 → f .received .downstream ≡ 0 → toldOf f s ≡ ownFrame s 65535
   not-congested a b = told-free (passes (uncongested f) (a, b))
 
   -- own rate when only locally congested,
-  pub only-locally : f .congested ≡ 1 → f .downstream ≡ 0 → toldOf f s ≡ ownFrame s (f .own)
+  pub only-locally : f .decided .congested ≡ 1 → f .received .downstream ≡ 0 → toldOf f s ≡ ownFrame s (f .decided .own)
   only-locally a b =
       told-own (sym (decided (uncongested f) false (λ h. omega arith))) (passes (ownCounts f) (inl (a, b)))
 
   -- or both and own ≤ received;
-  pub both-own : f .congested ≡ 1 → f .downstream ≡ 1 → f .own ≤ f .rate → toldOf f s ≡ ownFrame s (f .own)
+  pub both-own : f .decided .congested ≡ 1 → f .received .downstream ≡ 1 → f .decided .own ≤ f .received .rate → toldOf f s ≡ ownFrame s (f .decided .own)
   both-own a b h =
       told-own (sym (decided (uncongested f) false (λ h. omega arith))) (passes (ownCounts f) (inr (a, (b, h))))
 
@@ -70,9 +75,9 @@ module _ (f : Fair) (s : Settings) where
         (λ h. ⊎-elim (λ p. omega arith) (λ p. ⊎-elim (λ q. omega arith) (λ q. omega arith) (r .1)) h))
 
     -- else the received rate, its address, ttl less 1,
-    pub else-received : (f .ttl ≡ 193 → ⊥) → toldOf f s ≡ passedOn f s
-    else-received n = told-passed congested not-own (sym (decided (lastHop (f .ttl)) false n))
+    pub else-received : (f .received .ttl ≡ 193 → ⊥) → toldOf f s ≡ passedOn f s
+    else-received n = told-passed congested not-own (failing (lastHop (f .received .ttl)) (λ h. n (last-exactly (f .received .ttl) .0 h)))
 
     -- but FULL_RATE if its ttl was 193.
-    pub else-last : f .ttl ≡ 193 → toldOf f s ≡ ownFrame s 65535
-    else-last e = told-last congested not-own (passes (lastHop (f .ttl)) e)
+    pub else-last : f .received .ttl ≡ 193 → toldOf f s ≡ ownFrame s 65535
+    else-last e = told-last congested not-own (passes (lastHop (f .received .ttl)) (last-exactly (f .received .ttl) .1 e))

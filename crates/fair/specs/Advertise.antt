@@ -5,8 +5,10 @@ use Rattle.decide.specs.Test.{Test, test, _≤?_, _≡?_, _∧?_, _∨?_}
 use Rattle.decide.specs.Refusal.{Fault, fault}
 use Rattle.advert.specs.declared.Advert.{Advert}
 use Rattle.settings.specs.declared.Settings.{Settings}
+use Rattle.fair.specs.declared.Received.{Received}
 use Rattle.fair.specs.declared.Fair.{Fair}
 use Rattle.fair.specs.Range.{ttlOk}
+use Rattle.fair.specs.Start.{noneReceived}
 
 -- ---- told
 
@@ -20,17 +22,23 @@ ownFrame s rate = record { ringlet = otherRinglet s; ttl = 255; high = s .addres
 
 -- the received rate, its address, ttl less 1
 abbrev pub passedOn : Fair → Settings → Advert
-passedOn f s = record { ringlet = otherRinglet s; ttl = f .ttl - 1; high = f .high; low = f .low; rate = f .rate }
+passedOn f s = record {
+  ringlet = otherRinglet s;
+  ttl = f .received .ttl - 1;
+  high = f .received .high;
+  low = f .received .low;
+  rate = f .received .rate;
+}
 
 -- not congested either way
 abbrev pub uncongested : Fair → Test
-uncongested f = f .congested ≡? 0 ∧? f .downstream ≡? 0
+uncongested f = f .decided .congested ≡? 0 ∧? f .received .downstream ≡? 0
 
 -- only locally congested, or both and own ≤ received
 abbrev pub ownCounts : Fair → Test
 ownCounts f =
-    f .congested ≡? 1 ∧? f .downstream ≡? 0
-    ∨? f .congested ≡? 1 ∧? f .downstream ≡? 1 ∧? f .own ≤? f .rate
+    f .decided .congested ≡? 1 ∧? f .received .downstream ≡? 0
+    ∨? f .decided .congested ≡? 1 ∧? f .received .downstream ≡? 1 ∧? f .decided .own ≤? f .received .rate
 
 -- a received frame goes no further if its ttl was 193
 abbrev pub lastHop : ℕ → Test
@@ -41,34 +49,24 @@ lastHop ttl = ttl ≡? 193
 unfoldable pub toldOf : Fair → Settings → Advert
 toldOf f s =
     cond (test (uncongested f)) (ownFrame s 65535)
-    (cond (test (ownCounts f)) (ownFrame s (f .own))
-    (cond (test (lastHop (f .ttl))) (ownFrame s 65535) (passedOn f s)))
+    (cond (test (ownCounts f)) (ownFrame s (f .decided .own))
+    (cond (test (lastHop (f .received .ttl))) (ownFrame s 65535) (passedOn f s)))
 
 -- ---- heard
 
--- the state with downstream congestion, and received ttl, address and rate
-abbrev pub receivedOf : Fair → ℕ → ℕ → ℕ → ℕ → ℕ → Fair
-receivedOf f downstream ttl high low rate = record {
-  counters = f .counters;
-  smoothed = f .smoothed;
-  local = f .local;
-  allowed = f .allowed;
-  allowedc = f .allowedc;
-  own = f .own;
-  congested = f .congested;
-  downstream = downstream;
-  ttl = ttl;
-  high = high;
-  low = low;
-  rate = rate;
-}
-
 -- A rate of 65,535 clears downstream congestion, others set it. A frame that clears it sets received ttl 255, received address and rate 0.
-unfoldable pub heardOf : Fair → Advert → Fair
-heardOf f a =
+unfoldable pub receivedOf : Advert → Received
+receivedOf a =
     cond (test (a .rate ≡? 65535))
-    (receivedOf f 0 255 0 0 0)
-    (receivedOf f 1 (a .ttl) (a .high) (a .low) (a .rate))
+    noneReceived
+    (record { downstream = 1; ttl = a .ttl; high = a .high; low = a .low; rate = a .rate })
+
+-- the state with something else received
+abbrev pub withReceived : Received → Fair → Fair
+withReceived r f = record { counters = f .counters; smoothed = f .smoothed; decided = f .decided; received = r }
+
+abbrev pub heardOf : Fair → Advert → Fair
+heardOf f a = withReceived (receivedOf a) f
 
 -- ---- the faults of a frame that is heard
 

@@ -6,6 +6,7 @@ use Rattle.rates.specs.Rates.{smoothedOf, shownOf, agedOf, rampedOf, allowanceO
 use Rattle.settings.specs.declared.Fairness.{Fairness}
 use Rattle.settings.specs.declared.Settings.{Settings}
 use Rattle.fair.specs.declared.Four.{Four}
+use Rattle.fair.specs.declared.Decided.{Decided}
 use Rattle.fair.specs.declared.Fair.{Fair}
 use Rattle.fair.specs.declared.Adjusted.{Adjusted}
 
@@ -22,9 +23,10 @@ smoothOf lp lpCoef rate = record {
 abbrev pub localTest : Settings → ℕ → Test
 localTest s held = s .queues .threshold <? held
 
+-- Local congestion and localFairRate, from the new smoothed rates and the bytes in the secondary queue; what was decided before is given and not looked at.
 -- localFairRate: lpAddRate if locally congested, else unreservedRate.
-unfoldable pub adjustOf : Settings → Four → ℕ → Adjusted
-adjustOf s lp held =
+unfoldable pub adjustOf : Settings → Decided → Four → ℕ → Adjusted
+adjustOf s old lp held =
     cond (test (localTest s held))
     (record { congested = 1; local = shownOf (lp .add) })
     (record { congested = 0; local = s .fairness .unreserved })
@@ -39,9 +41,9 @@ allowedOf allowed g a =
 -- allowedRateCongested: if downstream congested the smaller of unreservedRate and received × weight × unit, else ramped the same way.
 unfoldable pub allowedcOf : Fair → Fairness → ℕ
 allowedcOf f g =
-    cond (test (f .downstream ≡? 1))
-    (allowanceOf (f .rate) (g .weight) (g .unit) (g .unreserved))
-    (rampedOf (f .allowedc) (g .unreserved) (g .ramp))
+    cond (test (f .received .downstream ≡? 1))
+    (allowanceOf (f .received .rate) (g .weight) (g .unit) (g .unreserved))
+    (rampedOf (f .decided .allowedc) (g .unreserved) (g .ramp))
 
 -- Each counter becomes floor(rate × (ageCoef−1) / ageCoef).
 abbrev pub lowerOf : Four → ℕ → Four
@@ -52,29 +54,29 @@ lowerOf rate ageCoef = record {
   fwc = agedOf (rate .fwc) ageCoef;
 }
 
--- The allowed rates and own rate, from congestion and localFairRate as adjusted, with the new smoothed rates and the counters as they have aged.
--- Own rate is floor(localFairRate / (weight × unit)), at most 65,534.
-abbrev pub restOf : Fair → Fairness → Four → Adjusted → Four → Fair
-restOf f g lp a counters = record {
-  counters = counters;
-  smoothed = lp;
+-- The allowed rates and own rate, from congestion and localFairRate as adjusted. Own rate is floor(localFairRate / (weight × unit)), at most 65,534.
+abbrev pub newDecided : Fair → Fairness → Adjusted → Decided
+newDecided f g a = record {
   local = a .local;
-  allowed = allowedOf (f .allowed) g a;
+  allowed = allowedOf (f .decided .allowed) g a;
   allowedc = allowedcOf f g;
   own = ownRateOf (a .local) (g .weight) (g .unit);
   congested = a .congested;
-  downstream = f .downstream;
-  ttl = f .ttl;
-  high = f .high;
-  low = f .low;
-  rate = f .rate;
 }
 
 -- the four smoothed rates that an interval leaves
 abbrev pub newSmoothed : Fair → Settings → Four
 newSmoothed f s = smoothOf (f .smoothed) (s .fairness .lp) (f .counters)
 
--- The interval, with so many bytes in the secondary queue.
+-- local congestion and localFairRate as an interval adjusts them, with so many bytes in the secondary queue
+abbrev pub newAdjusted : Fair → Settings → ℕ → Adjusted
+newAdjusted f s held = adjustOf s (f .decided) (newSmoothed f s) held
+
+-- The interval, with so many bytes in the secondary queue. What was received stays.
 abbrev pub ageOf : Fair → Settings → ℕ → Fair
-ageOf f s held =
-    restOf f (s .fairness) (newSmoothed f s) (adjustOf s (newSmoothed f s) held) (lowerOf (f .counters) (s .fairness .age))
+ageOf f s held = record {
+  counters = lowerOf (f .counters) (s .fairness .age);
+  smoothed = newSmoothed f s;
+  decided = newDecided f (s .fairness) (newAdjusted f s held);
+  received = f .received;
+}

@@ -3,20 +3,21 @@ use Prim.Native.Nat.{ℕ, _+_, _-_}
 use mathlib.Core.Bool.{Bool, cond}
 use Rattle.decide.specs.Test.{Test, test, _<?_, _≡?_, _∧?_}
 use Rattle.rates.specs.Rates.{countedOf}
+use Rattle.settings.specs.declared.Settings.{Settings}
 use Rattle.fair.specs.declared.Four.{Four}
 use Rattle.fair.specs.declared.Fair.{Fair}
 
 -- hopsToCongestion = 256 − ttl.
 abbrev pub hopsToCongestion : Fair → ℕ
-hopsToCongestion f = 256 - f .ttl
+hopsToCongestion f = 256 - f .received .ttl
 
 -- downstream congested and hops > hopsToCongestion
 abbrev pub beyond : Fair → ℕ → Test
-beyond f hops = f .downstream ≡? 1 ∧? hopsToCongestion f <? hops
+beyond f hops = f .received .downstream ≡? 1 ∧? hopsToCongestion f <? hops
 
 -- If downstream congested, an eligible client frame with hops > hopsToCongestion gets 7 when addRateCongested + size > allowedRateCongested.
 abbrev pub over : Fair → ℕ → ℕ → Test
-over f size hops = beyond f hops ∧? f .allowedc <? f .counters .addc + size
+over f size hops = beyond f hops ∧? f .decided .allowedc <? f .counters .addc + size
 
 -- an eligible stage frame (origin 4), and a secondary one (origin 3)
 abbrev pub fromStage : ℕ → ℕ → Test
@@ -31,8 +32,8 @@ raisedOf counts counter size = cond counts (countedOf counter size) counter
 
 -- An eligible stage frame adds its size to addRate, a secondary one to fwRate; also to the Congested twin if downstream congested and
 -- hops > hopsToCongestion.
-abbrev pub countersOf : Fair → ℕ → ℕ → ℕ → ℕ → Four
-countersOf f origin mark hops size = record {
+abbrev pub countersOf : Settings → Fair → ℕ → ℕ → ℕ → ℕ → Four
+countersOf s f origin mark hops size = record {
   add = raisedOf (test (fromStage origin mark)) (f .counters .add) size;
   fw = raisedOf (test (fromSecondary origin mark)) (f .counters .fw) size;
   addc = raisedOf (test (fromStage origin mark ∧? beyond f hops)) (f .counters .addc) size;
@@ -41,20 +42,8 @@ countersOf f origin mark hops size = record {
 
 -- the state with other counters
 abbrev pub withCounters : Four → Fair → Fair
-withCounters c f = record {
-  counters = c;
-  smoothed = f .smoothed;
-  local = f .local;
-  allowed = f .allowed;
-  allowedc = f .allowedc;
-  own = f .own;
-  congested = f .congested;
-  downstream = f .downstream;
-  ttl = f .ttl;
-  high = f .high;
-  low = f .low;
-  rate = f .rate;
-}
+withCounters c f = record { counters = c; smoothed = f .smoothed; decided = f .decided; received = f .received }
 
-abbrev pub countOf : Fair → ℕ → ℕ → ℕ → ℕ → Fair
-countOf f origin mark hops size = withCounters (countersOf f origin mark hops size) f
+-- under these settings
+abbrev pub countOf : Settings → Fair → ℕ → ℕ → ℕ → ℕ → Fair
+countOf s f origin mark hops size = withCounters (countersOf s f origin mark hops size) f

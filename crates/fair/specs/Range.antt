@@ -4,6 +4,8 @@ use Prim.Native.Nat.{ℕ, _≤_}
 use Rattle.decide.specs.Test.{Test, _≤?_, _∧?_}
 use Rattle.settings.specs.declared.Settings.{Settings}
 use Rattle.fair.specs.declared.Four.{Four}
+use Rattle.fair.specs.declared.Decided.{Decided}
+use Rattle.fair.specs.declared.Received.{Received}
 use Rattle.fair.specs.declared.Fair.{Fair}
 
 -- ttl 193 to 255, received and in a frame alike
@@ -14,14 +16,19 @@ ttlOk ttl = 193 ≤? ttl ∧? ttl ≤? 255
 abbrev pub fourOk : Four → Test
 fourOk r = r .add ≤? 2147483647 ∧? r .fw ≤? 2147483647 ∧? r .addc ≤? 2147483647 ∧? r .fwc ≤? 2147483647
 
--- All rates, the received ttl, the two flags, each 0 or 1, and the high 16 bits of the received address.
+-- own rate, localFairRate, both allowed rates, and a flag, 0 or 1
+abbrev pub decidedOk : Settings → Decided → Test
+decidedOk s d =
+    d .own ≤? 65534 ∧? d .local ≤? 2147483647
+    ∧? d .allowed ≤? s .fairness .unreserved ∧? d .allowedc ≤? s .fairness .unreserved
+    ∧? d .congested ≤? 1
+
+-- received rate and ttl, a flag, 0 or 1, and the high 16 bits of the received address
+abbrev pub receivedOk : Received → Test
+receivedOk r = r .rate ≤? 65534 ∧? ttlOk (r .ttl) ∧? r .downstream ≤? 1 ∧? r .high ≤? 65535
+
 unfoldable pub fairOk : Settings → Fair → Test
-fairOk s f =
-    f .own ≤? 65534 ∧? f .rate ≤? 65534
-    ∧? fourOk (f .counters) ∧? fourOk (f .smoothed) ∧? f .local ≤? 2147483647
-    ∧? f .allowed ≤? s .fairness .unreserved ∧? f .allowedc ≤? s .fairness .unreserved
-    ∧? ttlOk (f .ttl)
-    ∧? f .congested ≤? 1 ∧? f .downstream ≤? 1 ∧? f .high ≤? 65535
+fairOk s f = fourOk (f .counters) ∧? fourOk (f .smoothed) ∧? decidedOk s (f .decided) ∧? receivedOk (f .received)
 
 -- ---- the same as named facts
 
@@ -31,16 +38,22 @@ pub record FourOk (r : Four) : Type 0 where
   pub addc-most : r .addc ≤ 2147483647
   pub fwc-most : r .fwc ≤ 2147483647
 
+pub record DecidedOk (s : Settings) (d : Decided) : Type 0 where
+  pub own-most : d .own ≤ 65534
+  pub local-most : d .local ≤ 2147483647
+  pub allowed-most : d .allowed ≤ s .fairness .unreserved
+  pub allowedc-most : d .allowedc ≤ s .fairness .unreserved
+  pub congested-most : d .congested ≤ 1
+
+pub record ReceivedOk (r : Received) : Type 0 where
+  pub rate-most : r .rate ≤ 65534
+  pub ttl-least : 193 ≤ r .ttl
+  pub ttl-most : r .ttl ≤ 255
+  pub downstream-most : r .downstream ≤ 1
+  pub high-most : r .high ≤ 65535
+
 pub record FairOk (s : Settings) (f : Fair) : Type 0 where
-  pub own-most : f .own ≤ 65534
-  pub rate-most : f .rate ≤ 65534
   pub of-counters : FourOk (f .counters)
   pub of-smoothed : FourOk (f .smoothed)
-  pub local-most : f .local ≤ 2147483647
-  pub allowed-most : f .allowed ≤ s .fairness .unreserved
-  pub allowedc-most : f .allowedc ≤ s .fairness .unreserved
-  pub ttl-least : 193 ≤ f .ttl
-  pub ttl-most : f .ttl ≤ 255
-  pub congested-most : f .congested ≤ 1
-  pub downstream-most : f .downstream ≤ 1
-  pub high-most : f .high ≤ 65535
+  pub of-decided : DecidedOk s (f .decided)
+  pub of-received : ReceivedOk (f .received)

@@ -3,12 +3,14 @@
 ghost use mathlib.Core.Path.{_≡_};
 ghost use Rattle.decide.specs.Test.{test};
 ghost use Rattle.rates.specs.Rates.{shareOf};
-ghost use Rattle.fair.specs.Range.{ttlOk, fourOk, fairOk, FairOk};
-ghost use Rattle.fair.specs.Start.{startOf};
+ghost use Rattle.fair.specs.Range.{ttlOk, fourOk, decidedOk, receivedOk, fairOk};
+ghost use Rattle.fair.specs.Start.{noneReceived, startOf};
 ghost use Rattle.fair.specs.Count.{beyond, over, raisedOf, countOf};
-ghost use Rattle.fair.specs.Age.{smoothOf, lowerOf, localTest, adjustOf, allowedOf, allowedcOf, restOf, ageOf};
-ghost use Rattle.fair.specs.Advertise.{otherRinglet, ownFrame, uncongested, ownCounts, lastHop, toldOf};
-ghost use Rattle.fair.specs.Advertise.{receivedOf, heardOf, ownRinglet, ownAddress};
+ghost use Rattle.fair.specs.Age.{smoothOf, lowerOf, localTest, adjustOf, allowedOf, allowedcOf, newDecided, ageOf};
+ghost use Rattle.fair.specs.Advertise.{ownRinglet, ownAddress};
+
+mod advertising;
+
 use advert::Advert;
 use settings::Address;
 use settings::Fairness;
@@ -23,24 +25,31 @@ pub struct Four {
     pub fwc: u32,
 }
 
-// What a station knows of the rates and of congestion, its own and that of stations downstream.
-pub struct Fair {
-    // addRate, fwRate, addRateCongested, fwRateCongested, and the same smoothed (lpAddRate and so on)
-    pub counters: Four,
-    pub smoothed: Four,
-    // localFairRate, allowedRate, allowedRateCongested, own rate
+// What intervals decide: localFairRate, allowedRate, allowedRateCongested, own rate, and whether the station is locally congested (1, else 0).
+pub struct Decided {
     pub local: u32,
     pub allowed: u32,
     pub allowedc: u32,
     pub own: u32,
-    // locally congested, and downstream congested: 1, else 0
     pub congested: u32,
+}
+
+// What was received: whether a station downstream is congested (1, else 0), ttl, the high 16 and the low 32 bits of the address, rate.
+pub struct Received {
     pub downstream: u32,
-    // what was received: ttl, the high 16 and the low 32 bits of the address, rate
     pub ttl: u32,
     pub high: u32,
     pub low: u32,
     pub rate: u32,
+}
+
+// What a station knows of the rates and of congestion, its own and that of stations downstream: addRate, fwRate, addRateCongested, fwRateCongested, the
+// same smoothed (lpAddRate and so on), what the last interval decided, and what was received.
+pub struct Fair {
+    pub counters: Four,
+    pub smoothed: Four,
+    pub decided: Decided,
+    pub received: Received,
 }
 
 // What an interval decides first: whether the station is locally congested (1, else 0), and localFairRate.
@@ -103,26 +112,60 @@ pub fn ttl_ok(ttl: u32) -> bool
     (193 <= ttl) & (ttl <= 255)
 }
 
-impl Fair {
-    // The largest own rate, and the largest received rate.
+impl Decided {
+    // The largest own rate.
     pub const MAX_OWN: u32 = 65534;
 
+    // Whether each rate, and the flag, is in its range under these settings.
+    fn in_range(self, settings: Settings) -> bool
+        ensures { λ r. ⌜ r ≡ test (decidedOk settings self) ⌝ }
+    {
+        let unreserved = settings.fairness.unreserved;
+        (self.own <= Decided::MAX_OWN)
+            & (self.local <= Four::MAX)
+            & (self.allowed <= unreserved)
+            & (self.allowedc <= unreserved)
+            & (self.congested <= 1)
+    }
+}
+
+impl Received {
+    // The largest received rate.
+    pub const MAX_RATE: u32 = 65534;
+
+    // Nothing received.
+    fn none() -> Received
+        ensures { λ r. ⌜ r ≡ noneReceived ⌝ }
+    {
+        Received {
+            downstream: 0,
+            ttl: 255,
+            high: 0,
+            low: 0,
+            rate: 0,
+        }
+    }
+
+    // Whether rate, ttl, flag and address are each in range.
+    fn in_range(self) -> bool
+        ensures { λ r. ⌜ r ≡ test (receivedOk self) ⌝ }
+    {
+        (self.rate <= Received::MAX_RATE)
+            & ttl_ok(self.ttl)
+            & (self.downstream <= 1)
+            & (self.high <= Address::MAX_HIGH)
+    }
+}
+
+impl Fair {
     // Whether the state is in its range under these settings.
     pub fn in_range(self, settings: Settings) -> bool
         ensures { λ r. ⌜ r ≡ test (fairOk settings self) ⌝ }
     {
-        let unreserved = settings.fairness.unreserved;
-        (self.own <= Fair::MAX_OWN)
-            & (self.rate <= Fair::MAX_OWN)
-            & self.counters.in_range()
+        self.counters.in_range()
             & self.smoothed.in_range()
-            & (self.local <= Four::MAX)
-            & (self.allowed <= unreserved)
-            & (self.allowedc <= unreserved)
-            & ttl_ok(self.ttl)
-            & (self.congested <= 1)
-            & (self.downstream <= 1)
-            & (self.high <= Address::MAX_HIGH)
+            & self.decided.in_range(settings)
+            & self.received.in_range()
     }
 
     // The state of a station that has just started.
@@ -132,26 +175,24 @@ impl Fair {
         let fairness = settings.fairness;
         let unreserved = fairness.unreserved;
         let own = rates::own_rate(unreserved, fairness.weight, fairness.unit);
-        let counters = Four {
+        let zeros = Four {
             add: 0,
             fw: 0,
             addc: 0,
             fwc: 0,
         };
-        let smoothed = counters;
-        Fair {
-            counters: counters,
-            smoothed: smoothed,
+        let decided = Decided {
             local: unreserved,
             allowed: unreserved,
             allowedc: unreserved,
             own: own as u32,
             congested: 0,
-            downstream: 0,
-            ttl: 255,
-            high: 0,
-            low: 0,
-            rate: 0,
+        };
+        Fair {
+            counters: zeros,
+            smoothed: zeros,
+            decided: decided,
+            received: Received::none(),
         }
     }
 
@@ -159,7 +200,8 @@ impl Fair {
     pub fn is_beyond(self, hops: u32) -> bool
         ensures { λ r. ⌜ r ≡ test (beyond self hops) ⌝ }
     {
-        (self.downstream == 1) & (decide::less(256, self.ttl as u64) < hops as u64)
+        let received = self.received;
+        (received.downstream == 1) & (decide::less(256, received.ttl as u64) < hops as u64)
     }
 
     // Whether an eligible client frame of this size, with so many hops to go, would pass the congested fair rate: refusal 7. The sum is of 64 bits.
@@ -168,12 +210,12 @@ impl Fair {
     {
         let counters = self.counters;
         let sum = counters.addc as u64 + size as u64;
-        self.is_beyond(hops) & ((self.allowedc as u64) < sum)
+        self.is_beyond(hops) & ((self.decided.allowedc as u64) < sum)
     }
 
-    // The state after a frame of this origin, mark, hops and size was selected.
-    pub fn count(self, origin: u32, mark: u32, hops: u32, size: u32) -> Fair
-        ensures { λ r. ⌜ r ≡ countOf self origin mark hops size ⌝ }
+    // The state after a frame of this origin, mark, hops and size was selected under these settings.
+    pub fn count(self, settings: Settings, origin: u32, mark: u32, hops: u32, size: u32) -> Fair
+        ensures { λ r. ⌜ r ≡ countOf settings self origin mark hops size ⌝ }
     {
         let stage = (origin == STAGE) & (mark == 1);
         let secondary = (origin == SECONDARY) & (mark == 1);
@@ -199,23 +241,28 @@ impl Fair {
         // Smoothing reads the counters as they are before they age.
         let aged = counters.lower(fairness.age);
         let smoothed = self.smoothed.smooth(fairness.lp, counters);
-        let adjusted = adjust(settings, smoothed, held);
-        self.rest(fairness, smoothed, adjusted, aged)
+        let adjusted = adjust(settings, self.decided, smoothed, held);
+        let received = self.received;
+        Fair {
+            counters: aged,
+            smoothed: smoothed,
+            decided: self.new_decided(fairness, adjusted),
+            received: received,
+        }
     }
 
-    // The rest of an interval, from the new smoothed rates, congestion and localFairRate as adjusted, and the counters as they have aged.
-    fn rest(self, fairness: Fairness, smoothed: Four, adjusted: Adjusted, counters: Four) -> Fair
-        ensures { λ r. ⌜ r ≡ restOf self fairness smoothed adjusted counters ⌝ }
+    // What an interval decides, from congestion and localFairRate as adjusted.
+    fn new_decided(self, fairness: Fairness, adjusted: Adjusted) -> Decided
+        ensures { λ r. ⌜ r ≡ newDecided self fairness adjusted ⌝ }
     {
-        let mut next = self;
-        next.smoothed = smoothed;
-        next.congested = adjusted.congested;
-        next.local = adjusted.local;
-        next.allowed = allowed(self.allowed, fairness, adjusted);
-        next.allowedc = self.allowed_congested(fairness);
-        next.counters = counters;
-        next.own = rates::own_rate(adjusted.local, fairness.weight, fairness.unit) as u32;
-        next
+        let own = rates::own_rate(adjusted.local, fairness.weight, fairness.unit);
+        Decided {
+            local: adjusted.local,
+            allowed: allowed(self.decided.allowed, fairness, adjusted),
+            allowedc: self.allowed_congested(fairness),
+            own: own as u32,
+            congested: adjusted.congested,
+        }
     }
 
     // allowedRateCongested after an interval.
@@ -223,115 +270,24 @@ impl Fair {
         ensures { λ r. ⌜ r ≡ allowedcOf self fairness ⌝ }
     {
         let most = fairness.unreserved;
-        if self.downstream == 1 {
-            rates::allowance(self.rate, fairness.weight, fairness.unit, most)
+        let received = self.received;
+        if received.downstream == 1 {
+            rates::allowance(received.rate, fairness.weight, fairness.unit, most)
         } else {
-            rates::ramped(self.allowedc, most, fairness.ramp)
+            rates::ramped(self.decided.allowedc, most, fairness.ramp)
         }
     }
 
     // What a tick may give to shaper C of allowedRate.
     pub fn share(self, settings: Settings) -> u32
-        ensures { λ r. ⌜ r ≡ shareOf (self .allowed) (settings .fairness .age) (settings .fairness .ticks) ⌝ }
+        ensures { λ r. ⌜ r ≡ shareOf (self .decided .allowed) (settings .fairness .age) (settings .fairness .ticks) ⌝ }
     {
-        rates::share(self.allowed, settings.fairness.age, settings.fairness.ticks)
-    }
-
-    // What a station in this state advertises. The state must be in range, so that ttl and rates fit a frame.
-    pub fn told(self, settings: Settings) -> Advert
-        requires { ⌜ FairOk settings self ⌝ }
-        ensures { λ r. ⌜ r ≡ toldOf self settings ⌝ }
-    {
-        if self.is_uncongested() {
-            return own_frame(settings, FULL_RATE);
-        }
-        if self.own_counts() {
-            return own_frame(settings, self.own as u16);
-        }
-        if last_hop(self.ttl) {
-            return own_frame(settings, FULL_RATE);
-        }
-        Advert {
-            ringlet: other_ringlet(settings),
-            ttl: (self.ttl - 1) as u8,
-            high: self.high,
-            low: self.low,
-            rate: self.rate as u16,
-        }
-    }
-
-    // Whether the station is not congested either way.
-    fn is_uncongested(self) -> bool
-        ensures { λ r. ⌜ r ≡ test (uncongested self) ⌝ }
-    {
-        (self.congested == 0) & (self.downstream == 0)
-    }
-
-    // Whether its own rate is the one to advertise.
-    fn own_counts(self) -> bool
-        ensures { λ r. ⌜ r ≡ test (ownCounts self) ⌝ }
-    {
-        let here = self.congested == 1;
-        let only = here & (self.downstream == 0);
-        let both = here & ((self.downstream == 1) & (self.own <= self.rate));
-        only | both
-    }
-
-    // The state after a frame that is not refused.
-    pub fn heard(self, advert: Advert) -> Fair
-        ensures { λ r. ⌜ r ≡ heardOf self advert ⌝ }
-    {
-        if advert.rate == FULL_RATE {
-            return self.received(0, 255, 0, 0, 0);
-        }
-        self.received(
-            1,
-            advert.ttl as u32,
-            advert.high,
-            advert.low,
-            advert.rate as u32,
+        rates::share(
+            self.decided.allowed,
+            settings.fairness.age,
+            settings.fairness.ticks,
         )
     }
-
-    // The state with this downstream congestion, and received ttl, address and rate.
-    fn received(self, downstream: u32, ttl: u32, high: u32, low: u32, rate: u32) -> Fair
-        ensures { λ r. ⌜ r ≡ receivedOf self downstream ttl high low rate ⌝ }
-    {
-        let mut next = self;
-        next.downstream = downstream;
-        next.ttl = ttl;
-        next.high = high;
-        next.low = low;
-        next.rate = rate;
-        next
-    }
-}
-
-// A frame of the station's own: this rate, its address, and a ttl of 255.
-fn own_frame(settings: Settings, rate: u16) -> Advert
-    ensures { λ r. ⌜ r ≡ ownFrame settings rate ⌝ }
-{
-    Advert {
-        ringlet: other_ringlet(settings),
-        ttl: 255,
-        high: settings.address.high,
-        low: settings.address.low,
-        rate: rate,
-    }
-}
-
-// The ringlet bit of a frame that is written: the other ringlet's.
-fn other_ringlet(settings: Settings) -> u8
-    ensures { λ r. ⌜ r ≡ otherRinglet settings ⌝ }
-{
-    decide::less(1, settings.ringlet as u64) as u8
-}
-
-// Whether a received frame of this ttl goes no further.
-fn last_hop(ttl: u32) -> bool
-    ensures { λ r. ⌜ r ≡ test (lastHop ttl) ⌝ }
-{
-    ttl == 193
 }
 
 // Whether a frame bears the station's own ringlet bit: refusal 2.
@@ -355,9 +311,9 @@ fn local_test(settings: Settings, held: u32) -> bool
     settings.queues.threshold < held
 }
 
-// Local congestion and localFairRate, from the new smoothed rates and the bytes in the secondary queue.
-fn adjust(settings: Settings, smoothed: Four, held: u32) -> Adjusted
-    ensures { λ r. ⌜ r ≡ adjustOf settings smoothed held ⌝ }
+// Local congestion and localFairRate, from what was decided before, the new smoothed rates and the bytes in the secondary queue.
+fn adjust(settings: Settings, old: Decided, smoothed: Four, held: u32) -> Adjusted
+    ensures { λ r. ⌜ r ≡ adjustOf settings old smoothed held ⌝ }
 {
     if local_test(settings, held) {
         let local = rates::shown(smoothed.add);

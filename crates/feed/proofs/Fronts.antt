@@ -10,7 +10,7 @@ use Rattle.decide.specs.Refusal.{firstOf}
 use Rattle.wire.specs.Wire.{le}
 use Rattle.wire.proofs.Numbers.{le-append-left}
 use Rattle.record.specs.Read.{headerFaults}
-use Rattle.record.specs.Step.{headed, headerOf, stepAt}
+use Rattle.record.specs.Step.{headed, headerOf, stepAt, within, stepWithin}
 use Rattle.record.proofs.Rows.{faultAt, event-stands, event-faulty}
 
 module _ (q ys : List ℕ) where
@@ -43,7 +43,7 @@ module _ (q ys : List ℕ) where
       by zero = rw (m, o, t)
       by (suc n) = refl
 
-  pub event-front : (mtu : ℕ) → 6 ≤ length q → stepAt mtu (q ++ ys) 0 ≡ stepAt mtu q 0
+  event-front : (mtu : ℕ) → 6 ≤ length q → stepAt mtu (q ++ ys) 0 ≡ stepAt mtu q 0
   event-front mtu h = by (faultAt mtu q 0) refl
     where
       a : le 2 (q ++ ys) 0 ≡ le 2 q 0
@@ -63,3 +63,8 @@ module _ (q ys : List ℕ) where
       by (suc f) e =
           event-faulty mtu (q ++ ys) 0 (suc f) (longer 6 h) (same ∙ e) (λ z. omega arith)
           ∙ sym (event-faulty mtu q 0 (suc f) h e (λ z. omega arith))
+
+  -- so where only some more events may come
+  pub within-front : (late left mtu : ℕ) → 6 ≤ length q → stepWithin late left mtu (q ++ ys) 0 ≡ stepWithin late left mtu q 0
+  unfolding stepWithin
+  within-front late left mtu h = ap (within late left) (event-front mtu h)

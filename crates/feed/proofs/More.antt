@@ -20,8 +20,8 @@ use Rattle.summary.specs.Plain.{signedFrom}
 use Rattle.summary.specs.Answer.{singleAnswer, joinOf}
 use Rattle.summary.proofs.Rows.{single-made}
 use Rattle.summary.proofs.Promises.{single-signed, summary-signed, summary-limits, join-append}
-use Rattle.feed.specs.Feed.{countedOf}
-use Rattle.feed.proofs.Rows.{counted-joins}
+use Rattle.feed.specs.Feed.{oneMore}
+use Rattle.feed.proofs.Rows.{one-more-joins}
 
 module _ (l : Limits) (ok : Holds (limitsOk l)) where
   -- one event alone
@@ -31,10 +31,10 @@ module _ (l : Limits) (ok : Holds (limitsOk l)) where
       ∙ ap signedFrom (sym (empty-right (plainSingle l e) (single-sound l ok e v)) ∙ ap (λ m. plainJoined (plainSingle l e) (plainEmpty m)) (single-limits l e))
       ∙ sym (summary-signed l ok (e ∷ []))
 
-  pub counted-more : (es : List Event) (e : Event) → AllValid l es → Valid l e → length es < mostEvents →
-      countedOf (summaryOf l es) e ≡ Answer.Summed (summaryOf l (es ++ (e ∷ [])))
-  counted-more es e v w few =
-      counted-joins (summaryOf l es) e (singleOf l e)
+  pub one-more-summed : (es : List Event) (e : Event) → AllValid l es → Valid l e → length es < mostEvents →
+      oneMore (summaryOf l es) e ≡ Answer.Summed (summaryOf l (es ++ (e ∷ [])))
+  one-more-summed es e v w few =
+      one-more-joins (summaryOf l es) e (singleOf l e)
       (ap (λ m. singleAnswer m e) (summary-limits l ok es) ∙ single-made l e (passes (limitsOk l) ok) (valid-exactly l e .1 w))
       ∙ ap (λ t. joinOf (summaryOf l es) t) (single-summary e w)
       ∙ join-append l ok es (e ∷ []) v (w, tt) (omega arith)

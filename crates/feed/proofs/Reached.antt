@@ -1,6 +1,6 @@
 -- What a state that feeding reaches says of the bytes fed: in the header it holds them all; among the events they are the header,
 -- the events of its summary and the bytes held; past a fault any record that begins so has that fault. Assumes nothing.
-use Prim.Native.Nat.{ℕ, zero, suc, _+_, _≤_, _<_}
+use Prim.Native.Nat.{ℕ, zero, suc, _+_, _-_, _≤_, _<_}
 use mathlib.Core.List.{List, [], _∷_, _++_, append-assoc, append-nil}
 use mathlib.Core.Logic.{_⊎_, inl, inr}
 use mathlib.Core.Path.{_≡_, refl, sym, ap, _∙_}
@@ -28,19 +28,19 @@ use Rattle.record.specs.declared.Step.{Step}
 use Rattle.record.specs.declared.Step.the-variants.{Stands, End, Faulty}
 use Rattle.record.specs.Record.{headerBytes, eventsBytes, written, WellFormed}
 use Rattle.record.specs.Read.{events, onward, readFrom, under, readRecord, unreadable, whole}
-use Rattle.record.specs.Step.{headerOf, stepAt}
-use Rattle.record.proofs.Steps.{header-stands, read-end, step-stands, step-end}
+use Rattle.record.specs.Step.{headerOf, stepWithin}
+use Rattle.record.proofs.Steps.{header-stands, read-end, Stood, stood-within, end-within}
 use Rattle.record.proofs.Written.{events-append, events-written, written-read, read-written}
-use Rattle.record.proofs.Earliest.{short-header, over-million, earliest, cut-short}
+use Rattle.record.proofs.Earliest.{short-header, stops-within, over-million, cut-short}
 use Rattle.account.specs.Account.{summarized, summarizeOf}
 use Rattle.account.proofs.Rest.{rest-unreadable}
 use Rattle.feed.specs.declared.Stage.{Stage}
 use Rattle.feed.specs.declared.Stage.the-variants.{Heading, Summing, Stopped}
 use Rattle.feed.specs.declared.Feed.{Feed}
 use Rattle.feed.specs.Feed.{stageOf, countedOf, openedBy, passedBy, nextStage, heldByte, fedByte, startOf, fedOf, finishOf}
-use Rattle.feed.proofs.Rows.{hold-more, hold-whole, byte-heading, byte-over, byte-event, byte-stopped, finish-heading, finish-whole, finish-cut, finish-stopped}
-use Rattle.feed.proofs.More.{counted-more}
-use Rattle.feed.proofs.Fronts.{header-front, event-front}
+use Rattle.feed.proofs.Rows.{counted-one, hold-more, hold-whole, byte-heading, byte-over, byte-event, byte-stopped, finish-heading, finish-whole, finish-cut, finish-stopped}
+use Rattle.feed.proofs.More.{one-more-summed}
+use Rattle.feed.proofs.Fronts.{header-front, within-front}
 
 -- the bytes xs are a header, the events of the summary s, and q behind them
 pub record Passed (s : Summary) (q xs : List ℕ) : Type 0 where
@@ -79,7 +79,7 @@ opens xs h b = by (headerOf xs) refl
     by (Unreadable n) e = λ ys. rest-unreadable (xs ++ ys) n (header-front xs ys (omega arith) ∙ e)
     by (Settings l) e =
         let g = header-stands xs l e in
-        let r : readRecord xs ≡ whole l [] = g .goes-on ∙ ap (under l) (read-end (l .mtu) mostEvents xs 14 (omega arith)) in
+        let r : readRecord xs ≡ whole l [] = g .goes-on ∙ ap (under l) (read-end 9 (l .mtu) mostEvents xs 14 (omega arith)) in
         let w = read-written xs l [] b r in
         rw (empty-made l (passes (limitsOk l) (g .in-range)))
         (record { limits = l; done = []; well = w .1; sum = refl; fed = w .0 ∙ sym (append-nil (written l [])) }, (omega arith, inl refl))
@@ -108,17 +108,16 @@ module _ (s : Summary) (q xs : List ℕ) (p : Passed s q xs) where
       let n = events-are in
       fails 9 (λ ys. over-million (p .limits) (p .done) (q ++ ys) (p .well) (omega (arith, p .well .few)) (omega (arith, length-append q ys)))
 
-  -- one event more
-  stands : (k v c next : ℕ) → length q ≡ 6 → length (p .done) < mostEvents → Bytes q → stepAt (p .limits .mtu) q 0 ≡ Stands k v c next →
-      Told (stageOf (countedOf s (eventOf k v))) [] xs
-  stands k v c next six few b e =
+  -- one item more
+  stands : (k v c next : ℕ) → length q ≡ 6 → length (p .done) < mostEvents → Bytes q → Stood (p .limits .mtu) q 0 k v c next →
+      Told (stageOf (countedOf c s (eventOf k v))) [] xs
+  stands k v c next six few b t =
       let l = p .limits in
       let es = p .done in
-      let t = step-stands (l .mtu) q 0 k v c next e in
-      let r : readFrom (l .mtu) 1 q ≡ events (eventOf k v ∷ []) = t .goes-on 0 ∙ ap (onward 0 (eventOf k v)) (read-end (l .mtu) 0 q next (omega (arith, t .six))) in
-      let w = events-written l 1 q (eventOf k v ∷ []) b r in
+      let r : readFrom 9 (l .mtu) 1 0 q ≡ events (eventOf k v ∷ []) = t .goes-on 9 0 ∙ ap (onward 0 (eventOf k v)) (read-end 9 (l .mtu) 0 q next (omega (arith, t .six))) in
+      let w = events-written 9 l 1 q (eventOf k v ∷ []) b r in
       let n = length-append es (eventOf k v ∷ []) in
-      rw (p .sum, counted-more l (p .well .settings) es (eventOf k v) (p .well .valid) (w .valid .0) few) (
+      rw (t .one, counted-one, p .sum, one-more-summed l (p .well .settings) es (eventOf k v) (p .well .valid) (w .valid .0) few) (
         record {
           limits = l;
           done = es ++ (eventOf k v ∷ []);
@@ -134,17 +133,18 @@ module _ (s : Summary) (q xs : List ℕ) (p : Passed s q xs) where
         (omega arith, inl refl),
       )
 
-  steps : length q ≡ 6 → s .events < mostEvents → Bytes q → Told (passedBy s (stepAt (s .limits .mtu) q 0)) [] xs
-  steps six room b = by (stepAt (s .limits .mtu) q 0) (ap (λ (l : Limits). stepAt (l .mtu) q 0) (sym limits-are))
-    where
-      few : length (p .done) < mostEvents
-      few = omega (arith, events-are)
+  -- how many more may come, and under which mtu
+  steps-are : stepWithin 9 (mostEvents - s .events) (s .limits .mtu) q 0 ≡ stepWithin 9 (mostEvents - length (p .done)) (p .limits .mtu) q 0
+  steps-are = rw (events-are, limits-are)
 
-      by : (t : Step) → stepAt (p .limits .mtu) q 0 ≡ t → Told (passedBy s t) [] xs
-      by (Stands k v c next) e = stands k v c next six few b e
-      by End e = absurd (omega (arith, step-end (p .limits .mtu) q 0 e))
+  steps : length q ≡ 6 → s .events < mostEvents → Bytes q → Told (passedBy s (stepWithin 9 (mostEvents - s .events) (s .limits .mtu) q 0)) [] xs
+  steps six room b = by (stepWithin 9 (mostEvents - s .events) (s .limits .mtu) q 0) (sym steps-are)
+    where
+      by : (t : Step) → stepWithin 9 (mostEvents - length (p .done)) (p .limits .mtu) q 0 ≡ t → Told (passedBy s t) [] xs
+      by (Stands k v c next) e = stands k v c next six (omega (arith, events-are)) b (stood-within 9 (mostEvents - length (p .done)) (p .limits .mtu) q 0 k v c next e .0)
+      by End e = absurd (omega (arith, end-within 9 (mostEvents - length (p .done)) (p .limits .mtu) q 0 e))
       by (Faulty n) e =
-          fails n (λ ys. earliest (p .limits) (p .done) (q ++ ys) (p .well) n few (event-front q ys (p .limits .mtu) (omega arith) ∙ e))
+          fails n (λ ys. stops-within (p .limits) (p .done) (q ++ ys) (p .well) n (within-front q ys 9 (mostEvents - length (p .done)) (p .limits .mtu) (omega arith) ∙ e))
 
 -- ---- one byte more
 

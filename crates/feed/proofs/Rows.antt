@@ -1,8 +1,8 @@
 -- What a byte does and what the end says, row by row: each by the stage, and by a test on what is held or counted.
 -- Assumes nothing.
-use Prim.Native.Nat.{ℕ, _+_, _≤_, _<_}
+use Prim.Native.Nat.{ℕ, _+_, _-_, _≤_, _<_}
 use mathlib.Core.List.{List}
-use mathlib.Core.Path.{_≡_}
+use mathlib.Core.Path.{_≡_, refl}
 use native.Mathlib.Omega.{arith}
 use borrow.Author.Tests.{le-leb, lt-leb, le-ltb, lt-ltb, eq-eqb, ne-eqb}
 use native.Mathlib.Numerals.{add-one}
@@ -15,14 +15,14 @@ use Rattle.shaper.specs.Limits.{mostEvents}
 use Rattle.shaper.specs.Kind.{eventOf}
 use Rattle.summary.specs.declared.Summary.{Summary}
 use Rattle.summary.specs.declared.Answer.{Answer}
-use Rattle.summary.specs.Answer.{emptyAnswer, singleAnswer, joinOf}
+use Rattle.summary.specs.Answer.{emptyAnswer, singleAnswer, joinOf, andThen}
 use Rattle.record.specs.declared.Header.the-variants.{Settings, Unreadable}
 use Rattle.record.specs.declared.Step.the-variants.{Stands, End, Faulty}
-use Rattle.record.specs.Step.{headerOf, stepAt}
+use Rattle.record.specs.Step.{headerOf, stepWithin}
 use Rattle.feed.specs.declared.Stage.{Stage}
 use Rattle.feed.specs.declared.Stage.the-variants.{Heading, Summing, Stopped}
 use Rattle.feed.specs.declared.Feed.{Feed}
-use Rattle.feed.specs.Feed.{stageOf, countedOf, nextStage, heldByte, stoppedAt, fedByte, fedOf, finishOf}
+use Rattle.feed.specs.Feed.{stageOf, oneMore, countedOf, nextStage, heldByte, stoppedAt, fedByte, fedOf, finishOf}
 
 -- ---- one event more
 
@@ -32,11 +32,24 @@ unfolding eventOf
 event-send k n p q = rw (ne-eqb k 1 p, ne-eqb k 2 q)
 
 module _ (s : Summary) (e : Event) where
-  pub counted-joins : (t : Summary) → singleAnswer (s .limits) e ≡ Answer.Summed t → countedOf s e ≡ joinOf s t
-  counted-joins t p = rw p
+  pub one-more-joins : (t : Summary) → singleAnswer (s .limits) e ≡ Answer.Summed t → oneMore s e ≡ joinOf s t
+  one-more-joins t p = rw p
 
-  pub counted-refused : (n : ℕ) → singleAnswer (s .limits) e ≡ Answer.Refused n → countedOf s e ≡ Answer.Refused n
-  counted-refused n p = rw p
+  pub one-more-refused : (n : ℕ) → singleAnswer (s .limits) e ≡ Answer.Refused n → oneMore s e ≡ Answer.Refused n
+  one-more-refused n p = rw p
+
+  -- as many as an item stands for
+  pub counted-none : countedOf 0 s e ≡ Answer.Summed s
+  unfolding countedOf
+  counted-none = refl
+
+  pub counted-next : (count : ℕ) → countedOf (count + 1) s e ≡ andThen (countedOf count s e) (λ t. oneMore t e)
+  unfolding countedOf
+  counted-next count = rw add-one
+
+  pub counted-one : countedOf 1 s e ≡ oneMore s e
+  unfolding countedOf
+  counted-one = refl
 
 -- ---- what is held is whole
 
@@ -47,13 +60,13 @@ module _ (g : Stage) (xs : List ℕ) where
   pub next-unreadable : (n : ℕ) → g ≡ Heading → headerOf xs ≡ Unreadable n → nextStage g xs ≡ Stopped n
   next-unreadable n p q = rw (p, q)
 
-  pub next-stands : (s : Summary) (k v c m : ℕ) → g ≡ Summing s → stepAt (s .limits .mtu) (take 6 xs) 0 ≡ Stands k v c m → nextStage g xs ≡ stageOf (countedOf s (eventOf k v))
+  pub next-stands : (s : Summary) (k v c m : ℕ) → g ≡ Summing s → stepWithin 9 (mostEvents - s .events) (s .limits .mtu) (take 6 xs) 0 ≡ Stands k v c m → nextStage g xs ≡ stageOf (countedOf c s (eventOf k v))
   next-stands s k v c m p q = rw (p, q)
 
-  pub next-end : (s : Summary) → g ≡ Summing s → stepAt (s .limits .mtu) (take 6 xs) 0 ≡ End → nextStage g xs ≡ Summing s
+  pub next-end : (s : Summary) → g ≡ Summing s → stepWithin 9 (mostEvents - s .events) (s .limits .mtu) (take 6 xs) 0 ≡ End → nextStage g xs ≡ Summing s
   next-end s p q = rw (p, q)
 
-  pub next-faulty : (s : Summary) (n : ℕ) → g ≡ Summing s → stepAt (s .limits .mtu) (take 6 xs) 0 ≡ Faulty n → nextStage g xs ≡ Stopped n
+  pub next-faulty : (s : Summary) (n : ℕ) → g ≡ Summing s → stepWithin 9 (mostEvents - s .events) (s .limits .mtu) (take 6 xs) 0 ≡ Faulty n → nextStage g xs ≡ Stopped n
   next-faulty s n p q = rw (p, q)
 
   pub next-stopped : (n : ℕ) → g ≡ Stopped n → nextStage g xs ≡ Stopped n

@@ -1,6 +1,6 @@
 -- A record fed byte by byte: what is kept of the bytes so far, and what they come to.
 -- Assumes nothing.
-use Prim.Native.Nat.{ℕ, _+_}
+use Prim.Native.Nat.{ℕ, zero, suc, _+_, _-_}
 use mathlib.Core.Bool.{cond}
 use mathlib.Core.List.{List, [], _∷_}
 use lib.Dec.{eqb, leb, ltb}
@@ -15,7 +15,7 @@ use Rattle.record.specs.declared.Header.{Header}
 use Rattle.record.specs.declared.Header.the-variants.{Settings, Unreadable}
 use Rattle.record.specs.declared.Step.{Step}
 use Rattle.record.specs.declared.Step.the-variants.{Stands, End, Faulty}
-use Rattle.record.specs.Step.{headerOf, stepAt}
+use Rattle.record.specs.Step.{headerOf, stepWithin}
 use Rattle.feed.specs.declared.Stage.{Stage}
 use Rattle.feed.specs.declared.Stage.the-variants.{Heading, Summing, Stopped}
 use Rattle.feed.specs.declared.Feed.{Feed}
@@ -28,24 +28,29 @@ stageOf (Answer.Summed s) = Summing s
 stageOf (Answer.Refused n) = Stopped n
 
 -- the summary so far, joined with that of one event more
-abbrev pub countedOf : Summary → Event → Answer
-countedOf s e = andThen (singleAnswer (s .limits) e) (λ t. joinOf s t)
+abbrev pub oneMore : Summary → Event → Answer
+oneMore s e = andThen (singleAnswer (s .limits) e) (λ t. joinOf s t)
+
+-- and so for as many equal events as an item stands for
+unfoldable pub countedOf : ℕ → Summary → Event → Answer
+countedOf zero s e = Answer.Summed s
+countedOf (suc count) s e = andThen (countedOf count s e) (λ t. oneMore t e)
 
 -- behind a header: no event yet, or the header's fault
 abbrev pub openedBy : Header → Stage
 openedBy (Settings l) = stageOf (emptyAnswer l)
 openedBy (Unreadable n) = Stopped n
 
--- behind an event: it is counted, or its fault
+-- behind an item: its events are counted, or its fault
 abbrev pub passedBy : Summary → Step → Stage
-passedBy s (Stands k v c next) = stageOf (countedOf s (eventOf k v))
+passedBy s (Stands k v c next) = stageOf (countedOf c s (eventOf k v))
 passedBy s End = Summing s
 passedBy s (Faulty n) = Stopped n
 
--- a header is the 14 bytes held, an event the first 6
+-- a header is the 14 bytes held, an event the first 6; 9: an item that stands for more events than may come
 abbrev pub nextStage : Stage → List ℕ → Stage
 nextStage Heading xs = openedBy (headerOf xs)
-nextStage (Summing s) xs = passedBy s (stepAt (s .limits .mtu) (take 6 xs) 0)
+nextStage (Summing s) xs = passedBy s (stepWithin 9 (mostEvents - s .events) (s .limits .mtu) (take 6 xs) 0)
 nextStage (Stopped n) xs = Stopped n
 
 -- ---- a byte more

@@ -1,9 +1,9 @@
 // A shaper record fed in chunks of any sizes, in constant memory.
 ghost use mathlib.Core.Path.{_≡_};
 ghost use lib.ListN.{set};
-ghost use Rattle.summary.specs.Answer.{singleAnswer};
+ghost use Rattle.summary.specs.Answer.{singleAnswer, andThen};
 ghost use Rattle.shaper.specs.Kind.{eventOf};
-ghost use Rattle.feed.specs.Feed.{startOf, stageOf, countedOf, nextStage, heldByte, stoppedAt, fedByte, fedOf, finishOf};
+ghost use Rattle.feed.specs.Feed.{startOf, stageOf, oneMore, countedOf, nextStage, heldByte, stoppedAt, fedByte, fedOf, finishOf};
 use record::Header;
 use record::Step;
 use shaper::Limits;
@@ -145,13 +145,19 @@ fn next_stage(stage: Stage, bytes: [u8; 14]) -> Stage
             Header::Settings(limits) => stage_of(Summary::empty(limits)),
             Header::Unreadable(n) => Stage::Stopped(n),
         },
-        Stage::Summing(sum) => match record::event_at(&bytes[0..6], 0, sum.limits.mtu) {
+        Stage::Summing(sum) => match record::event_within(
+            &bytes[0..6],
+            0,
+            sum.limits.mtu,
+            record::may_come(sum.events as u64),
+            9,
+        ) {
             Step::Stands {
                 kind,
                 number,
-                count: _,
+                count,
                 next: _,
-            } => stage_of(counted(sum, kind, number)),
+            } => stage_of(counted(sum, kind, number, count)),
             Step::End => Stage::Summing(sum),
             Step::Faulty(n) => Stage::Stopped(n),
         },
@@ -169,9 +175,32 @@ fn stage_of(answer: Answer) -> Stage
     }
 }
 
+// The summary with so many equal events more.
+fn counted(sum: Summary, kind: u16, number: u16, count: u32) -> Answer
+    ensures { λ r. ⌜ r ≡ countedOf count sum (eventOf kind number) ⌝ }
+{
+    let mut all = Answer::Summed(sum);
+    let mut i = 0;
+    while i < count {
+        all = onto(all, kind, number);
+        i += 1;
+    }
+    all
+}
+
+// The summary with one event more, or the refusal that was before it.
+fn onto(all: Answer, kind: u16, number: u16) -> Answer
+    ensures { λ r. ⌜ r ≡ andThen all (λ s. oneMore s (eventOf kind number)) ⌝ }
+{
+    match all {
+        Answer::Summed(sum) => one_more(sum, kind, number),
+        Answer::Refused(n) => Answer::Refused(n),
+    }
+}
+
 // The summary with one event more.
-fn counted(sum: Summary, kind: u16, number: u16) -> Answer
-    ensures { λ r. ⌜ r ≡ countedOf sum (eventOf kind number) ⌝ }
+fn one_more(sum: Summary, kind: u16, number: u16) -> Answer
+    ensures { λ r. ⌜ r ≡ oneMore sum (eventOf kind number) ⌝ }
 {
     let one = single(sum.limits, kind, number);
     match one {

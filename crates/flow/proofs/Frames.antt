@@ -21,14 +21,14 @@ use Rattle.flow.specs.declared.Flow.{Flow}
 use Rattle.flow.specs.declared.Line.{Line}
 use Rattle.flow.specs.declared.Line.the-variants.{Control, Primary, Secondary}
 use Rattle.flow.specs.declared.Selected.{Selected}
-use Rattle.flow.specs.Parts.{queueOf, capacityOf, withQueue}
+use Rattle.flow.specs.Parts.{queueOf, capacityOf, boundsOf, withQueue}
 use Rattle.flow.specs.Range.{FlowOk}
 use Rattle.flow.specs.Tick.{startOf, tickOf}
 use Rattle.flow.specs.Offer.{enterOf, wayOf, clientFrame, clientOf}
 use Rattle.flow.specs.Select.{controlReady, primaryReady, needy, stageReady, secondaryReady, selectOf}
 use Rattle.flow.proofs.Kept.{needy-holds, client-frame-ok}
 use Rattle.flow.proofs.Offer.{enter-taken}
-use Rattle.flow.proofs.Range.{start-queue}
+use Rattle.flow.proofs.Range.{bounds-ok, start-queue}
 use Rattle.flow.proofs.Select.{Goes, control, primary, pressed, staged, secondary, nothing, goes}
 use Rattle.flow.specs.Frames.{stageFrames, Moves}
 
@@ -54,21 +54,21 @@ module _ (s : Settings) (f : Flow) where
   tick-stage share a b c = refl
 
   -- a frame that fits stands last in its queue
-  pub enter-appends : SettingsOk s → FlowOk s f → (l : Line) (x : Frame) → FrameOk (s .mtu) x → x .size ≤ spaceOf (queueOf f l) (capacityOf s l)
+  pub enter-appends : SettingsOk s → FlowOk s f → (l : Line) (x : Frame) → FrameOk (boundsOf s) x → x .size ≤ spaceOf (queueOf f l) (capacityOf s l)
       → framesOf (queueOf (enterOf s f l x .flow) l) ≡ framesOf (queueOf f l) ++ (x ∷ [])
   enter-appends good ok l x h fits =
-      rw (enter-taken s f l x fits, same-queue f l (pushed (queueOf f l) x)) (push-appends (ok .queues l) x (good .mtu-most) h fits)
+      rw (enter-taken s f l x fits, same-queue f l (pushed (queueOf f l) x)) (push-appends (ok .queues l) x (bounds-ok good) h fits)
 
 module _ {s : Settings} (good : SettingsOk s) (f : Flow) where
   -- a client frame that is taken lies in the stage, marked where it is excess
-  pub client-stages : (class size hops : ℕ) (over : Bool) → FrameOk (s .mtu) (record { size = size; hops = hops; class = class; mark = 0 })
+  pub client-stages : (class size hops : ℕ) (over : Bool) → FrameOk (boundsOf s) (record { size = size; hops = hops; class = class; mark = 0 })
       → clientOf s f class size hops over .number ≡ 0
       → stageFrames (clientOf s f class size hops over .flow) ≡ clientFrame (wayOf s (f .credits) class) class size hops ∷ []
   client-stages class size hops over h =
       let x = clientFrame (wayOf s (f .credits) class) class size hops in
       let ok = client-frame-ok good f class size hops h in
       of-answer _ _ (λ (r : Client). r .number ≡ 0 → stageFrames (r .flow) ≡ x ∷ []) _
-      (λ z e. rw (lt-ltb 0 (wordOf x) (word-not-empty (good .mtu-most) ok), word-frame x (frame-fits (good .mtu-most) ok)))
+      (λ z e. rw (lt-ltb 0 (wordOf x) (word-not-empty (bounds-ok good) ok), word-frame x (frame-fits (bounds-ok good) ok)))
       (λ z e. absurd (omega arith))
 
 module _ {s : Settings} {f : Flow} (good : SettingsOk s) (ok : FlowOk s f) where

@@ -29,13 +29,13 @@ use Rattle.flow.specs.declared.Selected.{Selected}
 use Rattle.flow.specs.declared.Which.{Which}
 use Rattle.flow.specs.declared.Which.the-variants.{M, D}
 use Rattle.flow.specs.Which.{sends, fed}
-use Rattle.flow.specs.Parts.{queueOf, capacityOf, withCredits, withStage, withQueue}
+use Rattle.flow.specs.Parts.{queueOf, capacityOf, boundsOf, withCredits, withStage, withQueue}
 use Rattle.flow.specs.Range.{FlowOk}
 use Rattle.flow.specs.Tick.{tickEvents, tickOf}
 use Rattle.flow.specs.Offer.{enterOf, queueFor, transitOf, controlFrame, controlOf, needsOf, wayOf, clientFrame, clientOf}
 use Rattle.flow.specs.Select.{controlReady, primaryReady, needy, leaves, secondaryReady, selectOf}
 use Rattle.flow.proofs.Offer.{enter-refused, enter-taken, mark-most, way-mark}
-use Rattle.flow.proofs.Range.{fed-ok, by-line}
+use Rattle.flow.proofs.Range.{bounds-ok, fed-ok, by-line}
 use Rattle.flow.proofs.Select.{Goes, control, primary, pressed, staged, secondary, nothing, goes}
 
 module _ {s : Settings} {f : Flow} (ok : FlowOk s f) where
@@ -49,7 +49,7 @@ module _ {s : Settings} {f : Flow} (ok : FlowOk s f) where
         stage = ok .stage;
       }
 
-  stage-kept : (w : ℕ) → (w ≡ 0) ⊎ FrameOk (s .mtu) (frameOf w) → FlowOk s (withStage f w)
+  stage-kept : (w : ℕ) → (w ≡ 0) ⊎ FrameOk (boundsOf s) (frameOf w) → FlowOk s (withStage f w)
   stage-kept w h =
       record {
         credits = ok .credits;
@@ -57,7 +57,7 @@ module _ {s : Settings} {f : Flow} (ok : FlowOk s f) where
         stage = h;
       }
 
-  queue-kept : (l : Line) (q : Queue) → QueueOk (s .mtu) (capacityOf s l) q → FlowOk s (withQueue f l q)
+  queue-kept : (l : Line) (q : Queue) → QueueOk (boundsOf s) (capacityOf s l) q → FlowOk s (withQueue f l q)
   queue-kept Control q h =
       record { credits = ok .credits; queues = by-line s (withQueue f Control q) h (ok .queues Primary) (ok .queues Secondary); stage = ok .stage }
   queue-kept Primary q h =
@@ -80,21 +80,21 @@ module _ {s : Settings} (good : SettingsOk s) where
   unfolding tickOf
   tick-kept {f} ok share a b c = credits-kept ok good (tickEvents s f share a b c)
 
-  enter-kept : {f : Flow} (l : Line) (x : Frame) → FlowOk s f → FrameOk (s .mtu) x → FlowOk s (enterOf s f l x .flow)
+  enter-kept : {f : Flow} (l : Line) (x : Frame) → FlowOk s f → FrameOk (boundsOf s) x → FlowOk s (enterOf s f l x .flow)
   enter-kept {f} l x ok h =
       by-cases (le-or (x .size) (spaceOf (queueOf f l) (capacityOf s l)))
-      (λ fits. rw (enter-taken s f l x fits) (queue-kept ok l (pushed (queueOf f l) x) (push-ok (ok .queues l) x (good .mtu-most) h fits)))
+      (λ fits. rw (enter-taken s f l x fits) (queue-kept ok l (pushed (queueOf f l) x) (push-ok (ok .queues l) x (bounds-ok good) h fits)))
       (λ over. rw (enter-refused s f l x over) ok)
 
-  pub transit-kept : {f : Flow} (x : Frame) → FlowOk s f → FrameOk (s .mtu) x → FlowOk s (transitOf s f x .flow)
-  transit-kept x ok h = enter-kept (queueFor (x .class)) x ok h
+  pub transit-kept : {f : Flow} (x : Frame) → FlowOk s f → FrameOk (boundsOf s) x → FlowOk s (transitOf s f x .flow)
+  transit-kept x ok h = enter-kept (queueFor s (x .class)) x ok h
 
-  pub control-kept : {f : Flow} (size : ℕ) → FlowOk s f → FrameOk (s .mtu) (controlFrame size) → FlowOk s (controlOf s f size .flow)
+  pub control-kept : {f : Flow} (size : ℕ) → FlowOk s f → FrameOk (boundsOf s) (controlFrame size) → FlowOk s (controlOf s f size .flow)
   control-kept size ok h = enter-kept Control (controlFrame size) ok h
 
   -- a frame that is given without a mark is in range as it lies in the stage
-  pub client-frame-ok : (f : Flow) (class size hops : ℕ) → FrameOk (s .mtu) (record { size = size; hops = hops; class = class; mark = 0 })
-      → FrameOk (s .mtu) (clientFrame (wayOf s (f .credits) class) class size hops)
+  pub client-frame-ok : (f : Flow) (class size hops : ℕ) → FrameOk (boundsOf s) (record { size = size; hops = hops; class = class; mark = 0 })
+      → FrameOk (boundsOf s) (clientFrame (wayOf s (f .credits) class) class size hops)
   client-frame-ok f class size hops h =
       record {
         least = h .least;
@@ -105,13 +105,13 @@ module _ {s : Settings} (good : SettingsOk s) where
         marked = way-mark s (f .credits) class;
       }
 
-  pub client-kept : {f : Flow} (class size hops : ℕ) (over : Bool) → FlowOk s f → FrameOk (s .mtu) (record { size = size; hops = hops; class = class; mark = 0 })
+  pub client-kept : {f : Flow} (class size hops : ℕ) (over : Bool) → FlowOk s f → FrameOk (boundsOf s) (record { size = size; hops = hops; class = class; mark = 0 })
       → FlowOk s (clientOf s f class size hops over .flow)
   client-kept {f} class size hops over ok h =
       let x = clientFrame (wayOf s (f .credits) class) class size hops in
       let inside = client-frame-ok f class size hops h in
       of-answer _ _ (λ (r : Client). FlowOk s (r .flow)) _
-      (λ e. stage-kept (credits-kept ok good (sends (needsOf (wayOf s (f .credits) class)) size)) (wordOf x) (inr (rw (word-frame x (frame-fits (good .mtu-most) inside)) inside)))
+      (λ e. stage-kept (credits-kept ok good (sends (needsOf (wayOf s (f .credits) class)) size)) (wordOf x) (inr (rw (word-frame x (frame-fits (bounds-ok good) inside)) inside)))
       (λ e. ok)
 
   row-kept : {f : Flow} {r : Selected} → FlowOk s f → Goes s f r → FlowOk s (r .flow)

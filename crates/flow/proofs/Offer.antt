@@ -56,18 +56,18 @@ module _ (s : Settings) (f : Flow) (l : Line) (x : Frame) where
   enter-leaves = leaves-by (λ (r : Entered). r .number) _ _ (λ m. refl) refl (λ (r : Entered). r .flow) (λ m. refl) _
 
 -- Transit A goes to the primary queue,
-pub transit-a : queueFor 0 ≡ Primary
+pub transit-a : (s : Settings) → queueFor s 0 ≡ Primary
 unfolding queueFor
-transit-a = refl
+transit-a s = refl
 
 -- B and C to the secondary.
-pub transit-b : queueFor 1 ≡ Secondary
+pub transit-b : (s : Settings) → queueFor s 1 ≡ Secondary
 unfolding queueFor
-transit-b = refl
+transit-b s = refl
 
-pub transit-c : queueFor 2 ≡ Secondary
+pub transit-c : (s : Settings) → queueFor s 2 ≡ Secondary
 unfolding queueFor
-transit-c = refl
+transit-c s = refl
 
 -- ---- the way of a client frame
 

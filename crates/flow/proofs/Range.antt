@@ -11,7 +11,7 @@ use Rattle.shaper.specs.declared.Event.{Event}
 use Rattle.shaper.specs.Limits.{limitsOk}
 use Rattle.shaper.specs.Credit.{endCredit}
 use Rattle.shaper.proofs.Credit.{end-max}
-use Rattle.queue.specs.Frame.{frameOf}
+use Rattle.queue.specs.Frame.{BoundsOk, frameOf}
 use Rattle.queue.specs.Queue.{emptyQueue}
 use Rattle.queue.specs.Range.{queueOk, QueueOk}
 use Rattle.queue.proofs.Word.{frame-facts, frame-holds}
@@ -27,7 +27,7 @@ use Rattle.flow.specs.declared.Line.the-variants.{Control, Primary, Seco
 use Rattle.flow.specs.declared.Which.{Which}
 use Rattle.flow.specs.declared.Which.the-variants.{M, A, B, C, D}
 use Rattle.flow.specs.Which.{bucketOf, creditOf, limitsFor, fed}
-use Rattle.flow.specs.Parts.{queueOf, capacityOf}
+use Rattle.flow.specs.Parts.{queueOf, capacityOf, boundsOf}
 use Rattle.flow.specs.Range.{flowOk, FlowOk}
 use Rattle.flow.specs.Tick.{startOf}
 
@@ -44,14 +44,17 @@ module _ {s : Settings} (ok : SettingsOk s) where
   pub limits-ok : (w : Which) → Holds (limitsOk (limitsFor s w))
   limits-ok w = limits-hold (s .mtu) (bucketOf s w) (ok .mtu-least) (ok .mtu-most) (bucket-ok w)
 
+  pub bounds-ok : BoundsOk (boundsOf s)
+  bounds-ok = record { mtu-most = ok .mtu-most }
+
   pub capacity-most : (l : Line) → capacityOf s l ≤ 1048576
   capacity-most Control = ok .of-queues .control-most
   capacity-most Primary = ok .of-queues .primary-most
   capacity-most Secondary = ok .of-queues .secondary-most
 
 -- three queues in range are each queue in range
-pub by-line : (s : Settings) (f : Flow) → QueueOk (s .mtu) (s .queues .control) (f .control) → QueueOk (s .mtu) (s .queues .primary) (f .primary)
-    → QueueOk (s .mtu) (s .queues .secondary) (f .secondary) → (l : Line) → QueueOk (s .mtu) (capacityOf s l) (queueOf f l)
+pub by-line : (s : Settings) (f : Flow) → QueueOk (boundsOf s) (s .queues .control) (f .control) → QueueOk (boundsOf s) (s .queues .primary) (f .primary)
+    → QueueOk (boundsOf s) (s .queues .secondary) (f .secondary) → (l : Line) → QueueOk (boundsOf s) (capacityOf s l) (queueOf f l)
 by-line s f c p q Control = c
 by-line s f c p q Primary = p
 by-line s f c p q Secondary = q
@@ -67,10 +70,10 @@ module _ (s : Settings) (f : Flow) where
         credits = credits m a b c d;
         queues =
             by-line s f
-            (queue-facts (s .mtu) (s .queues .control) (f .control) k)
-            (queue-facts (s .mtu) (s .queues .primary) (f .primary) p)
-            (queue-facts (s .mtu) (s .queues .secondary) (f .secondary) q);
-        stage = ⊎-elim (λ z. inl z) (λ r. inr (frame-facts (s .mtu) (frameOf (f .stage)) r)) g;
+            (queue-facts (boundsOf s) (s .queues .control) (f .control) k)
+            (queue-facts (boundsOf s) (s .queues .primary) (f .primary) p)
+            (queue-facts (boundsOf s) (s .queues .secondary) (f .secondary) q);
+        stage = ⊎-elim (λ z. inl z) (λ r. inr (frame-facts (boundsOf s) (frameOf (f .stage)) r)) g;
       }
     where
       credits : f .credits .m ≤ s .shapers .m .hi → f .credits .a ≤ s .shapers .a .hi → f .credits .b ≤ s .shapers .b .hi
@@ -85,10 +88,10 @@ module _ (s : Settings) (f : Flow) where
   unfolding flowOk
   facts-in-range ok =
       let c = ok .credits in
-      let q : (l : Line) → Holds (queueOk (s .mtu) (capacityOf s l) (queueOf f l)) = λ l. queue-holds (s .mtu) (capacityOf s l) (queueOf f l) (ok .queues l) in
+      let q : (l : Line) → Holds (queueOk (boundsOf s) (capacityOf s l) (queueOf f l)) = λ l. queue-holds (boundsOf s) (capacityOf s l) (queueOf f l) (ok .queues l) in
       passes
       (flowOk s f)
-      ((c M, (c A, (c B, (c C, c D)))), (q Control, (q Primary, (q Secondary, ⊎-elim (λ z. inl z) (λ r. inr (frame-holds (s .mtu) (frameOf (f .stage)) r)) (ok .stage)))))
+      ((c M, (c A, (c B, (c C, c D)))), (q Control, (q Primary, (q Secondary, ⊎-elim (λ z. inl z) (λ r. inr (frame-holds (boundsOf s) (frameOf (f .stage)) r)) (ok .stage)))))
 
 -- ---- the credits that events leave
 
@@ -130,6 +133,6 @@ pub start-ok : {s : Settings} → SettingsOk s → FlowOk s (startOf s)
 start-ok {s} ok =
     record {
       credits = λ w. let b = bucket-ok ok w in omega (arith, start-credit s w, b .hi-least);
-      queues = λ l. rw (start-queue s l) (empty-ok (s .mtu) (capacityOf s l));
+      queues = λ l. rw (start-queue s l) (empty-ok (boundsOf s) (capacityOf s l));
       stage = inl (start-stage s);
     }

@@ -21,7 +21,7 @@ use Rattle.flow.specs.declared.Way.the-variants.{ClassA, ClassB, Excess}
 use Rattle.flow.specs.declared.Which.{Which}
 use Rattle.flow.specs.declared.Which.the-variants.{A, B, C, D}
 use Rattle.flow.specs.Which.{permitsAll, sends, fed}
-use Rattle.flow.specs.Parts.{queueOf, capacityOf, stageHolds, withCredits, withStage, withQueue}
+use Rattle.flow.specs.Parts.{queueOf, capacityOf, boundsOf, stageHolds, withCredits, withStage, withQueue}
 use Rattle.flow.specs.Range.{FlowOk}
 
 -- ---- into the queues
@@ -30,7 +30,7 @@ use Rattle.flow.specs.Range.{FlowOk}
 pub record Offered (s : Settings) (f : Flow) (x : Frame) : Type 0 where
   pub settings : SettingsOk s
   pub flow : FlowOk s f
-  pub frame : FrameOk (s .mtu) x
+  pub frame : FrameOk (boundsOf s) x
 
 -- 4: a frame's size exceeds the queue's space
 abbrev pub enterFaults : Settings → Flow → Line → Frame → List Fault
@@ -48,11 +48,11 @@ abbrev pub enterOf : Settings → Flow → Line → Frame → Entered
 enterOf s f l x = refusedOr (notEnteredOf f) (firstOf (enterFaults s f l x)) (appendedOf f l x)
 
 -- Transit A goes to the primary queue, B and C to the secondary.
-unfoldable pub queueFor : ℕ → Line
-queueFor class = cond (eqb class 0) Primary Secondary
+unfoldable pub queueFor : Settings → ℕ → Line
+queueFor s class = cond (eqb class 0) Primary Secondary
 
 abbrev pub transitOf : Settings → Flow → Frame → Entered
-transitOf s f x = enterOf s f (queueFor (x .class)) x
+transitOf s f x = enterOf s f (queueFor s (x .class)) x
 
 -- Control frames, given by size alone (class A, 1 hop), go to the control queue.
 abbrev pub controlFrame : ℕ → Frame

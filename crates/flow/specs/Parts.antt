@@ -1,8 +1,9 @@
--- The parts of a flow: its queues by name, and a flow with one part anew.
+-- The parts of a flow: its queues by name, what the settings say of them and of their frames, and a flow with one part anew.
 -- Assumes nothing.
 use Prim.Native.Nat.{ℕ}
 use mathlib.Core.Bool.{Bool}
 use lib.Dec.{ltb}
+use Rattle.queue.specs.declared.Bounds.{Bounds}
 use Rattle.queue.specs.declared.Queue.{Queue}
 use Rattle.settings.specs.declared.Settings.{Settings}
 use Rattle.flow.specs.declared.Credits.{Credits}
@@ -19,6 +20,10 @@ abbrev pub capacityOf : Settings → Line → ℕ
 capacityOf s Control = s .queues .control
 capacityOf s Primary = s .queues .primary
 capacityOf s Secondary = s .queues .secondary
+
+-- what the frames of a station are held to
+abbrev pub boundsOf : Settings → Bounds
+boundsOf s = record { mtu = s .mtu }
 
 -- The stage holds one client frame: its word, or 0 where there is none.
 abbrev pub stageHolds : Flow → Bool

@@ -4,6 +4,7 @@ use Prim.Native.Nat.{ℕ, _≤_}
 use mathlib.Core.Logic.{_⊎_}
 use mathlib.Core.Path.{_≡_}
 use Rattle.decide.specs.Test.{Test, _≤?_, _≡?_, _∧?_, _∨?_}
+use Rattle.queue.specs.declared.Bounds.{Bounds}
 use Rattle.queue.specs.Frame.{frameOf, frameOk, FrameOk}
 use Rattle.queue.specs.Range.{queueOk, QueueOk}
 use Rattle.settings.specs.declared.Settings.{Settings}
@@ -12,7 +13,7 @@ use Rattle.flow.specs.declared.Flow.{Flow}
 use Rattle.flow.specs.declared.Line.{Line}
 use Rattle.flow.specs.declared.Which.{Which}
 use Rattle.flow.specs.Which.{bucketOf, creditOf}
-use Rattle.flow.specs.Parts.{queueOf, capacityOf}
+use Rattle.flow.specs.Parts.{queueOf, capacityOf, boundsOf}
 
 -- Credits are 0 to hiLimit.
 abbrev pub creditsOk : Settings → Credits → Test
@@ -24,20 +25,20 @@ creditsOk s c =
     ∧? c .d ≤? s .shapers .d .hi
 
 -- no frame, or one in range
-abbrev pub stageOk : ℕ → ℕ → Test
-stageOk mtu w = w ≡? 0 ∨? frameOk mtu (frameOf w)
+abbrev pub stageOk : Bounds → ℕ → Test
+stageOk b w = w ≡? 0 ∨? frameOk b (frameOf w)
 
 -- A lent station is in range if its .. frames, slots and bytes held (the sizes' sum, at most the capacity) are, credits are 0 to hiLimit ..
 unfoldable pub flowOk : Settings → Flow → Test
 flowOk s f =
     creditsOk s (f .credits)
-    ∧? queueOk (s .mtu) (s .queues .control) (f .control)
-    ∧? queueOk (s .mtu) (s .queues .primary) (f .primary)
-    ∧? queueOk (s .mtu) (s .queues .secondary) (f .secondary)
-    ∧? stageOk (s .mtu) (f .stage)
+    ∧? queueOk (boundsOf s) (s .queues .control) (f .control)
+    ∧? queueOk (boundsOf s) (s .queues .primary) (f .primary)
+    ∧? queueOk (boundsOf s) (s .queues .secondary) (f .secondary)
+    ∧? stageOk (boundsOf s) (f .stage)
 
 -- the same as named facts
 pub record FlowOk (s : Settings) (f : Flow) : Type 0 where
   pub credits : (w : Which) → creditOf (f .credits) w ≤ bucketOf s w .hi
-  pub queues : (l : Line) → QueueOk (s .mtu) (capacityOf s l) (queueOf f l)
-  pub stage : (f .stage ≡ 0) ⊎ FrameOk (s .mtu) (frameOf (f .stage))
+  pub queues : (l : Line) → QueueOk (boundsOf s) (capacityOf s l) (queueOf f l)
+  pub stage : (f .stage ≡ 0) ⊎ FrameOk (boundsOf s) (frameOf (f .stage))

@@ -9,13 +9,14 @@ ghost use Rattle.shaper.specs.Credit.{next};
 ghost use Rattle.shaper.specs.Credit as shaper;
 ghost use Rattle.settings.specs.Range.{limitsOf};
 ghost use Rattle.flow.specs.Which.{bucketOf, creditOf, withCredit, permitsOf, sends, fed};
-ghost use Rattle.flow.specs.Parts.{queueOf, capacityOf, stageHolds, withQueue};
+ghost use Rattle.flow.specs.Parts.{queueOf, capacityOf, boundsOf, stageHolds, withQueue};
 ghost use Rattle.flow.specs.Range.{creditsOk, stageOk, flowOk};
 ghost use Rattle.flow.specs.Tick.{startOf, tickOf};
 
 mod offers;
 mod selection;
 
+use queue::Bounds;
 use queue::Frame;
 use queue::Front;
 use queue::Queue;
@@ -68,14 +69,14 @@ pub enum Way {
 // beside its number: 0, as none says more.
 pub struct Entered {
     pub number: u8,
-    pub detail: u32,
+    pub detail: u64,
     pub flow: Flow,
 }
 
 // What a client's offer answers: 0, or 5, 6 or 7; the mark that its frame was given; and the flow afterwards.
 pub struct Client {
     pub number: u8,
-    pub detail: u32,
+    pub detail: u64,
     pub mark: u32,
     pub flow: Flow,
 }
@@ -131,17 +132,17 @@ impl Flow {
     pub fn in_range(self, settings: Settings) -> bool
         ensures { λ r. ⌜ r ≡ test (flowOk settings self) ⌝ }
     {
-        let mtu = settings.mtu;
+        let bounds = bounds(settings);
         let room = settings.queues;
         let credits = self.credits;
         let control = self.control;
         let primary = self.primary;
         let secondary = self.secondary;
         credits.in_range(settings)
-            & control.in_range(mtu, room.control)
-            & primary.in_range(mtu, room.primary)
-            & secondary.in_range(mtu, room.secondary)
-            & stage_ok(mtu, self.stage)
+            & control.in_range(bounds, room.control)
+            & primary.in_range(bounds, room.primary)
+            & secondary.in_range(bounds, room.secondary)
+            & stage_ok(bounds, self.stage)
     }
 
     // The flow after a tick. The host says whether A, B and C traffic waits; share is what the allowed rate gives C for one tick.
@@ -316,12 +317,19 @@ impl Line {
     }
 }
 
+// What the frames of a station are held to.
+pub fn bounds(settings: Settings) -> Bounds
+    ensures { λ r. ⌜ r ≡ boundsOf settings ⌝ }
+{
+    Bounds { mtu: settings.mtu }
+}
+
 // Whether a stage is empty or holds a frame in range.
-fn stage_ok(mtu: u32, word: u32) -> bool
-    ensures { λ r. ⌜ r ≡ test (stageOk mtu word) ⌝ }
+fn stage_ok(bounds: Bounds, word: u32) -> bool
+    ensures { λ r. ⌜ r ≡ test (stageOk bounds word) ⌝ }
 {
     let frame = Frame::of(word);
-    (word == queue::EMPTY) | frame.in_range(mtu)
+    (word == queue::EMPTY) | frame.in_range(bounds)
 }
 
 // A credit after a tick.

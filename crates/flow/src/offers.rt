@@ -25,7 +25,7 @@ impl Flow {
         requires { ⌜ Offered settings self frame ⌝ }
         ensures { λ r. ⌜ r ≡ transitOf settings self frame ⌝ }
     {
-        let line = Line::queue_for(frame.class);
+        let line = Line::queue_for(settings, frame.class as u64);
         self.enter(settings, line, frame)
     }
 
@@ -172,11 +172,11 @@ impl Way {
 }
 
 impl Line {
-    // The queue of a transit frame of this class.
-    fn queue_for(class: u32) -> Line
-        ensures { λ r. ⌜ r ≡ queueFor class ⌝ }
+    // The queue of a transit frame of this class: A, which is 0, goes to the primary.
+    pub fn queue_for(settings: Settings, class: u64) -> Line
+        ensures { λ r. ⌜ r ≡ queueFor settings class ⌝ }
     {
-        if class == CLASS_A {
+        if class == 0 {
             Line::Primary
         } else {
             Line::Secondary

@@ -1,11 +1,12 @@
 -- A station's bytes, one part of them written anew: they are those of the station with that part anew. So a call writes what it changes, and no more.
 -- Assumes nothing.
 use Prim.Native.Nat.{ℕ, _+_, _%_, _≤_}
-use mathlib.Core.List.{[], _∷_, _++_}
+use mathlib.Core.List.{[], _∷_}
 use mathlib.Core.Path.{_≡_, refl, sym, ap, _∙_}
 use native.Mathlib.Omega.{arith}
 use lib.ListN.{length}
 use Rattle.wire.specs.Wire.{digits, put}
+use Rattle.wire.specs.Parts.{group}
 use Rattle.wire.proofs.Numbers.{digits-mod}
 use Rattle.settings.specs.Words.{word, settingsPart}
 use Rattle.queue.specs.declared.Queue.{Queue}
@@ -22,7 +23,8 @@ use Rattle.station.specs.Answers.{withFlow, withFair}
 use Rattle.station.specs.Offers.{givenFrame}
 use Rattle.slots.specs.Slots.{queueLength, wordsBytes, queueBytes, queuePart}
 use Rattle.slots.proofs.Anew.{put-anew}
-use Rattle.layout.specs.Layout.{stationLength, wordsPart, creditsWords, fourWords, decidedWords, receivedWords, fairWords, stationBytes, placeOf}
+use Rattle.layout.specs.Layout.{placeOf, stagePlace, fairPlace, stationLength, wordsPart, creditsWords, fourWords, decidedWords, receivedWords}
+use Rattle.layout.specs.Layout.{fairParts, fairBytes, stationBytes}
 use Rattle.layout.proofs.Round.{Slotted, parts}
 
 module _ (st : Station) (e : Slotted st) where
@@ -36,16 +38,16 @@ module _ (st : Station) (e : Slotted st) where
   queue-put Primary q n = put-anew (parts st e) 2 (queuePart q n) (omega arith) refl
   queue-put Secondary q n = put-anew (parts st e) 3 (queuePart q n) (omega arith) refl
 
-  pub stage-put : (w : ℕ) → put (stationBytes st) 1574 (digits 4 w) ≡ stationBytes (withFlow st (withStage (st .flow) w))
+  pub stage-put : (w : ℕ) → put (stationBytes st) stagePlace (digits 4 w) ≡ stationBytes (withFlow st (withStage (st .flow) w))
   unfolding stationBytes
   stage-put w = put-anew (parts st e) 4 (word w) (omega arith) refl
 
-  pub fair-put : (f : Fair) → put (stationBytes st) 1578 (wordsBytes (fairWords f)) ≡ stationBytes (withFair st f)
+  pub fair-put : (f : Fair) → put (stationBytes st) fairPlace (fairBytes f) ≡ stationBytes (withFair st f)
   unfolding stationBytes
-  fair-put f = put-anew (parts st e) 5 (wordsPart (fairWords f)) (omega arith) refl
+  fair-put f = put-anew (parts st e) 5 (group (fairParts f)) (omega arith) refl
 
   -- the counters, which stand first in the fairness state
-  pub counters-put : (c : Four) → put (stationBytes st) 1578 (wordsBytes (fourWords c)) ≡ stationBytes (withFair st (withCounters c (st .fair)))
+  pub counters-put : (c : Four) → put (stationBytes st) fairPlace (wordsBytes (fourWords c)) ≡ stationBytes (withFair st (withCounters c (st .fair)))
   unfolding stationBytes digits wordsBytes
   counters-put c =
       let f : Fair = st .fair in
@@ -56,7 +58,7 @@ module _ (st : Station) (e : Slotted st) where
       ∷ queuePart (st .flow .secondary) (e .2)
       ∷ word (st .flow .stage)
       ∷ wordsPart (fourWords (f .counters))
-      ∷ wordsPart (fourWords (f .smoothed) ++ decidedWords f ++ receivedWords f)
+      ∷ group (wordsPart (fourWords (f .smoothed)) ∷ wordsPart (decidedWords (f .decided)) ∷ wordsPart (receivedWords (f .received)) ∷ [])
       ∷ settingsPart (st .settings)
       ∷ [])
       5

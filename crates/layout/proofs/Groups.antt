@@ -1,18 +1,29 @@
 -- The credits, the fairness state and what a queue holds: read where their words stand, and their words are those at the place where they are read.
 -- Assumes nothing.
-use Prim.Native.Nat.{ℕ, _+_}
+use Prim.Native.Nat.{ℕ, _+_, _≤_}
 use mathlib.Core.List.{List}
-use mathlib.Core.Path.{_≡_, refl, sym, ap}
-use native.Mathlib.Nat.{add-assoc}
-use Rattle.wire.specs.Wire.{le}
+use mathlib.Core.Path.{_≡_, refl}
+use native.Mathlib.Nat.{add-zero}
+use native.Mathlib.Omega.{arith}
+use lib.ListN.{length}
+use Rattle.wire.specs.Wire.{Bytes}
+use Rattle.wire.specs.Parts.{Part, nth, offset}
 use Rattle.wire.proofs.Places.{Stands}
+use Rattle.wire.proofs.Laid.{part-stands}
+use Rattle.wire.proofs.Placed.{placed-stand, laidOut-bytes}
 use Rattle.flow.specs.declared.Credits.{Credits}
+use Rattle.fair.specs.declared.Four.{Four}
+use Rattle.fair.specs.declared.Decided.{Decided}
+use Rattle.fair.specs.declared.Received.{Received}
 use Rattle.fair.specs.declared.Fair.{Fair}
 use Rattle.station.specs.declared.Held.{Held}
 use Rattle.slots.specs.Slots.{wordsBytes, WordsFit}
-use Rattle.layout.specs.Layout.{creditsWords, creditsAt, fairWords, fairAt}
+use Rattle.slots.proofs.Round as slots
+use Rattle.layout.specs.Layout.{fourLength, decidedLength, receivedLength, smoothedPlace, decidedPlace, receivedPlace, fairLength}
+use Rattle.layout.specs.Layout.{creditsWords, fourWords, decidedWords, receivedWords, fairParts, fairBytes}
+use Rattle.layout.specs.Layout.{creditsAt, fourAt, decidedAt, receivedAt, fairAt, FairFits}
 use Rattle.layout.specs.Reading.{heldWords, heldAt}
-use Rattle.layout.proofs.Words.{Read, words-back}
+use Rattle.layout.proofs.Words.{Read, words-back, words-stand, words-fit}
 
 module _ (xs : List ℕ) (at : ℕ) where
   -- ---- read where they stand
@@ -28,12 +39,20 @@ module _ (xs : List ℕ) (at : ℕ) where
       let (n, (b, e)) = words-back xs at (heldWords v) f s in
       rw (n, b)
 
-  pub fair-back : (v : Fair) → WordsFit (fairWords v) → Stands xs at (wordsBytes (fairWords v)) → fairAt xs at ≡ v
-  unfolding fairAt
-  fair-back v f s =
-      let (a0, (a1, (a2, (a3, (b0, (b1, (b2, (b3, (c0, (c1, (c2, (c3, (c4, (c5, (d0, (d1, (d2, (d3, e)))))))))))))))))) =
-      words-back xs at (fairWords v) f s in
-      simp add-assoc (rw (a0, a1, a2, a3, b0, b1, b2, b3, c0, c1, c2, c3, c4, c5, d0, d1, d2, d3))
+  pub four-back : (v : Four) → WordsFit (fourWords v) → Stands xs at (wordsBytes (fourWords v)) → fourAt xs at ≡ v
+  four-back v f s =
+      let (a, (b, (c, (d, e)))) = words-back xs at (fourWords v) f s in
+      rw (a, b, c, d)
+
+  pub decided-back : (v : Decided) → WordsFit (decidedWords v) → Stands xs at (wordsBytes (decidedWords v)) → decidedAt xs at ≡ v
+  decided-back v f s =
+      let (l, (a, (b, (o, (c, e))))) = words-back xs at (decidedWords v) f s in
+      rw (l, a, b, o, c)
+
+  pub received-back : (v : Received) → WordsFit (receivedWords v) → Stands xs at (wordsBytes (receivedWords v)) → receivedAt xs at ≡ v
+  received-back v f s =
+      let (d, (t, (h, (l, (r, e))))) = words-back xs at (receivedWords v) f s in
+      rw (d, t, h, l, r)
 
   -- ---- the words that are read
 
@@ -44,8 +63,72 @@ module _ (xs : List ℕ) (at : ℕ) where
   pub held-read : Read xs at (heldWords (heldAt xs at))
   held-read = (refl, (refl, tt))
 
-  pub fair-read : Read xs at (fairWords (fairAt xs at))
+  four-read : Read xs at (fourWords (fourAt xs at))
+  four-read = (refl, (refl, (refl, (refl, tt))))
+
+  decided-read : Read xs at (decidedWords (decidedAt xs at))
+  decided-read = (refl, (refl, (refl, (refl, (refl, tt)))))
+
+  received-read : Read xs at (receivedWords (receivedAt xs at))
+  received-read = (refl, (refl, (refl, (refl, (refl, tt)))))
+
+-- ---- the fairness state, by its parts
+
+pub fair-back : (xs : List ℕ) (at : ℕ) (v : Fair) → FairFits v → Stands xs at (fairBytes v) → fairAt xs at ≡ v
+unfolding fairAt
+fair-back xs at v f s =
+    let ps : List Part = fairParts v in
+    let p : (k : ℕ) → Stands xs (at + offset ps k) (nth ps k .bytes) = λ k. part-stands ps k xs at s in
+    rw (
+      four-back xs at (v .counters) (f .of-counters) (rw add-zero at (p 0)),
+      four-back xs (at + smoothedPlace) (v .smoothed) (f .of-smoothed) (p 1),
+      decided-back xs (at + decidedPlace) (v .decided) (f .of-decided) (p 2),
+      received-back xs (at + receivedPlace) (v .received) (f .of-received) (p 3),
+    )
+
+module _ (xs : List ℕ) (b : Bytes xs) where
+  -- each part stands where it is read
+  pub four-stands : (at : ℕ) → at + fourLength ≤ length xs → Stands xs at (wordsBytes (fourWords (fourAt xs at)))
+  four-stands at h = words-stand xs at b (fourWords (fourAt xs at)) h (four-read xs at)
+
+  pub decided-stands : (at : ℕ) → at + decidedLength ≤ length xs → Stands xs at (wordsBytes (decidedWords (decidedAt xs at)))
+  decided-stands at h = words-stand xs at b (decidedWords (decidedAt xs at)) h (decided-read xs at)
+
+  pub received-stands : (at : ℕ) → at + receivedLength ≤ length xs → Stands xs at (wordsBytes (receivedWords (receivedAt xs at)))
+  received-stands at h = words-stand xs at b (receivedWords (receivedAt xs at)) h (received-read xs at)
+
+  pub fair-stands : (at : ℕ) → at + fairLength ≤ length xs → Stands xs at (fairBytes (fairAt xs at))
   unfolding fairAt
-  fair-read =
-      let l : (k : ℕ) → le 4 xs (at + (16 + k)) ≡ le 4 xs (at + 16 + k) = λ k. ap (le 4 xs) (sym (add-assoc at 16 k)) in
-      (refl, (refl, (refl, (refl, (refl, (l 4, (l 8, (l 12, (refl, (refl, (refl, (refl, (refl, (refl, (refl, (refl, (refl, (refl, tt))))))))))))))))))
+  fair-stands at h =
+      placed-stand (fairParts (fairAt xs at)) xs at h (
+        four-stands at (omega arith),
+        (
+          four-stands (at + smoothedPlace) (omega arith),
+          (decided-stands (at + decidedPlace) (omega arith), (received-stands (at + receivedPlace) (omega arith), tt)),
+        ),
+      )
+
+  -- and fits
+  pub fair-fits : (at : ℕ) → FairFits (fairAt xs at)
+  unfolding fairAt
+  fair-fits at =
+      let four : (k : ℕ) → WordsFit (fourWords (fourAt xs k)) = λ k. words-fit xs k b (fourWords (fourAt xs k)) (four-read xs k) in
+      let d : ℕ = at + decidedPlace in
+      let r : ℕ = at + receivedPlace in
+      record {
+        of-counters = four at;
+        of-smoothed = four (at + smoothedPlace);
+        of-decided = words-fit xs d b (decidedWords (decidedAt xs d)) (decided-read xs d);
+        of-received = words-fit xs r b (receivedWords (receivedAt xs r)) (received-read xs r);
+      }
+
+-- what is written of it are bytes
+pub fair-bytes : (f : Fair) → Bytes (fairBytes f)
+fair-bytes f =
+    laidOut-bytes (fairParts f) (
+      slots.words-bytes (fourWords (f .counters)),
+      (
+        slots.words-bytes (fourWords (f .smoothed)),
+        (slots.words-bytes (decidedWords (f .decided)), (slots.words-bytes (receivedWords (f .received)), tt)),
+      ),
+    )

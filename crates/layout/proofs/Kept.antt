@@ -16,7 +16,7 @@ use Rattle.layout.specs.Layout.{StationFits}
 use Rattle.layout.proofs.Round.{station-in-range-fits}
 
 fits-narrow : {st : Station} → StationFits st → Narrow st
-fits-narrow f = record { own-low = f .of-settings .of-address .1; low = omega (arith, f .of-fair) }
+fits-narrow f = record { own-low = f .of-settings .of-address .1; low = omega (arith, f .of-fair .of-received) }
 
 -- what a call leaves fits where what it was lent did
 pub fits-kept : {st : Station} → StationOk st → StationFits st → (c : Call) → StationFits (step c st .station)

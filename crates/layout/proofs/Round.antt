@@ -1,6 +1,6 @@
--- A station and its 1,770 bytes say the same, and so do a reading and its 124. What is written is read back, and bytes that are read are written again.
+-- A station and its bytes say the same, and so do a reading and its. What is written is read back, and bytes that are read are written again.
 -- Assumes nothing.
-use Prim.Native.Nat.{ℕ, _+_, _≤_}
+use Prim.Native.Nat.{ℕ, _+_, _≤_, _<_}
 use mathlib.Core.List.{List}
 use mathlib.Core.Logic.{⊎-elim}
 use mathlib.Core.Path.{_≡_, refl, sym}
@@ -12,6 +12,7 @@ use Rattle.wire.specs.Parts.{Part, bytesPart, nth, offset, length-laidOut}
 use Rattle.wire.proofs.Places.{Stands, stands-whole}
 use Rattle.wire.proofs.Numbers.{digits-stand, digits-bytes, le-bound, le-stands}
 use Rattle.wire.proofs.Laid.{part-stands, whole-standing}
+use Rattle.settings.specs.declared.Settings.{Settings}
 use Rattle.settings.specs.Range.{SettingsOk}
 use Rattle.wire.proofs.Placed.{laidOut-bytes}
 use Rattle.settings.proofs.Words as settings
@@ -20,6 +21,7 @@ use Rattle.flow.specs.declared.Line.the-variants.{Control, Primary, Secondary}
 use Rattle.flow.specs.declared.Which.the-variants.{M, A, B, C, D}
 use Rattle.flow.specs.Range.{FlowOk}
 use Rattle.fair.specs.declared.Four.{Four}
+use Rattle.fair.specs.declared.Fair.{Fair}
 use Rattle.fair.specs.Range.{FairOk}
 use Rattle.station.specs.declared.Station.{Station}
 use Rattle.station.specs.declared.Held.{Held}
@@ -30,11 +32,12 @@ use Rattle.station.specs.Show.{heldOn, readingOf}
 use Rattle.station.proofs.Hear.{held-none, held-one}
 use Rattle.slots.specs.Slots.{queueBytes, queuePart, WordsFit}
 use Rattle.slots.proofs.Round as slots
-use Rattle.layout.specs.Layout.{stationLength, creditsWords, creditsAt, fairWords, fairAt}
-use Rattle.layout.specs.Layout.{stationParts, stationBytes, stationAt, StationFits}
+use Rattle.layout.specs.Layout.{placeOf, stagePlace, fairPlace, settingsPlace, stationLength, creditsWords, creditsAt}
+use Rattle.layout.specs.Layout.{stationParts, stationBytes, stationAt, FairFits, StationFits}
 use Rattle.layout.specs.Reading.{readingLength, heldWords, heldAt, readingParts, readingBytes, readingAt, ReadingFits}
 use Rattle.layout.proofs.Words.{words-stand, words-fit}
-use Rattle.layout.proofs.Groups.{credits-back, held-back, fair-back, credits-read, held-read, fair-read}
+use Rattle.layout.proofs.Groups.{credits-back, held-back, four-back, decided-back, received-back, credits-read, held-read}
+use Rattle.layout.proofs.Groups.{four-stands, decided-stands, received-stands, fair-back, fair-stands, fair-fits, fair-bytes}
 
 -- ---- a queue has its 128 slots
 
@@ -62,12 +65,12 @@ station-back xs st f s =
     let p : (k : ℕ) → Stands xs (0 + offset ps k) (nth ps k .bytes) = λ k. part-stands ps k xs 0 s in
     rw (
       credits-back xs 0 (st .flow .credits) (f .of-credits) (p 0),
-      slots.queue-back xs 20 (st .flow .control) (f .of-control) (p 1),
-      slots.queue-back xs 538 (st .flow .primary) (f .of-primary) (p 2),
-      slots.queue-back xs 1056 (st .flow .secondary) (f .of-secondary) (p 3),
-      le-stands 4 (st .flow .stage) xs 1574 (f .of-stage) (p 4),
-      fair-back xs 1578 (st .fair) (f .of-fair) (p 5),
-      settings.settings-back xs 1650 (st .settings) (f .of-settings) (p 6),
+      slots.queue-back xs (placeOf Control) (st .flow .control) (f .of-control) (p 1),
+      slots.queue-back xs (placeOf Primary) (st .flow .primary) (f .of-primary) (p 2),
+      slots.queue-back xs (placeOf Secondary) (st .flow .secondary) (f .of-secondary) (p 3),
+      le-stands 4 (st .flow .stage) xs stagePlace (f .of-stage) (p 4),
+      fair-back xs fairPlace (st .fair) (f .of-fair) (p 5),
+      settings.settings-back xs settingsPlace (st .settings) (f .of-settings) (p 6),
     )
 
 -- A station whose numbers fit is read back as it was written.
@@ -87,13 +90,13 @@ station-bytes st =
           slots.queue-bytes (st .flow .primary),
           (
             slots.queue-bytes (st .flow .secondary),
-            (digits-bytes 4 (st .flow .stage), (slots.words-bytes (fairWords (st .fair)), (settings.settings-bytes (st .settings), tt))),
+            (digits-bytes 4 (st .flow .stage), (fair-bytes (st .fair), (settings.settings-bytes (st .settings), tt))),
           ),
         ),
       ),
     )
 
--- ---- 1,770 bytes, read and written
+-- ---- bytes of a station's length, read and written
 
 module _ (xs : List ℕ) (b : Bytes xs) where
   -- what is read from bytes fits
@@ -102,31 +105,31 @@ module _ (xs : List ℕ) (b : Bytes xs) where
   station-fits =
       record {
         of-credits = words-fit xs 0 b (creditsWords (creditsAt xs 0)) (credits-read xs 0);
-        of-control = slots.queue-fits xs 20 b;
-        of-primary = slots.queue-fits xs 538 b;
-        of-secondary = slots.queue-fits xs 1056 b;
-        of-stage = le-bound 4 xs 1574 b;
-        of-fair = words-fit xs 1578 b (fairWords (fairAt xs 1578)) (fair-read xs 1578);
-        of-settings = settings.settings-fit xs 1650 b;
+        of-control = slots.queue-fits xs (placeOf Control) b;
+        of-primary = slots.queue-fits xs (placeOf Primary) b;
+        of-secondary = slots.queue-fits xs (placeOf Secondary) b;
+        of-stage = le-bound 4 xs stagePlace b;
+        of-fair = fair-fits xs b fairPlace;
+        of-settings = settings.settings-fit xs settingsPlace b;
       }
 
-  -- Every 1,770 bytes hold one station, and it writes them again.
+  -- Every so many bytes hold one station, and it writes them again.
   pub bytes-of-state : length xs ≡ stationLength → stationBytes (stationAt xs) ≡ xs
   unfolding stationBytes stationAt
   bytes-of-state e =
       whole-standing (parts (stationAt xs) (fits-slotted station-fits)) xs (sym e) (
         words-stand xs 0 b (creditsWords (creditsAt xs 0)) (omega arith) (credits-read xs 0),
         (
-          slots.queue-stand xs b 20 (omega arith),
+          slots.queue-stand xs b (placeOf Control) (omega arith),
           (
-            slots.queue-stand xs b 538 (omega arith),
+            slots.queue-stand xs b (placeOf Primary) (omega arith),
             (
-              slots.queue-stand xs b 1056 (omega arith),
+              slots.queue-stand xs b (placeOf Secondary) (omega arith),
               (
-                digits-stand 4 xs 1574 b,
+                digits-stand 4 xs stagePlace b,
                 (
-                  words-stand xs 1578 b (fairWords (fairAt xs 1578)) (omega arith) (fair-read xs 1578),
-                  (settings.settings-stand xs b 1650 (omega arith), tt),
+                  fair-stands xs b fairPlace (omega arith),
+                  (settings.settings-stand xs b settingsPlace (omega arith), tt),
                 ),
               ),
             ),
@@ -136,6 +139,15 @@ module _ (xs : List ℕ) (b : Bytes xs) where
 
 -- ---- a station in range fits
 
+fair-in-range-fits : (s : Settings) (f : Fair) → SettingsOk s → FairOk s f → f .received .low < 4294967296 → FairFits f
+fair-in-range-fits s f settings ok low =
+    record {
+      of-counters = omega (arith, ok .of-counters);
+      of-smoothed = omega (arith, ok .of-smoothed);
+      of-decided = omega (arith, ok .of-decided, settings .of-fairness .unreserved-most);
+      of-received = omega (arith, ok .of-received, low);
+    }
+
 -- where the low words of addresses, of which the range says nothing, are numbers of 32 bits
 pub station-in-range-fits : (st : Station) → StationOk st → Narrow st → StationFits st
 station-in-range-fits st ok n =
@@ -144,11 +156,11 @@ station-in-range-fits st ok n =
     let w : FlowOk (st .settings) (st .flow) = ok .flow in
     record {
       of-credits = omega (arith, w .credits M, w .credits A, w .credits B, w .credits C, w .credits D);
-      of-control = slots.queue-in-range-fits (st .settings .mtu) (st .settings .queues .control) (st .flow .control) (s .of-queues .control-most) (w .queues Control);
-      of-primary = slots.queue-in-range-fits (st .settings .mtu) (st .settings .queues .primary) (st .flow .primary) (s .of-queues .primary-most) (w .queues Primary);
-      of-secondary = slots.queue-in-range-fits (st .settings .mtu) (st .settings .queues .secondary) (st .flow .secondary) (s .of-queues .secondary-most) (w .queues Secondary);
+      of-control = slots.queue-in-range-fits (s .of-queues .control-most) (w .queues Control);
+      of-primary = slots.queue-in-range-fits (s .of-queues .primary-most) (w .queues Primary);
+      of-secondary = slots.queue-in-range-fits (s .of-queues .secondary-most) (w .queues Secondary);
       of-stage = ⊎-elim (λ (e : st .flow .stage ≡ 0). omega arith) (λ h. omega (arith, h .mark)) (w .stage);
-      of-fair = omega (arith, s .of-fairness .unreserved-most);
+      of-fair = fair-in-range-fits (st .settings) (st .fair) s f (n .low);
       of-settings = settings.in-range-fit (st .settings) s (n .own-low);
     }
 
@@ -169,14 +181,17 @@ reading-back xs r f s =
       held-back xs 28 (r .primary) (f .of-primary) (p 2),
       held-back xs 36 (r .secondary) (f .of-secondary) (p 3),
       held-back xs 44 (r .stage) (f .of-stage) (p 4),
-      fair-back xs 52 (r .fair) (f .of-fair) (p 5),
+      four-back xs 52 (r .counters) (f .of-counters) (p 5),
+      four-back xs 68 (r .smoothed) (f .of-smoothed) (p 6),
+      decided-back xs 84 (r .decided) (f .of-decided) (p 7),
+      received-back xs 104 (r .received) (f .of-received) (p 8),
     )
 
 -- A reading whose numbers fit is read back as it was written.
 pub reading-of-bytes : (r : Reading) → ReadingFits r → readingAt (readingBytes r) ≡ r
 reading-of-bytes r f = reading-back (readingBytes r) r f (stands-whole (readingBytes r))
 
--- Every 124 bytes hold one reading, and it writes them again.
+-- Every so many bytes hold one reading, and it writes them again.
 pub bytes-of-reading : (xs : List ℕ) → Bytes xs → length xs ≡ readingLength → readingBytes (readingAt xs) ≡ xs
 unfolding readingBytes readingAt
 bytes-of-reading xs b e =
@@ -185,7 +200,19 @@ bytes-of-reading xs b e =
       words-stand xs 0 b (creditsWords (creditsAt xs 0)) (omega arith) (credits-read xs 0),
       (
         held 20 (omega arith),
-        (held 28 (omega arith), (held 36 (omega arith), (held 44 (omega arith), (words-stand xs 52 b (fairWords (fairAt xs 52)) (omega arith) (fair-read xs 52), tt)))),
+        (
+          held 28 (omega arith),
+          (
+            held 36 (omega arith),
+            (
+              held 44 (omega arith),
+              (
+                four-stands xs b 52 (omega arith),
+                (four-stands xs b 68 (omega arith), (decided-stands xs b 84 (omega arith), (received-stands xs b 104 (omega arith), tt))),
+              ),
+            ),
+          ),
+        ),
       ),
     )
 
@@ -202,7 +229,10 @@ reading-fits {st} f =
       of-primary = omega (arith, f .of-primary .count, f .of-primary .held);
       of-secondary = omega (arith, f .of-secondary .count, f .of-secondary .held);
       of-stage = stage-fits (st .flow .stage);
-      of-fair = f .of-fair;
+      of-counters = f .of-fair .of-counters;
+      of-smoothed = f .of-fair .of-smoothed;
+      of-decided = f .of-fair .of-decided;
+      of-received = f .of-fair .of-received;
     }
 
 -- ---- the table of words
@@ -223,20 +253,10 @@ pub by-words : (xs : List ℕ) → readingAt xs ≡ record {
   primary = heldFrom xs 7;
   secondary = heldFrom xs 9;
   stage = heldFrom xs 11;
-  fair = record {
-    counters = fourFrom xs 13;
-    smoothed = fourFrom xs 17;
-    local = wordAt xs 21;
-    allowed = wordAt xs 22;
-    allowedc = wordAt xs 23;
-    own = wordAt xs 24;
-    congested = wordAt xs 25;
-    downstream = wordAt xs 26;
-    ttl = wordAt xs 27;
-    high = wordAt xs 28;
-    low = wordAt xs 29;
-    rate = wordAt xs 30;
-  };
+  counters = fourFrom xs 13;
+  smoothed = fourFrom xs 17;
+  decided = record { local = wordAt xs 21; allowed = wordAt xs 22; allowedc = wordAt xs 23; own = wordAt xs 24; congested = wordAt xs 25 };
+  received = record { downstream = wordAt xs 26; ttl = wordAt xs 27; high = wordAt xs 28; low = wordAt xs 29; rate = wordAt xs 30 };
 }
-unfolding readingAt creditsAt fairAt
+unfolding readingAt creditsAt
 by-words xs = refl

@@ -1,7 +1,7 @@
 -- Words that stand one behind the other: read where they stand, standing where they are read, each at its own offset.
 -- Assumes nothing.
 use Prim.Native.Nat.{ℕ, _+_, _*_, _≤_}
-use mathlib.Core.List.{List, [], _∷_, _++_, append-assoc}
+use mathlib.Core.List.{List, [], _∷_, _++_}
 use mathlib.Core.Path.{_≡_, refl, ap, subst, _∙_}
 use native.Mathlib.Nat.{add-assoc}
 use native.Mathlib.Omega.{arith}
@@ -11,10 +11,8 @@ use Rattle.wire.specs.Parts.{Part, laidOut, sizes, laid}
 use Rattle.wire.proofs.Places.{Stands}
 use Rattle.wire.proofs.Laid.{laid-put}
 use Rattle.settings.specs.Words.{word}
-use Rattle.fair.specs.declared.Fair.{Fair}
 use Rattle.slots.specs.Slots.{wordsBytes, wordsAt, WordsFit}
 use Rattle.slots.proofs.Round as slots
-use Rattle.layout.specs.Layout.{wordsPart, fourWords, decidedWords, receivedWords, fairWords}
 
 -- each word as a part
 abbrev pub words : List ℕ → List Part
@@ -33,13 +31,6 @@ size-words (v ∷ vs) = omega (arith, size-words vs)
 -- puts of words one behind the other are one
 pub words-put : (vs xs : List ℕ) (at : ℕ) → at + 4 * length vs ≤ length xs → laid xs at (words vs) ≡ put xs at (wordsBytes vs)
 words-put vs xs at h = laid-put (words vs) xs at (omega (arith, size-words vs)) ∙ ap (put xs at) (laid-words vs)
-
--- the four groups of the fairness state are its words
-pub fair-groups : (f : Fair) →
-    laidOut (wordsPart (fourWords (f .counters)) ∷ wordsPart (fourWords (f .smoothed)) ∷ wordsPart (decidedWords f) ∷ wordsPart (receivedWords f) ∷ [])
-    ≡ wordsBytes (fairWords f)
-unfolding wordsBytes
-fair-groups f = simp append-assoc
 
 -- ---- what is read
 

@@ -1,26 +1,71 @@
--- A station as 1,770 bytes, each number least byte first: what is written, part behind part, and what is read, each number at its place.
+-- A station as bytes, each number least byte first: what is written, part behind part, and what is read, each number at its place.
 -- Assumes nothing.
 use Prim.Native.Nat.{ℕ, _+_, _*_}
 use mathlib.Core.Bool.{cond}
-use mathlib.Core.List.{List, [], _∷_, _++_}
+use mathlib.Core.List.{List, [], _∷_}
 use lib.Dec.{eqb}
 use lib.ListN.{length}
 use Rattle.wire.specs.Wire.{le, put}
-use Rattle.wire.specs.Parts.{Part, bytesPart, laidOut}
-use Rattle.settings.specs.Words.{word, settingsPart, settingsAt, Fits32, SettingsFit}
+use Rattle.wire.specs.Parts.{Part, bytesPart, group, laidOut}
+use Rattle.settings.specs.Words.{settingsLength, word, settingsPart, settingsAt, Fits32, SettingsFit}
 use Rattle.queue.specs.declared.Frame.{Frame}
 use Rattle.queue.specs.Queue.{pushed, taken}
 use Rattle.flow.specs.declared.Credits.{Credits}
 use Rattle.flow.specs.declared.Line.{Line}
 use Rattle.flow.specs.declared.Line.the-variants.{Control, Primary, Secondary}
 use Rattle.fair.specs.declared.Four.{Four}
+use Rattle.fair.specs.declared.Decided.{Decided}
+use Rattle.fair.specs.declared.Received.{Received}
 use Rattle.fair.specs.declared.Fair.{Fair}
 use Rattle.station.specs.declared.Station.{Station}
-use Rattle.slots.specs.Slots.{wordsBytes, words-length, queueBytes, queueAt, WordsFit, QueueFits}
+use Rattle.slots.specs.Slots.{queueLength, wordsBytes, words-length, queueBytes, queueAt, WordsFit, QueueFits}
+
+-- ---- how many bytes each part takes, and where it stands: behind the one before
+
+-- five credits; four rates; what intervals decide; what was received: words of 4 bytes
+abbrev pub creditsLength : ℕ
+creditsLength = 4 * 5
+
+abbrev pub fourLength : ℕ
+fourLength = 4 * 4
+
+abbrev pub decidedLength : ℕ
+decidedLength = 4 * 5
+
+abbrev pub receivedLength : ℕ
+receivedLength = 4 * 5
+
+-- in the fairness state, behind the counters: the smoothed rates, what intervals decide, what was received
+abbrev pub smoothedPlace : ℕ
+smoothedPlace = fourLength
+
+abbrev pub decidedPlace : ℕ
+decidedPlace = smoothedPlace + fourLength
+
+abbrev pub receivedPlace : ℕ
+receivedPlace = decidedPlace + decidedLength
+
+abbrev pub fairLength : ℕ
+fairLength = receivedPlace + receivedLength
+
+-- in a station, behind the credits: the queues, the stage's word, the fairness state, the settings
+abbrev pub placeOf : Line → ℕ
+placeOf Control = creditsLength
+placeOf Primary = creditsLength + queueLength
+placeOf Secondary = creditsLength + 2 * queueLength
+
+abbrev pub stagePlace : ℕ
+stagePlace = placeOf Secondary + queueLength
+
+abbrev pub fairPlace : ℕ
+fairPlace = stagePlace + 4
+
+abbrev pub settingsPlace : ℕ
+settingsPlace = fairPlace + fairLength
 
 -- how many bytes a station takes
 abbrev pub stationLength : ℕ
-stationLength = 1770
+stationLength = settingsPlace + settingsLength
 
 -- ---- what is written: the parts, one after another
 
@@ -36,17 +81,25 @@ creditsWords c = c .m ∷ c .a ∷ c .b ∷ c .c ∷ c .d ∷ []
 abbrev pub fourWords : Four → List ℕ
 fourWords r = r .add ∷ r .fw ∷ r .addc ∷ r .fwc ∷ []
 
--- localFairRate, allowedRate, allowedRateCongested, own rate; locally congested, downstream congested
-abbrev pub decidedWords : Fair → List ℕ
-decidedWords f = f .local ∷ f .allowed ∷ f .allowedc ∷ f .own ∷ f .congested ∷ f .downstream ∷ []
+-- localFairRate, allowedRate, allowedRateCongested, own rate; locally congested
+abbrev pub decidedWords : Decided → List ℕ
+decidedWords d = d .local ∷ d .allowed ∷ d .allowedc ∷ d .own ∷ d .congested ∷ []
 
--- what was received: ttl, address (high 16, low 32 bits), rate
-abbrev pub receivedWords : Fair → List ℕ
-receivedWords f = f .ttl ∷ f .high ∷ f .low ∷ f .rate ∷ []
+-- downstream congested; what was received: ttl, address (high 16, low 32 bits), rate
+abbrev pub receivedWords : Received → List ℕ
+receivedWords r = r .downstream ∷ r .ttl ∷ r .high ∷ r .low ∷ r .rate ∷ []
 
 -- the fairness state
-abbrev pub fairWords : Fair → List ℕ
-fairWords f = fourWords (f .counters) ++ fourWords (f .smoothed) ++ decidedWords f ++ receivedWords f
+abbrev pub fairParts : Fair → List Part
+fairParts f =
+    wordsPart (fourWords (f .counters))
+    ∷ wordsPart (fourWords (f .smoothed))
+    ∷ wordsPart (decidedWords (f .decided))
+    ∷ wordsPart (receivedWords (f .received))
+    ∷ []
+
+abbrev pub fairBytes : Fair → List ℕ
+fairBytes f = laidOut (fairParts f)
 
 -- credits; control, primary and secondary queue; the stage's word, 0 where empty; the fairness state; the settings
 abbrev pub stationParts : Part → Part → Part → Station → List Part
@@ -56,7 +109,7 @@ stationParts control primary secondary st =
     ∷ primary
     ∷ secondary
     ∷ word (st .flow .stage)
-    ∷ wordsPart (fairWords (st .fair))
+    ∷ group (fairParts (st .fair))
     ∷ settingsPart (st .settings)
     ∷ []
 
@@ -78,45 +131,39 @@ creditsAt xs at = record { m = le 4 xs at; a = le 4 xs (at + 4); b = le 4 xs (at
 abbrev pub fourAt : List ℕ → ℕ → Four
 fourAt xs at = record { add = le 4 xs at; fw = le 4 xs (at + 4); addc = le 4 xs (at + 8); fwc = le 4 xs (at + 12) }
 
+abbrev pub decidedAt : List ℕ → ℕ → Decided
+decidedAt xs at =
+    record { local = le 4 xs at; allowed = le 4 xs (at + 4); allowedc = le 4 xs (at + 8); own = le 4 xs (at + 12); congested = le 4 xs (at + 16) }
+
+abbrev pub receivedAt : List ℕ → ℕ → Received
+receivedAt xs at =
+    record { downstream = le 4 xs at; ttl = le 4 xs (at + 4); high = le 4 xs (at + 8); low = le 4 xs (at + 12); rate = le 4 xs (at + 16) }
+
 unfoldable pub fairAt : List ℕ → ℕ → Fair
 fairAt xs at =
     record {
       counters = fourAt xs at;
-      smoothed = fourAt xs (at + 16);
-      local = le 4 xs (at + 32);
-      allowed = le 4 xs (at + 36);
-      allowedc = le 4 xs (at + 40);
-      own = le 4 xs (at + 44);
-      congested = le 4 xs (at + 48);
-      downstream = le 4 xs (at + 52);
-      ttl = le 4 xs (at + 56);
-      high = le 4 xs (at + 60);
-      low = le 4 xs (at + 64);
-      rate = le 4 xs (at + 68);
+      smoothed = fourAt xs (at + smoothedPlace);
+      decided = decidedAt xs (at + decidedPlace);
+      received = receivedAt xs (at + receivedPlace);
     }
 
 unfoldable pub stationAt : List ℕ → Station
 stationAt xs =
     record {
-      settings = settingsAt xs 1650;
+      settings = settingsAt xs settingsPlace;
       flow =
           record {
             credits = creditsAt xs 0;
-            control = queueAt xs 20;
-            primary = queueAt xs 538;
-            secondary = queueAt xs 1056;
-            stage = le 4 xs 1574;
+            control = queueAt xs (placeOf Control);
+            primary = queueAt xs (placeOf Primary);
+            secondary = queueAt xs (placeOf Secondary);
+            stage = le 4 xs stagePlace;
           };
-      fair = fairAt xs 1578;
+      fair = fairAt xs fairPlace;
     }
 
 -- ---- what is written anew of a queue
-
--- where the bytes of a queue stand
-abbrev pub placeOf : Line → ℕ
-placeOf Control = 20
-placeOf Primary = 538
-placeOf Secondary = 1056
 
 -- a frame is pushed to a queue
 abbrev pub pushedAt : List ℕ → Line → Frame → List ℕ
@@ -132,11 +179,17 @@ takenFrom origin xs = cond (eqb origin 1) (takenAt xs Control) (cond (eqb origin
 
 -- ---- each number fits its bytes, and each queue has its 128 slots
 
+pub record FairFits (f : Fair) : Type 0 where
+  pub of-counters : WordsFit (fourWords (f .counters))
+  pub of-smoothed : WordsFit (fourWords (f .smoothed))
+  pub of-decided : WordsFit (decidedWords (f .decided))
+  pub of-received : WordsFit (receivedWords (f .received))
+
 pub record StationFits (st : Station) : Type 0 where
   pub of-credits : WordsFit (creditsWords (st .flow .credits))
   pub of-control : QueueFits (st .flow .control)
   pub of-primary : QueueFits (st .flow .primary)
   pub of-secondary : QueueFits (st .flow .secondary)
   pub of-stage : Fits32 (st .flow .stage)
-  pub of-fair : WordsFit (fairWords (st .fair))
+  pub of-fair : FairFits (st .fair)
   pub of-settings : SettingsFit (st .settings)

@@ -1,48 +1,52 @@
-// The fairness state as 18 words of 4 bytes, least byte first.
+// The fairness state as words of 4 bytes, least byte first: the counters, the smoothed rates, what intervals decide, what was received.
 ghost use mathlib.Core.Path.{_≡_};
 ghost use Prim.Native.Nat.{_+_, _≤_};
 ghost use lib.ListN.{length};
 ghost use Rattle.wire.specs.Wire.{put};
 ghost use Rattle.slots.specs.Slots.{wordsBytes};
-ghost use Rattle.layout.specs.Layout.{fourAt, fairAt, fourWords, decidedWords, receivedWords, fairWords};
+ghost use Rattle.layout.specs.Layout.{fourLength, decidedLength, receivedLength, fairLength};
+ghost use Rattle.layout.specs.Layout.{fourAt, decidedAt, receivedAt, fairAt, fourWords, decidedWords, receivedWords, fairBytes};
+use fair::Decided;
 use fair::Fair;
 use fair::Four;
+use fair::Received;
+
+// Where the parts stand behind the counters, each behind the one before, and how many bytes they take together.
+const SMOOTHED: usize = 16;
+
+const DECIDED: usize = SMOOTHED + 16;
+
+const RECEIVED: usize = DECIDED + 20;
+
+pub const LENGTH: usize = RECEIVED + 20;
 
 // The fairness state whose words stand in `s` from `at` on.
 pub fn read(s: &[u8], at: usize) -> Fair
-    requires { ⌜ at + 72 ≤ length (now s) ⌝ }
+    requires { ⌜ at + fairLength ≤ length (now s) ⌝ }
     ensures { λ r. ⌜ r ≡ fairAt (now (s .entry)) at ⌝ }
 {
     Fair {
         counters: read_four(s, at),
-        smoothed: read_four(s, at + 16),
-        local: wire::get32(s, at + 32),
-        allowed: wire::get32(s, at + 36),
-        allowedc: wire::get32(s, at + 40),
-        own: wire::get32(s, at + 44),
-        congested: wire::get32(s, at + 48),
-        downstream: wire::get32(s, at + 52),
-        ttl: wire::get32(s, at + 56),
-        high: wire::get32(s, at + 60),
-        low: wire::get32(s, at + 64),
-        rate: wire::get32(s, at + 68),
+        smoothed: read_four(s, at + SMOOTHED),
+        decided: read_decided(s, at + DECIDED),
+        received: read_received(s, at + RECEIVED),
     }
 }
 
 // Writes the words of the fairness state to `s` from `at` on.
 pub fn write(f: Fair, s: &mut [u8], at: usize)
-    requires { ⌜ at + 72 ≤ length (now s) ⌝ }
-    ensures { λ _. ⌜ now (s .exit) ≡ put (now (s .entry)) at (wordsBytes (fairWords f)) ⌝ }
+    requires { ⌜ at + fairLength ≤ length (now s) ⌝ }
+    ensures { λ _. ⌜ now (s .exit) ≡ put (now (s .entry)) at (fairBytes f) ⌝ }
 {
     write_four(f.counters, s, at);
-    write_four(f.smoothed, s, at + 16);
-    write_decided(f, s, at + 32);
-    write_received(f, s, at + 56);
+    write_four(f.smoothed, s, at + SMOOTHED);
+    write_decided(f.decided, s, at + DECIDED);
+    write_received(f.received, s, at + RECEIVED);
 }
 
 // The four rates whose words stand in `s` from `at` on.
 fn read_four(s: &[u8], at: usize) -> Four
-    requires { ⌜ at + 16 ≤ length (now s) ⌝ }
+    requires { ⌜ at + fourLength ≤ length (now s) ⌝ }
     ensures { λ r. ⌜ r ≡ fourAt (now (s .entry)) at ⌝ }
 {
     Four {
@@ -55,7 +59,7 @@ fn read_four(s: &[u8], at: usize) -> Four
 
 // Writes the words of four rates to `s` from `at` on.
 pub fn write_four(r: Four, s: &mut [u8], at: usize)
-    requires { ⌜ at + 16 ≤ length (now s) ⌝ }
+    requires { ⌜ at + fourLength ≤ length (now s) ⌝ }
     ensures { λ _. ⌜ now (s .exit) ≡ put (now (s .entry)) at (wordsBytes (fourWords r)) ⌝ }
 {
     wire::put32(s, at, r.add);
@@ -64,26 +68,54 @@ pub fn write_four(r: Four, s: &mut [u8], at: usize)
     wire::put32(s, at + 12, r.fwc);
 }
 
-// Writes what intervals decide to `s` from `at` on: localFairRate, both allowed rates, own rate, congestion both ways.
-fn write_decided(f: Fair, s: &mut [u8], at: usize)
-    requires { ⌜ at + 24 ≤ length (now s) ⌝ }
-    ensures { λ _. ⌜ now (s .exit) ≡ put (now (s .entry)) at (wordsBytes (decidedWords f)) ⌝ }
+// What intervals decide, as its words in `s` from `at` on say.
+fn read_decided(s: &[u8], at: usize) -> Decided
+    requires { ⌜ at + decidedLength ≤ length (now s) ⌝ }
+    ensures { λ r. ⌜ r ≡ decidedAt (now (s .entry)) at ⌝ }
 {
-    wire::put32(s, at, f.local);
-    wire::put32(s, at + 4, f.allowed);
-    wire::put32(s, at + 8, f.allowedc);
-    wire::put32(s, at + 12, f.own);
-    wire::put32(s, at + 16, f.congested);
-    wire::put32(s, at + 20, f.downstream);
+    Decided {
+        local: wire::get32(s, at),
+        allowed: wire::get32(s, at + 4),
+        allowedc: wire::get32(s, at + 8),
+        own: wire::get32(s, at + 12),
+        congested: wire::get32(s, at + 16),
+    }
 }
 
-// Writes what was received to `s` from `at` on: ttl, the high 16 and the low 32 bits of the address, rate.
-fn write_received(f: Fair, s: &mut [u8], at: usize)
-    requires { ⌜ at + 16 ≤ length (now s) ⌝ }
-    ensures { λ _. ⌜ now (s .exit) ≡ put (now (s .entry)) at (wordsBytes (receivedWords f)) ⌝ }
+// Writes what intervals decide to `s` from `at` on: localFairRate, both allowed rates, own rate, local congestion.
+pub fn write_decided(d: Decided, s: &mut [u8], at: usize)
+    requires { ⌜ at + decidedLength ≤ length (now s) ⌝ }
+    ensures { λ _. ⌜ now (s .exit) ≡ put (now (s .entry)) at (wordsBytes (decidedWords d)) ⌝ }
 {
-    wire::put32(s, at, f.ttl);
-    wire::put32(s, at + 4, f.high);
-    wire::put32(s, at + 8, f.low);
-    wire::put32(s, at + 12, f.rate);
+    wire::put32(s, at, d.local);
+    wire::put32(s, at + 4, d.allowed);
+    wire::put32(s, at + 8, d.allowedc);
+    wire::put32(s, at + 12, d.own);
+    wire::put32(s, at + 16, d.congested);
+}
+
+// What was received, as its words in `s` from `at` on say.
+fn read_received(s: &[u8], at: usize) -> Received
+    requires { ⌜ at + receivedLength ≤ length (now s) ⌝ }
+    ensures { λ r. ⌜ r ≡ receivedAt (now (s .entry)) at ⌝ }
+{
+    Received {
+        downstream: wire::get32(s, at),
+        ttl: wire::get32(s, at + 4),
+        high: wire::get32(s, at + 8),
+        low: wire::get32(s, at + 12),
+        rate: wire::get32(s, at + 16),
+    }
+}
+
+// Writes what was received to `s` from `at` on: congestion downstream, ttl, the high 16 and the low 32 bits of the address, rate.
+pub fn write_received(r: Received, s: &mut [u8], at: usize)
+    requires { ⌜ at + receivedLength ≤ length (now s) ⌝ }
+    ensures { λ _. ⌜ now (s .exit) ≡ put (now (s .entry)) at (wordsBytes (receivedWords r)) ⌝ }
+{
+    wire::put32(s, at, r.downstream);
+    wire::put32(s, at + 4, r.ttl);
+    wire::put32(s, at + 8, r.high);
+    wire::put32(s, at + 12, r.low);
+    wire::put32(s, at + 16, r.rate);
 }

@@ -1,5 +1,5 @@
-// A station and its reading as bytes, in which a host keeps the one and looks at the other. A station's bytes are 1,770: the credits at 0, control,
-// primary and secondary queue at 20, 538 and 1056, the stage's word at 1574, the fairness state at 1578, the settings at 1650.
+// A station and its reading as bytes, in which a host keeps the one and looks at the other. A station's bytes are the credits, control, primary and
+// secondary queue, the stage's word, the fairness state and the settings, one behind the other.
 ghost use mathlib.Core.Path.{_≡_};
 ghost use Prim.Native.Nat.{_+_, _%_, _≤_};
 ghost use lib.ListN.{length};
@@ -8,7 +8,8 @@ ghost use Rattle.flow.specs.Pick.{sightOf};
 ghost use Rattle.station.specs.Pick.{pickOf};
 ghost use Rattle.station.specs.Offers.{givenFrame};
 ghost use Rattle.slots.specs.Slots.{wordsBytes};
-ghost use Rattle.layout.specs.Layout.{stationLength, stationAt, stationBytes, creditsAt, creditsWords, fourWords, fairWords, placeOf, pushedAt, takenFrom};
+ghost use Rattle.layout.specs.Layout.{creditsLength, stagePlace, fairPlace, stationLength, stationAt, stationBytes};
+ghost use Rattle.layout.specs.Layout.{creditsAt, creditsWords, fourWords, fairBytes, placeOf, pushedAt, takenFrom};
 ghost use Rattle.layout.specs.Reading.{readingLength, heldWords, readingBytes};
 
 mod fairness;
@@ -26,27 +27,40 @@ use station::Pick;
 use station::Reading;
 use station::Station;
 
+// Where the parts of a station stand behind the credits, each behind the one before.
+const CONTROL: usize = 20;
+
+const PRIMARY: usize = CONTROL + slots::LENGTH;
+
+const SECONDARY: usize = PRIMARY + slots::LENGTH;
+
+const STAGE: usize = SECONDARY + slots::LENGTH;
+
+const FAIR: usize = STAGE + 4;
+
+const SETTINGS: usize = FAIR + fairness::LENGTH;
+
 // How many bytes a station takes, and how many a reading of one.
-pub const LENGTH: usize = 1770;
+pub const LENGTH: usize = SETTINGS + Settings::LENGTH;
 
-pub const READING: usize = 124;
+pub const READING: usize = 4 * Reading::WORDS;
 
-// The station that 1,770 bytes hold, in range or not.
+// The station that these bytes hold, in range or not.
 pub fn read(s: &[u8]) -> Station
     requires { ⌜ length (now s) ≡ stationLength ⌝ }
     ensures { λ r. ⌜ r ≡ stationAt (now (s .entry)) ⌝ }
 {
     let flow = Flow {
         credits: read_credits(s, 0),
-        control: slots::read(s, 20),
-        primary: slots::read(s, 538),
-        secondary: slots::read(s, 1056),
-        stage: wire::get32(s, 1574),
+        control: slots::read(s, CONTROL),
+        primary: slots::read(s, PRIMARY),
+        secondary: slots::read(s, SECONDARY),
+        stage: wire::get32(s, STAGE),
     };
     Station {
-        settings: Settings::read(s, 1650),
+        settings: Settings::read(s, SETTINGS),
         flow: flow,
-        fair: fairness::read(s, 1578),
+        fair: fairness::read(s, FAIR),
     }
 }
 
@@ -62,22 +76,22 @@ pub fn pick(s: &[u8]) -> Pick
     station::picked(settings, seen, fair)
 }
 
-// Writes a station to 1,770 bytes.
+// Writes a station to its bytes.
 pub fn write(st: Station, s: &mut [u8])
     requires { ⌜ length (now s) ≡ stationLength ⌝ }
     ensures { λ _. ⌜ now (s .exit) ≡ stationBytes st ⌝ }
 {
     let flow = st.flow;
     put_credits(flow.credits, s, 0);
-    slots::write(flow.control, s, 20);
-    slots::write(flow.primary, s, 538);
-    slots::write(flow.secondary, s, 1056);
-    wire::put32(s, 1574, flow.stage);
-    fairness::write(st.fair, s, 1578);
-    st.settings.write(s, 1650);
+    slots::write(flow.control, s, CONTROL);
+    slots::write(flow.primary, s, PRIMARY);
+    slots::write(flow.secondary, s, SECONDARY);
+    wire::put32(s, STAGE, flow.stage);
+    fairness::write(st.fair, s, FAIR);
+    st.settings.write(s, SETTINGS);
 }
 
-// Writes the credits of a station to its 1,770 bytes, and leaves all others.
+// Writes the credits of a station to its bytes, and leaves all others.
 pub fn write_credits(c: Credits, s: &mut [u8])
     requires { ⌜ length (now s) ≡ stationLength ⌝ }
     ensures { λ _. ⌜ now (s .exit) ≡ put (now (s .entry)) 0 (wordsBytes (creditsWords c)) ⌝ }
@@ -121,28 +135,28 @@ pub fn take_frame(origin: u32, s: &mut [u8])
 // Writes the stage's word to the bytes of a station, and leaves all others.
 pub fn write_stage(word: u32, s: &mut [u8])
     requires { ⌜ length (now s) ≡ stationLength ⌝ }
-    ensures { λ _. ⌜ now (s .exit) ≡ put (now (s .entry)) 1574 (digits 4 word) ⌝ }
+    ensures { λ _. ⌜ now (s .exit) ≡ put (now (s .entry)) stagePlace (digits 4 word) ⌝ }
 {
-    wire::put32(s, 1574, word);
+    wire::put32(s, STAGE, word);
 }
 
 // Writes the fairness state of a station to its bytes, and leaves all others.
 pub fn write_fair(f: Fair, s: &mut [u8])
     requires { ⌜ length (now s) ≡ stationLength ⌝ }
-    ensures { λ _. ⌜ now (s .exit) ≡ put (now (s .entry)) 1578 (wordsBytes (fairWords f)) ⌝ }
+    ensures { λ _. ⌜ now (s .exit) ≡ put (now (s .entry)) fairPlace (fairBytes f) ⌝ }
 {
-    fairness::write(f, s, 1578);
+    fairness::write(f, s, FAIR);
 }
 
 // Writes the counters of a station to its bytes, and leaves all others.
 pub fn write_counters(c: Four, s: &mut [u8])
     requires { ⌜ length (now s) ≡ stationLength ⌝ }
-    ensures { λ _. ⌜ now (s .exit) ≡ put (now (s .entry)) 1578 (wordsBytes (fourWords c)) ⌝ }
+    ensures { λ _. ⌜ now (s .exit) ≡ put (now (s .entry)) fairPlace (wordsBytes (fourWords c)) ⌝ }
 {
-    fairness::write_four(c, s, 1578);
+    fairness::write_four(c, s, FAIR);
 }
 
-// Writes a reading to 124 bytes.
+// Writes a reading to its bytes.
 pub fn write_reading(r: Reading, s: &mut [u8])
     requires { ⌜ length (now s) ≡ readingLength ⌝ }
     ensures { λ _. ⌜ now (s .exit) ≡ readingBytes r ⌝ }
@@ -152,20 +166,23 @@ pub fn write_reading(r: Reading, s: &mut [u8])
     write_held(r.primary, s, 28);
     write_held(r.secondary, s, 36);
     write_held(r.stage, s, 44);
-    fairness::write(r.fair, s, 52);
+    fairness::write_four(r.counters, s, 52);
+    fairness::write_four(r.smoothed, s, 68);
+    fairness::write_decided(r.decided, s, 84);
+    fairness::write_received(r.received, s, 104);
 }
 
-// What a selection looks at of the station that 1,770 bytes hold: the credits, the stage and the front of each queue.
+// What a selection looks at of the station that these bytes hold: the credits, the stage and the front of each queue.
 fn sight(s: &[u8]) -> Sight
     requires { ⌜ length (now s) ≡ stationLength ⌝ }
     ensures { λ r. ⌜ r ≡ sightOf (stationAt (now (s .entry)) .flow) ⌝ }
 {
     Sight {
         credits: read_credits(s, 0),
-        stage: wire::get32(s, 1574),
-        control: slots::front(s, 20),
-        primary: slots::front(s, 538),
-        secondary: slots::front(s, 1056),
+        stage: wire::get32(s, STAGE),
+        control: slots::front(s, CONTROL),
+        primary: slots::front(s, PRIMARY),
+        secondary: slots::front(s, SECONDARY),
     }
 }
 
@@ -174,9 +191,9 @@ fn place(line: Line) -> usize
     ensures { λ r. ⌜ r ≡ placeOf line ⌝ }
 {
     match line {
-        Line::Control => 20,
-        Line::Primary => 538,
-        Line::Secondary => 1056,
+        Line::Control => CONTROL,
+        Line::Primary => PRIMARY,
+        Line::Secondary => SECONDARY,
     }
 }
 
@@ -189,7 +206,7 @@ fn low(x: u64) -> u32
 
 // The credits whose words stand in `s` from `at` on.
 fn read_credits(s: &[u8], at: usize) -> Credits
-    requires { ⌜ at + 20 ≤ length (now s) ⌝ }
+    requires { ⌜ at + creditsLength ≤ length (now s) ⌝ }
     ensures { λ r. ⌜ r ≡ creditsAt (now (s .entry)) at ⌝ }
 {
     Credits {
@@ -203,7 +220,7 @@ fn read_credits(s: &[u8], at: usize) -> Credits
 
 // Writes the words of credits to `s` from `at` on.
 fn put_credits(c: Credits, s: &mut [u8], at: usize)
-    requires { ⌜ at + 20 ≤ length (now s) ⌝ }
+    requires { ⌜ at + creditsLength ≤ length (now s) ⌝ }
     ensures { λ _. ⌜ now (s .exit) ≡ put (now (s .entry)) at (wordsBytes (creditsWords c)) ⌝ }
 {
     wire::put32(s, at, c.m);

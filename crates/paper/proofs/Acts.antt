@@ -23,14 +23,14 @@ use Rattle.flow.specs.declared.Line.{Line}
 use Rattle.flow.specs.declared.Line.the-variants.{Control, Primary, Secondary}
 use Rattle.flow.specs.declared.Which.{Which}
 use Rattle.flow.specs.Which.{permitsAll}
-use Rattle.flow.specs.Parts.{queueOf, capacityOf, stageHolds, withCredits, withQueue}
+use Rattle.flow.specs.Parts.{queueOf, capacityOf, boundsOf, stageHolds, withCredits, withQueue}
 use Rattle.flow.specs.Offer.{queueFor, controlFrame, needsOf, markOf}
 use Rattle.flow.specs.Tick as flow
 use Rattle.flow.specs.Frames.{Staged}
 use Rattle.flow.proofs.Held.{staged}
 use Rattle.flow.proofs.Range.{start-credit, start-queue, start-stage}
 use Rattle.flow.proofs.Offer.{enter-taken}
-use Rattle.flow.proofs.Frames.{start-frames, enter-appends}
+use Rattle.flow.proofs.Frames.{enter-appends}
 use Rattle.fair.proofs.Count.{over-exactly}
 use Rattle.station.specs.declared.Station.{Station}
 use Rattle.station.specs.declared.Done.{Done}
@@ -39,6 +39,7 @@ use Rattle.station.specs.Answers.{withFlow, doneOf}
 use Rattle.station.specs.Calls.{flagsOk, tickOf}
 use Rattle.station.specs.Offers.{givenFrame, offerOf, overFor, wayFor}
 use Rattle.station.specs.History.{Answer}
+use Rattle.settings.specs.Range.{settingsOk, SettingsOk}
 use Rattle.settings.proofs.Range as settings
 use Rattle.station.proofs.Range.{in-range-facts, facts-in-range}
 use Rattle.station.proofs.Calls.{start-refused, start-done, tick-done, select-done}
@@ -48,15 +49,18 @@ use Rattle.station.proofs.Hear.{tell-done, show-done}
 use Rattle.station.proofs.History.{trace-creditless}
 use Rattle.wire.specs.Wire.{le, digits}
 use Rattle.paper.proofs.Reasons.{denied-by, flags-exactly}
-use Rattle.paper.specs.Acts.{Starts, Brings, Passes, Stages, YesNo, Acts, Traces, ReadsOff}
+use Rattle.paper.specs.Acts.{least, Starts, Brings, Passes, Stages, YesNo, Acts, Traces, ReadsOff}
+
+pub some-start : SettingsOk least
+unfolding settingsOk test
+some-start = settings.in-range-facts least refl
 
 pub starts : (s : Settings) → Starts s
 unfolding ownRateOf emptyQueue
 starts s =
     record {
       credits = start-credit s;
-      slots = λ l. ap (λ (q : Queue). q .slots) (start-queue s l);
-      queues = start-frames s;
+      queues = start-queue s;
       stage = start-stage s;
       rates = refl;
       settings = refl;
@@ -87,10 +91,10 @@ module _ {st : Station} (ok : StationOk st) where
   in-range = facts-in-range st ok
 
   -- a frame in range passes the test
-  tested : {x : Frame} → FrameOk (st .settings .mtu) x → test (frameOk (st .settings .mtu) x) ≡ true
-  tested {x} frame = passes (frameOk (st .settings .mtu) x) (frame-holds (st .settings .mtu) x frame)
+  tested : {x : Frame} → FrameOk (boundsOf (st .settings)) x → test (frameOk (boundsOf (st .settings)) x) ≡ true
+  tested {x} frame = passes (frameOk (boundsOf (st .settings)) x) (frame-holds (boundsOf (st .settings)) x frame)
 
-  brings : (l : Line) (x : Frame) → FrameOk (st .settings .mtu) x → x .size ≤ spaceOf (queueOf (st .flow) l) (capacityOf (st .settings) l) → Brings st l x (offerOf st l x)
+  brings : (l : Line) (x : Frame) → FrameOk (boundsOf (st .settings)) x → x .size ≤ spaceOf (queueOf (st .flow) l) (capacityOf (st .settings) l) → Brings st l x (offerOf st l x)
   brings l x frame fits =
       let q = pushed (queueOf (st .flow) l) x in
       let parts = other-parts (st .flow) q l in
@@ -108,7 +112,7 @@ module _ {st : Station} (ok : StationOk st) where
   empty : (Staged (st .flow) → ⊥) → stageHolds (st .flow) ≡ false
   empty none = denied-by (staged (st .flow) .0) none
 
-  module _ (class size hops : ℕ) (frame : FrameOk (st .settings .mtu) (givenFrame class size hops 0)) where
+  module _ (class size hops : ℕ) (frame : FrameOk (boundsOf (st .settings)) (givenFrame class size hops 0)) where
     -- what is asked for 7: the frame is eligible, and would pass the rate
     abbrev asked : Bool
     asked = eqb (markOf (wayFor st class)) 1 && overFor st size hops
@@ -143,7 +147,7 @@ module _ {st : Station} (ok : StationOk st) where
   acts =
       record {
         tick = tick-credits;
-        transit = λ class size hops eligible. brings (queueFor class) (givenFrame class size hops eligible);
+        transit = λ class size hops eligible. brings (queueFor (st .settings) class) (givenFrame class size hops eligible);
         control = λ size. brings Control (controlFrame size);
         client = stages;
         select = select-done st in-range;

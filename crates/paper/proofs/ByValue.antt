@@ -10,6 +10,7 @@ use Rattle.queue.specs.declared.Frame.{Frame}
 use Rattle.queue.specs.Frame.{frameOk, FrameOk}
 use Rattle.queue.proofs.Word.{frame-facts, frame-holds}
 use Rattle.flow.specs.declared.Line.the-variants.{Control}
+use Rattle.flow.specs.Parts.{boundsOf}
 use Rattle.flow.specs.Offer.{queueFor, controlFrame}
 use Rattle.advert.specs.declared.Advert.{Advert}
 use Rattle.advert.specs.Frame.{whole, advertIn}
@@ -31,7 +32,7 @@ lost st n =
     let out : test (stationOk st) ≡ false = denied-by (in-range-facts st) n in
     record {
       tick = λ a b c. tick-lost st a b c out;
-      transit = λ class size hops eligible. offer-lost st (queueFor class) (givenFrame class size hops eligible) out;
+      transit = λ class size hops eligible. offer-lost st (queueFor (st .settings) class) (givenFrame class size hops eligible) out;
       control = λ size. offer-lost st Control (controlFrame size) out;
       client = λ class size hops. client-lost st class size hops out;
       select = select-lost st out;
@@ -42,18 +43,18 @@ lost st n =
 
 pub unfit : {st : Station} → StationOk st → Unfit st
 unfit {st} ok =
-    let mtu = st .settings .mtu in
+    let b = boundsOf (st .settings) in
     let in-range = facts-in-range st ok in
-    let outside : (x : Frame) → (FrameOk mtu x → ⊥) → test (frameOk mtu x) ≡ false = λ x n. failing (frameOk mtu x) (λ h. n (frame-facts mtu x h)) in
-    let inside : (x : Frame) → FrameOk mtu x → test (frameOk mtu x) ≡ true = λ x h. passes (frameOk mtu x) (frame-holds mtu x h) in
+    let outside : (x : Frame) → (FrameOk b x → ⊥) → test (frameOk b x) ≡ false = λ x n. failing (frameOk b x) (λ h. n (frame-facts b x h)) in
+    let inside : (x : Frame) → FrameOk b x → test (frameOk b x) ≡ true = λ x h. passes (frameOk b x) (frame-holds b x h) in
     record {
       tick = λ a b c n. tick-coded st a b c in-range (failing (flagsOk a b c) (λ h. n (flags-exactly a b c .0 h)));
       transit = λ class size hops eligible n.
-          let x = givenFrame class size hops eligible in offer-coded st (queueFor class) x in-range (outside x n);
+          let x = givenFrame class size hops eligible in offer-coded st (queueFor (st .settings) class) x in-range (outside x n);
       control = λ size n. offer-coded st Control (controlFrame size) in-range (outside (controlFrame size) n);
       client = λ class size hops n. client-coded st class size hops in-range (outside (givenFrame class size hops 0) n);
       transit-full = λ class size hops eligible h.
-          let x = givenFrame class size hops eligible in offer-full st (queueFor class) x in-range (inside x h);
+          let x = givenFrame class size hops eligible in offer-full st (queueFor (st .settings) class) x in-range (inside x h);
       control-full = λ size h. offer-full st Control (controlFrame size) in-range (inside (controlFrame size) h);
     }
 

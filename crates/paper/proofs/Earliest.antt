@@ -1,14 +1,14 @@
 -- A record is refused for its earliest fault: the cause that `record` names is the reason that holds, in the header, at an event, or behind the millionth.
 -- Assumes nothing.
-use Prim.Native.Nat.{ℕ, _%_, _<_}
+use Prim.Native.Nat.{ℕ, _+_, _%_, _<_}
 use mathlib.Core.Bool.{not, _&&_}
 use mathlib.Core.List.{List}
 use mathlib.Core.Logic.{_↔_}
 use mathlib.Core.Path.{_≡_, refl, sym, ap, subst, _∙_}
 use native.Mathlib.Omega.{arith}
-use borrow.Author.Tests.{leb-true, le-leb}
+use borrow.Author.Tests.{leb-true, le-leb, lt-leb}
 use lib.Dec.{eqb, leb}
-use lib.ListN.{length}
+use lib.ListN.{length, drop}
 use Rattle.decide.specs.Test.{test}
 use Rattle.decide.specs.Refusal.{Given}
 use Rattle.decide.specs.Size.{sizeOk}
@@ -17,7 +17,14 @@ use Rattle.shaper.specs.Limits.{limitsOk}
 use Rattle.shaper.proofs.Ranges.{limits-exactly}
 use Rattle.summary.specs.declared.Answer.{Answer}
 use Rattle.summary.specs.Answer.{answerNumber}
+use Rattle.record.specs.declared.Header.{Header}
+use Rattle.record.specs.declared.Step.the-variants.{Stands}
+use Rattle.record.specs.Step.{headerOf, stepAt}
 use Rattle.record.specs.Read.{limitsAt, headerFaults, eventFaults}
+use Rattle.record.proofs.Rows.{count-one, event-end, within-stands, within-over, within-end, within-faulty, within-none}
+use Rattle.record.proofs.Steps.{step-stands}
+use Rattle.record.proofs.Refused.{header-refused-exactly, event-refused-exactly}
+use Rattle.reader.proofs.Rows.{next-settings, next-unreadable}
 use Rattle.record.specs.Cause.{Cause, in-header, behind-events, too-many, has-fault}
 use Rattle.account.specs.Account.{summarizeOf}
 use Rattle.account.proofs.Promises.{summarize-refused-exactly}
@@ -27,7 +34,8 @@ use Rattle.rpr.proofs.Promises.{summarize-leaves}
 use Rattle.paper.specs.Reasons as reasons
 use Rattle.paper.specs.Reasons.{headerRefused, eventRefused, RecordRefused}
 use Rattle.paper.specs.First.{RefusesRecord}
-use Rattle.paper.proofs.Reasons.{Meant, none, row, given-for, denies, tests, equal, below, both-exactly, refuses-alone}
+use Rattle.paper.specs.Third.{Finding}
+use Rattle.paper.proofs.Reasons.{Meant, none, row, number-of, given-for, denies, tests, equal, below, both-exactly, refuses-alone}
 
 -- ---- rows
 
@@ -55,6 +63,38 @@ header-given xs n p = given-for (headerFaults xs) (header-meant xs) refl refl n 
 
 pub event-given : (mtu : ℕ) (xs : List ℕ) (n : ℕ) → 0 < n → eventRefused mtu xs n → Given (eventFaults mtu xs) n
 event-given mtu xs n p = given-for (eventFaults mtu xs) (event-meant mtu xs) refl refl n p .1
+
+-- ---- what stands in any bytes
+
+module _ (xs : List ℕ) where
+  header-settings : headerRefused xs 0 → headerOf xs ≡ Header.Settings (limitsAt xs)
+  unfolding headerOf
+  header-settings h = rw (number-of (headerFaults xs) (header-meant xs) refl 0 h)
+
+  module _ (mtu at : ℕ) (some : at < length xs) where
+    event-there : eventRefused mtu (drop at xs) 0 → stepAt mtu xs at ≡ Stands (le 2 (drop at xs) 2) (le 2 (drop at xs) 4) 1 (at + le 2 (drop at xs) 0)
+    unfolding stepAt
+    event-there h = rw (lt-leb (length xs) at some, number-of (eventFaults mtu (drop at xs)) (event-meant mtu (drop at xs)) refl 0 h, count-one (drop at xs))
+
+    event-stands : eventRefused mtu (drop at xs) 0 → stepAt mtu xs at ≡ Stands (le 2 (drop at xs) 2) (le 2 (drop at xs) 4) 1 (at + 6)
+    event-stands h = let here = event-there h in here ∙ ap (Stands (le 2 (drop at xs) 2) (le 2 (drop at xs) 4) 1) (step-stands mtu xs at _ _ _ _ here .six)
+
+  pub finds : Finding xs
+  finds =
+      record {
+        settings = header-settings;
+        unreadable = λ n p h. header-refused-exactly xs n p .1 (header-given xs n p h);
+        end = λ mtu at. event-end mtu xs at;
+        stands = event-stands;
+        faulty = λ mtu at n some p h. event-refused-exactly mtu xs at n some p .1 (event-given mtu (drop at xs) n p h);
+        none-left = λ late mtu at n here. within-none late 0 mtu xs at n here refl;
+        some-left = λ late left mtu at n. within-faulty late left mtu xs at n;
+        all-passed = λ late left mtu at. within-end late left mtu xs at;
+        few = λ late left mtu at. within-stands late left mtu xs at;
+        many = λ late left mtu at. within-over late left mtu xs at;
+        read = λ l p. next-settings xs p l;
+        not-read = λ n p. next-unreadable xs p n;
+      }
 
 -- ---- the cause
 

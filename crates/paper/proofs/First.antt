@@ -16,6 +16,7 @@ use Rattle.settings.specs.Words.{settingsLength, settingsAt}
 use Rattle.settings.proofs.Range as settings
 use Rattle.queue.specs.declared.Frame.{Frame}
 use Rattle.queue.specs.declared.Queue.{Queue}
+use Rattle.queue.specs.declared.Bounds.{Bounds}
 use Rattle.queue.specs.Range.{queueOk, QueueOk}
 use Rattle.queue.proofs.Range.{queue-facts, queue-holds}
 use Rattle.flow.proofs.Range as flow
@@ -37,7 +38,7 @@ use Rattle.advert.specs.Frame.{advertLength, whole, advertIn}
 use Rattle.flow.specs.declared.Line.{Line}
 use Rattle.flow.specs.declared.Line.the-variants.{Control}
 use Rattle.flow.specs.Which.{permitsAll}
-use Rattle.flow.specs.Parts.{queueOf, capacityOf}
+use Rattle.flow.specs.Parts.{queueOf, capacityOf, boundsOf}
 use Rattle.flow.specs.Offer.{queueFor, controlFrame, needsOf, markOf}
 use Rattle.flow.proofs.Held.{staged}
 use Rattle.fair.specs.Range.{ttlOk}
@@ -92,8 +93,8 @@ out : (xs : List ℕ) → (not (test (stationOk (stationAt xs))) ≡ true) ↔ S
 out xs = denies (test (stationOk (stationAt xs))) (range.in-range-facts (stationAt xs), range.facts-in-range (stationAt xs))
 
 -- a frame outside its range
-frame-out : (mtu : ℕ) (x : Frame) → (not (test (frameOk mtu x)) ≡ true) ↔ (FrameOk mtu x → ⊥)
-frame-out mtu x = denies (test (frameOk mtu x)) (tested (frameOk mtu x) (frame-facts mtu x, frame-holds mtu x))
+frame-out : (b : Bounds) (x : Frame) → (not (test (frameOk b x)) ≡ true) ↔ (FrameOk b x → ⊥)
+frame-out b x = denies (test (frameOk b x)) (tested (frameOk b x) (frame-facts b x, frame-holds b x))
 
 flags-out : (a b c : ℕ) → (not (test (flagsOk a b c)) ≡ true) ↔ (YesNo a × YesNo b × YesNo c → ⊥)
 flags-out a b c = denies (test (flagsOk a b c)) (tested (flagsOk a b c) (flags-exactly a b c))
@@ -124,15 +125,15 @@ module _ (xs : List ℕ) where
       let st = stationAt xs in
       lent (offerRows xs l x) (station.offer-leaves xs l x) refl
       (on-station
-      (row (frame-out (st .settings .mtu) x)
+      (row (frame-out (boundsOf (st .settings)) x)
       (row (below (spaceOf (queueOf (st .flow) l) (capacityOf (st .settings) l)) (x .size))
       none)))
 
   transit : (class size hops eligible : ℕ)
-      → RefusesLent (offerRefused xs (queueFor class) (givenFrame class size hops eligible)) (offerTransitAnswer xs class size hops eligible) xs
+      → RefusesLent (offerRefused xs (queueFor (stationAt xs .settings) class) (givenFrame class size hops eligible)) (offerTransitAnswer xs class size hops eligible) xs
       (offerTransitAfter xs class size hops eligible)
   unfolding offerTransitAnswer offerTransitAfter
-  transit class size hops eligible = offer (queueFor class) (givenFrame class size hops eligible)
+  transit class size hops eligible = offer (queueFor (stationAt xs .settings) class) (givenFrame class size hops eligible)
 
   control : (size : ℕ) → RefusesLent (offerRefused xs Control (controlFrame size)) (offerControlAnswer xs size) xs (offerControlAfter xs size)
   unfolding offerControlAnswer offerControlAfter
@@ -145,7 +146,7 @@ module _ (xs : List ℕ) where
       let permits = permitsAll (st .settings) (st .flow .credits) (needsOf way) in
       lent (offerClientRows xs class size hops) (station.offer-client-leaves xs class size hops) refl
       (on-station
-      (row (frame-out (st .settings .mtu) (givenFrame class size hops 0))
+      (row (frame-out (boundsOf (st .settings)) (givenFrame class size hops 0))
       (row (staged (st .flow))
       (row (denies permits (λ e. e, λ e. e))
       (row (both-exactly (eqb (markOf way) 1) (overFor st size hops) (equal (markOf way) 1) (over-exactly (st .fair) size hops))
@@ -183,8 +184,8 @@ module _ (xs : List ℕ) where
         (row (long stationLength xs) (row (long readingLength room) (row (out xs) none)))
 
 -- how much room a queue in range has
-spaces : (mtu capacity : ℕ) (q : Queue) → QueueOk mtu capacity q → Spaces capacity q
-spaces mtu capacity q ok =
+spaces : (b : Bounds) (capacity : ℕ) (q : Queue) → QueueOk b capacity q → Spaces capacity q
+spaces b capacity q ok =
     let frames = count-frames ok in
     record {
       full = λ e. space-full q capacity (omega arith);
@@ -252,12 +253,13 @@ ranges-tested =
       limits = limits-exactly;
       summary = in-range-exactly;
       settings = λ s. (settings.in-range-facts s, settings.facts-in-range s);
-      frame = λ mtu x. tested (frameOk mtu x) (frame-facts mtu x, frame-holds mtu x);
-      no-frame = λ mtu. tt;
-      a-frame = λ mtu x xs. (λ h. h, λ h. h);
+      site = λ x. tt;
+      frame = λ b x. tested (frameOk b x) (frame-facts b x, frame-holds b x);
+      no-frame = λ b. tt;
+      a-frame = λ b x xs. (λ h. h, λ h. h);
       age-coef = λ x. (λ h. h, λ h. h);
       coef = λ x. (λ h. h, λ h. h);
-      queue = λ mtu capacity q. tested (queueOk mtu capacity q) (queue-facts mtu capacity q, queue-holds mtu capacity q);
+      queue = λ b capacity q. tested (queueOk b capacity q) (queue-facts b capacity q, queue-holds b capacity q);
       flow = λ s f. (flow.in-range-facts s f, flow.facts-in-range s f);
       fair = λ s f. (fair.in-range-facts s f, fair.facts-in-range s f);
       station = λ st. (range.in-range-facts st, range.facts-in-range st);

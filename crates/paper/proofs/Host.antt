@@ -87,7 +87,7 @@ module _ (xs : List ℕ) (k : Keeps xs (stationAt xs)) where
   unfolding offerTransitAnswer
   transit class size hops eligible =
       let x = givenFrame class size hops eligible in
-      let l = queueFor class in
+      let l = queueFor (stationAt xs .settings) class in
       plainly (offerFaults st l x) refl (laws.offer-leaves xs l x .0) refl (call-exactly (history.offerTransit class size hops eligible) st) (call-keeps k (offerTransit class size hops eligible) _ refl)
 
   control : (size : ℕ)

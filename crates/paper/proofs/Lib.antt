@@ -4,6 +4,7 @@ pub mod ByValue
 pub mod Earliest
 pub mod First
 pub mod Names
+pub mod LentNames
 pub mod Rules
 pub mod Acts
 pub mod Host

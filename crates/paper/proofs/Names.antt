@@ -9,17 +9,19 @@ use native.Mathlib.Omega.{arith}
 use borrow.Author.Tests.{eq-eqb, ne-eqb, ltb-true, lt-ltb}
 use Rattle.wire.specs.Wire.{le, be, digits, put}
 use Rattle.slots.specs.Slots.{wordsAt}
-use Rattle.queue.specs.Queue.{sizes}
+use Rattle.queue.specs.Queue.{framesFrom, framesOf, firstFrame, taken, sizes}
+use Rattle.queue.proofs.Laws.{space-left, space-full}
 use Rattle.flow.specs.declared.Which.{Which}
 use Rattle.flow.specs.declared.Which.the-variants.{M, A, B, C, D}
 use Rattle.flow.specs.Which.{numberOf, member}
 use Rattle.flow.proofs.Held.{head-first}
-use Rattle.rates.specs.Rates.{partOf, smoothedOf, agedOf, rampedOf, allowanceOf, ownRateOf, shareOf}
+use Rattle.rates.proofs.Formulas.{smoothed-is, aged-is, ramped-is, allowance-is, own-is, share-is}
 use Rattle.answer.specs.Bytes.{bitOf}
 use Rattle.ring.specs.declared.Way.the-variants.{Left}
 use Rattle.ring.specs.Links.{nextOf}
 use Rattle.station.specs.declared.Station.{Station}
-use Rattle.paper.specs.Names.{ShaperNames, QueueNames, RateNames, PartNames, EntryNames, HistoryNames, RingNames, ByteNames, Names}
+use Rattle.station.specs.Show.{heldOn}
+use Rattle.paper.specs.Names.{ShaperNames, QueueNames, GoingNames, ReadingNames, RateNames, PartNames, EntryNames, HistoryNames, RingNames, ByteNames, Names}
 
 -- ---- shapers
 
@@ -74,12 +76,18 @@ shapers =
     }
 
 lines : QueueNames
-unfolding sizes
+unfolding sizes framesFrom framesOf
 lines =
     record {
       queues = λ f. (refl, refl, refl);
       capacities = λ s. (refl, refl, refl);
       sums = (refl, λ x xs. refl);
+      frames = λ q. refl;
+      frames-none = λ slots head. refl;
+      frames-more = λ slots head n. refl;
+      slot = λ w. refl;
+      no-frame = refl;
+      bounds = λ s. refl;
       first = head-first;
       holding = λ q. (λ h. h, λ h. h);
       in-stage = λ f. (λ h. h, λ h. h);
@@ -90,16 +98,38 @@ lines =
       staged = λ way class size hops. refl;
     }
 
+going : GoingNames
+unfolding firstFrame taken
+going =
+    record {
+      space = space-left;
+      full = space-full;
+      first-slot = λ q. refl;
+      without-first = λ q. refl;
+      leaves-queue = λ f l. refl;
+      charged = λ s f l w. refl;
+      stage = λ f. refl;
+      control = λ f q. refl;
+      primary = λ f q. refl;
+      secondary = λ f q. refl;
+      as-a = λ mark. refl;
+      as-b = λ class n. rw (ne-eqb class 0 n);
+      as-excess = λ class mark n m. rw (ne-eqb class 0 n, ne-eqb mark 0 m);
+    }
+
+readings : ReadingNames
+unfolding heldOn
+readings = record { queue = λ q. refl; no-stage = refl; stage = λ w n. rw (ne-eqb w 0 n); reading = λ st. refl; blank = refl }
+
 rates : RateNames
-unfolding partOf smoothedOf agedOf rampedOf allowanceOf ownRateOf shareOf
 rates =
     record {
-      smoothed = λ coef lp rate. refl;
-      aged = λ rate coef. refl;
-      ramped = λ allowed unreserved coef. refl;
-      allowance = λ received weight unit unreserved. refl;
-      own = λ rate weight unit. refl;
-      share = λ allowed coef ticks. refl;
+      smoothed = smoothed-is;
+      aged = aged-is;
+      ramped = ramped-is;
+      allowance = allowance-is;
+      own = own-is;
+      share = share-is;
     }
 
 anew : (st : Station) → PartNames st
@@ -186,4 +216,4 @@ numbers =
     }
 
 pub names : Names
-names = record { shapers = shapers; lines = lines; rates = rates; anew = anew; entries = entries; histories = histories; sides = sides; numbers = numbers }
+names = record { shapers = shapers; lines = lines; going = going; readings = readings; rates = rates; anew = anew; entries = entries; histories = histories; sides = sides; numbers = numbers }

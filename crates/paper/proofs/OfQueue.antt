@@ -7,7 +7,7 @@ pub functions : Functions
 functions =
     record {
       hops-ok = λ hops. by-equation;
-      frame-in-range = λ self mtu. by-equation;
+      frame-in-range = λ self bounds. by-equation;
       frame-word = λ self. by-equation;
       frame-of = λ w. by-equation;
       front-first = λ self. by-equation;
@@ -19,5 +19,5 @@ functions =
       queue-take = λ self. by-equation;
       queue-space = λ self capacity. by-equation;
       queue-holds-frame = λ self. by-equation;
-      queue-in-range = λ self mtu capacity. by-equation;
+      queue-in-range = λ self bounds capacity. by-equation;
     }

@@ -6,5 +6,5 @@ use Rattle.paper.proofs.Determined.{by-equation}
 pub functions : Functions
 functions =
     record {
-      read-at = λ bytes at. by-equation;
+      read-at = λ bytes place. by-equation;
     }

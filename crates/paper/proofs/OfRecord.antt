@@ -8,4 +8,6 @@ functions =
     record {
       header-of = λ s. by-equation;
       event-at = λ s at mtu. by-equation;
+      event-within = λ s at mtu left late. by-equation;
+      may-come = λ done. by-equation;
     }

@@ -7,8 +7,6 @@ pub functions : Functions
 functions =
     record {
       settings-in-range = λ self. by-equation;
-      settings-read = λ s at. by-equation;
-      settings-write = λ self s at. by-equation;
       address-number = λ self. by-equation;
       bucket-in-range = λ self mtu. by-equation;
       bucket-limits = λ self mtu. by-equation;
@@ -16,4 +14,6 @@ functions =
       queues-in-range = λ self mtu. by-equation;
       fairness-usual = λ weight unit ticks unreserved. by-equation;
       fairness-in-range = λ self. by-equation;
+      settings-read = λ s at. by-equation;
+      settings-write = λ self s at. by-equation;
     }

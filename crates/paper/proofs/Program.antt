@@ -14,7 +14,7 @@ use Rattle.wire.specs.Wire.{le}
 use Rattle.shaper.specs.Kind.{eventOf}
 use Rattle.summary.specs.declared.Answer.{Answer}
 use Rattle.summary.specs.Summary.{summaryOf, joined, ceilingOf, needℤ}
-use Rattle.record.specs.Read.{readFrom, readRecord}
+use Rattle.record.specs.Read.{countAt, readFrom, readRecord}
 use Rattle.account.specs.Account.{summarizeOf}
 use Rattle.feed.specs.Feed.{fedOf, fedChunks}
 use Rattle.feed.proofs.Promises.{fed-whole}
@@ -81,7 +81,7 @@ printed =
 
 -- the paper's record as hex text comes to its summary
 example-text : textOf (ascii "0e00 1000 4000 64000000 2c010000 060001009600 060003003c00 060003004000 060002003200") ≡ Answer.Summed example
-unfolding textOf glyphOf summarizeOf readRecord readFrom eventOf first firstOf test le summaryOf joined ceilingOf needℤ
+unfolding textOf glyphOf summarizeOf readRecord readFrom countAt eventOf first firstOf test le summaryOf joined ceilingOf needℤ
 example-text = refl
 
 fed : FedBytes

@@ -9,7 +9,7 @@ use native.Mathlib.Omega.{arith}
 use borrow.Author.Tests.{eqb-true, eq-eqb, ltb-true, lt-ltb, not-true}
 use lib.Dec.{eqb, ltb}
 use Rattle.decide.specs.Test.{Test, test, Holds, facts, passes, both, and-i, split, _≤?_}
-use Rattle.decide.specs.Refusal.{Fault, Given, ranked, inOrder, chained}
+use Rattle.decide.specs.Refusal.{Fault, Given, ranked, inOrder, chained, firstOf}
 use Rattle.decide.proofs.Cases.{by-cases, true-or-false}
 use Rattle.decide.proofs.Refusal.{in-order, first-exact}
 use Rattle.wire.specs.Wire.{digits}
@@ -99,12 +99,16 @@ pub sole : {fs : List Fault} {given : ℕ → Type 0} → Meant fs given → Sol
 sole none = λ m n e f. e ∙ sym f
 sole (row exactly rest) = sole-when (sole rest)
 
+-- the number of rows is the one that is given
+pub number-of : {given : ℕ → Type 0} (fs : List Fault) → Meant fs given → inOrder fs ≡ true → (n : ℕ) → given n → firstOf fs ≡ n
+number-of fs meant o n h = in-order fs o ∙ sole meant _ _ (tried meant) h
+
 -- rows give a number exactly for their reasons
 pub given-for : {given : ℕ → Type 0} (fs : List Fault) → Meant fs given → ranked fs ≡ true → inOrder fs ≡ true → (n : ℕ) → 0 < n → Given fs n ↔ given n
 given-for {given} fs meant r o n p =
     let exact = first-exact fs r n p in (
       λ g. subst given (sym (in-order fs o) ∙ exact .is-given g) (tried meant),
-      λ h. exact .has-cause (in-order fs o ∙ sole meant _ _ (tried meant) h),
+      λ h. exact .has-cause (number-of fs meant o n h),
     )
 
 -- ---- the bytes of an answer

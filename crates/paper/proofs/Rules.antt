@@ -77,17 +77,17 @@ enters =
       marks = (refl, refl, refl);
     }
 
-pub counts : (f : Fair) (hops size : ℕ) → Counts f hops size
+pub counts : (s : Settings) (f : Fair) (hops size : ℕ) → Counts s f hops size
 unfolding countedOf
-counts f hops size =
+counts s f hops size =
     record {
       twin = count.beyond-exactly f hops;
-      stage-twin = count.stage-beyond f hops size;
-      stage = count.stage-within f hops size;
-      secondary-twin = count.secondary-beyond f hops size;
-      secondary = count.secondary-within f hops size;
-      not-eligible = count.unmarked f hops size;
-      elsewhere = count.other-origin f hops size;
+      stage-twin = count.stage-beyond f s hops size;
+      stage = count.stage-within f s hops size;
+      secondary-twin = count.secondary-beyond f s hops size;
+      secondary = count.secondary-within f s hops size;
+      not-eligible = count.unmarked f s hops size;
+      elsewhere = count.other-origin f s hops size;
       stop = λ counter. refl;
     }
 
@@ -104,7 +104,12 @@ tells f s =
     }
 
 pub hears : (f : Fair) (a : Advert) → Hears f a
-hears f a = record { clears = heard.heard-clears f a; sets = heard.heard-sets f a; keeps = λ downstream ttl high low rate. refl }
+hears f a =
+    record {
+      clears = heard.heard-clears f a;
+      sets = heard.heard-sets f a;
+      keeps = λ r. refl;
+    }
 
 pub reads : (xs : List ℕ) → Reads xs
 unfolding parsedOf

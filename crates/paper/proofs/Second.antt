@@ -36,9 +36,12 @@ use Rattle.paper.specs.Second.{Ready, Selects, Ages, Joins, Reaches, Wra
 use Rattle.paper.proofs.Rules.{ticks, charges, enters, counts, tells, reads, writes, hears}
 use Rattle.station.proofs.Interval.{holds-till-interval}
 use Rattle.queue.proofs.Word.{word-frame, frame-fits, word-not-empty}
-use Rattle.paper.proofs.Reasons.{flags-exactly}
+use Rattle.paper.proofs.Reasons.{tests, flags-exactly}
+use Rattle.queue.specs.Frame.{BoundsOk}
+use Rattle.station.proofs.Kept.{range-kept}
 use Rattle.paper.proofs.Names.{names}
-use Rattle.paper.proofs.Acts.{starts, acts, traces, reads-off}
+use Rattle.paper.proofs.LentNames.{lent-names}
+use Rattle.paper.proofs.Acts.{some-start, starts, acts, traces, reads-off}
 use Rattle.paper.proofs.ByValue.{lost, unfit, listens}
 use Rattle.paper.proofs.Host.{lays, hosts, begins, settings-words, choice-told, choice-refused, path-told, path-refused}
 
@@ -53,6 +56,7 @@ is-ready s f =
       no-control = λ e h. true≢false (sym (passes (controlReady s f) h) ∙ ready.control-none s f e);
       primary = held (primaryReady f) (ready.primary-ready-exactly s f);
       needy-secondary = held (needy s f) (ready.needy-exactly s f);
+      needy-tested = tests (needy s f);
       stage = held (stageReady f) (ready.stage-ready-exactly s f);
       secondary = held (secondaryReady s f) (ready.secondary-ready-exactly s f);
     }
@@ -68,7 +72,7 @@ selects s f =
       secondary = select.secondary-goes s f;
       nothing = λ c p n g d. select.nothing-exactly s f .whenever (c, (p, (n, (g, d))));
       origins = (refl, refl, refl, refl, refl);
-      unchanged = refl;
+      no-frame = refl;
       m-charged = refl;
       d-charged = refl;
       uncharged = (refl, refl, refl);
@@ -160,6 +164,7 @@ pub second-condition : Condition2
 second-condition =
     record {
       names = names;
+      lent-names = lent-names;
       credits = credit-of-told;
       range = kept-lent;
       started = begins;
@@ -172,15 +177,17 @@ second-condition =
       path-told = path-told;
       events = traces;
       reads-off = reads-off;
+      some-start = some-start;
       starts = starts;
       calls = λ st ok. acts ok;
+      kept = λ st ok c. range-kept ok c;
       lost = lost;
       unfit = λ st. unfit;
       listening = listens;
       ticks = λ st ok a b c flags. ticks st ok a b c (flags-exactly a b c .1 flags);
       charges = charges;
       entry = enters;
-      words = λ mtu x most ok. (word-frame x (frame-fits most ok), λ e. let some = word-not-empty most ok in omega arith);
+      words = λ b x most ok. let held : BoundsOk b = record { mtu-most = most } in (word-frame x (frame-fits held ok), λ e. let some = word-not-empty held ok in omega arith);
       selection = selects;
       counting = counts;
       rates = ages;

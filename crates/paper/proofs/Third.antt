@@ -47,7 +47,7 @@ use Rattle.reader.proofs.Rows.{moved-on, moved-end, moved-faulty}
 use Rattle.reader.proofs.Walk.{walk-reads, walk-written}
 use Rattle.decide.proofs.Cases.{by-cases}
 use Rattle.paper.specs.Reasons.{RecordRefused}
-use Rattle.paper.proofs.Earliest.{header-given, event-given, record-faults}
+use Rattle.paper.proofs.Earliest.{header-given, event-given, finds, record-faults}
 use Rattle.paper.proofs.Program.{program}
 use Rattle.paper.proofs.Summaries.{summary-rules}
 use Rattle.paper.specs.Third.{SummarySays, Account, LentAccount, LentPieces, Walking, Condition3, Night, NightAccounted, NightAccountedLent}
@@ -104,7 +104,7 @@ walking =
       stays = λ r here. by-cases here (moved-end r) (λ h. moved-faulty r (h .0) (h .1));
       told-there = λ r l es e rest w v few here at. rw (here, at) (found-event l es w e rest v few);
       at-end = λ r l es w here at. rw (here, at) (found-end l es w);
-      at-header = λ r n p g. next-refused-exactly (now (r .bytes)) (r .at) n p .1 (in-header (header-given (now (r .bytes)) n p g));
+      at-header = λ r n p g. next-refused-exactly (now (r .bytes)) (r .place) n p .1 (in-header (header-given (now (r .bytes)) n p g));
       at-event = λ r l es rest n w few some here at p g.
           rw (here, at) (found-faulty l es w rest n few (event-refused-exactly (l .mtu) rest 0 n some p .1 (event-given (l .mtu) rest n p g)));
       at-million = λ r l es rest w full some here at. rw (here, at) (found-over l es w rest full some);
@@ -113,10 +113,12 @@ walking =
       counted = λ x. (refl, refl, refl);
       no-turn = λ r. refl;
       a-turn = λ n r. refl;
-      waiting = λ number count next es. refl;
-      idle = λ number count next es. refl;
-      send = λ number count next es. refl;
-      behind = λ kind number count next m. refl;
+      waiting = λ number next es. refl;
+      idle = λ number next es. refl;
+      send = λ number next es. refl;
+      none = λ kind number next rest. refl;
+      again = λ kind number count next rest. refl;
+      behind = λ kind number next m. refl;
       end = λ rest. refl;
       fault = λ m rest. refl;
     }
@@ -147,6 +149,7 @@ third-condition =
       walks = walk-written;
       walks-faults = walks-faults;
       walking = walking;
+      finding = finds;
       lent = lent-account;
       lent-pieces = lent-pieces;
     }

@@ -1,5 +1,5 @@
--- How a station starts, what each call makes of a station in range where it is carried out (which rule is applied to which of its parts), and what each call is
--- to a shaper's record, for the second condition. Assumes nothing.
+-- How a station starts, what each call but hearing (`Listens`) makes of a station in range (which rule is applied to which of its parts), for a client's frame
+-- also where it gets 5, 6 or 7, and what each call is to a shaper's record, for the second condition. Assumes nothing.
 use Prim.Native.Nat.{ℕ, _+_, _*_, _-_, _/_, _%_, _≤_, _<_, min}
 use mathlib.Core.Bool.{true, false}
 use mathlib.Core.List.{List, [], _∷_, _++_}
@@ -9,6 +9,7 @@ use lib.Dec.{eqb}
 use lib.ListN.{replicate}
 use Rattle.decide.specs.Test.{test}
 use Rattle.shaper.specs.Credit as shaper
+use Rattle.settings.specs.declared.Bucket.{Bucket}
 use Rattle.settings.specs.declared.Settings.{Settings}
 use Rattle.settings.specs.Range.{SettingsOk}
 use Rattle.queue.specs.declared.Frame.{Frame}
@@ -21,7 +22,7 @@ use Rattle.flow.specs.declared.Way.{Way}
 use Rattle.flow.specs.declared.Which.{Which}
 use Rattle.flow.specs.declared.Which.the-variants.{M, D}
 use Rattle.flow.specs.Which.{bucketOf, creditOf, permitsAll, sends, fed}
-use Rattle.flow.specs.Parts.{queueOf, capacityOf, withCredits, withStage}
+use Rattle.flow.specs.Parts.{queueOf, capacityOf, boundsOf, withCredits, withStage}
 use Rattle.flow.specs.Tick.{waits}
 use Rattle.flow.specs.Offer.{queueFor, wayOf, needsOf, markOf, clientFrame}
 use Rattle.flow.specs.Events.{wayBack}
@@ -46,12 +47,25 @@ use Rattle.station.specs.History.{Call, Answer, trace}
 
 -- ---- start
 
+-- Settings at their least.
+abbrev pub least : Settings
+least =
+    let b : Bucket = record { lo = 64; hi = 65; amount = 0 } in
+    record {
+      address = record { high = 0; low = 0 };
+      ringlet = 0;
+      mtu = 64;
+      shapers = record { m = b; a = b; b = b; c = b; d = b };
+      queues = record { control = 64; primary = 64; secondary = 128; threshold = 0 };
+      fairness = record { weight = 1; unit = 1; ticks = 1; unreserved = 1; age = 1; lp = 16; ramp = 16 };
+      site = record {};
+    }
+
 pub record Starts (s : Settings) : Type 0 where
   -- Credit starts at loLimit.
   pub credits : (w : Which) → creditOf (freshOf s .flow .credits) w ≡ bucketOf s w .lo
   -- Each queue has 128 slots, all empty at the start, and so is the stage.
-  pub slots : (l : Line) → queueOf (freshOf s .flow) l .slots ≡ replicate 128 0
-  pub queues : (l : Line) → framesOf (queueOf (freshOf s .flow) l) ≡ []
+  pub queues : (l : Line) → queueOf (freshOf s .flow) l ≡ record { slots = replicate 128 0; head = 0; count = 0; held = 0 }
   pub stage : freshOf s .flow .stage ≡ 0
   -- Counters and smoothed rates start at 0, own rate by its formula, other rates at unreservedRate, with no congestion, received ttl 255, received address
   -- and rate 0.
@@ -59,16 +73,14 @@ pub record Starts (s : Settings) : Type 0 where
       ≡ record {
         counters = record { add = 0; fw = 0; addc = 0; fwc = 0 };
         smoothed = record { add = 0; fw = 0; addc = 0; fwc = 0 };
-        local = s .fairness .unreserved;
-        allowed = s .fairness .unreserved;
-        allowedc = s .fairness .unreserved;
-        own = min (s .fairness .unreserved / (s .fairness .weight * s .fairness .unit)) 65534;
-        congested = 0;
-        downstream = 0;
-        ttl = 255;
-        high = 0;
-        low = 0;
-        rate = 0;
+        decided = record {
+          local = s .fairness .unreserved;
+          allowed = s .fairness .unreserved;
+          allowedc = s .fairness .unreserved;
+          own = min (s .fairness .unreserved / (s .fairness .weight * s .fairness .unit)) 65534;
+          congested = 0;
+        };
+        received = record { downstream = 0; ttl = 255; high = 0; low = 0; rate = 0 };
       }
   pub settings : freshOf s .settings ≡ s
   -- It is so whatever the station was.
@@ -91,7 +103,7 @@ Permits st way = permitsAll (st .settings) (st .flow .credits) (needsOf way) ≡
 
 -- downstream congested, hops > hopsToCongestion = 256 − ttl, and addRateCongested + size > allowedRateCongested
 abbrev pub Passes : Fair → ℕ → ℕ → Type 0
-Passes f size hops = ((f .downstream ≡ 1) × (256 - f .ttl < hops)) × (f .allowedc < f .counters .addc + size)
+Passes f size hops = ((f .received .downstream ≡ 1) × (256 - f .received .ttl < hops)) × (f .decided .allowedc < f .counters .addc + size)
 
 -- A client's frame in range, where it goes in this way. A client gives no mark.
 pub record Stages (st : Station) (class size hops : ℕ) (way : Way) : Type 0 where
@@ -124,15 +136,15 @@ pub record Acts (st : Station) : Type 0 where
   -- Transit A goes to the primary queue, B and C to the secondary.
   pub transit : (class size hops eligible : ℕ)
       → let x : Frame = record { size = size; hops = hops; class = class; mark = eligible } in
-      FrameOk (st .settings .mtu) x → size ≤ spaceOf (queueOf (st .flow) (queueFor class)) (capacityOf (st .settings) (queueFor class))
-      → Brings st (queueFor class) x (offerTransitOf st class size hops eligible)
+      FrameOk (boundsOf (st .settings)) x → size ≤ spaceOf (queueOf (st .flow) (queueFor (st .settings) class)) (capacityOf (st .settings) (queueFor (st .settings) class))
+      → Brings st (queueFor (st .settings) class) x (offerTransitOf st class size hops eligible)
   -- Control frames, given by size alone (class A, 1 hop), go to the control queue.
   pub control : (size : ℕ)
       → let x : Frame = record { size = size; hops = 1; class = 0; mark = 0 } in
-      FrameOk (st .settings .mtu) x → size ≤ spaceOf (st .flow .control) (st .settings .queues .control)
+      FrameOk (boundsOf (st .settings)) x → size ≤ spaceOf (st .flow .control) (st .settings .queues .control)
       → Brings st Control x (offerControlOf st size)
   -- A client's frame goes in by the credits of the station.
-  pub client : (class size hops : ℕ) → FrameOk (st .settings .mtu) (record { size = size; hops = hops; class = class; mark = 0 })
+  pub client : (class size hops : ℕ) → FrameOk (boundsOf (st .settings)) (record { size = size; hops = hops; class = class; mark = 0 })
       → Stages st class size hops (wayOf (st .settings) (st .flow .credits) class)
   -- The selected frame is counted by where it came from, its mark, hops and size.
   pub select :
@@ -145,7 +157,7 @@ pub record Acts (st : Station) : Type 0 where
         station = record {
           settings = st .settings;
           flow = r .flow;
-          fair = countOf (st .fair) (r .origin) (r .frame .mark) (r .frame .hops) (r .frame .size);
+          fair = countOf (st .settings) (st .fair) (r .origin) (r .frame .mark) (r .frame .hops) (r .frame .size);
         };
       }
   -- An aging interval looks at the bytes of the secondary queue.

@@ -1,4 +1,5 @@
--- Document 01: "show that two answers meeting it are equal", of every public function of every library crate.
+-- Document 01: "show that two answers meeting it are equal", of every public function of every library crate,
+-- but for the exceptions that docs/PROMISES.md names.
 -- Assumes nothing.
 use Rattle.paper.specs.OfDecide as OfDecide
 use Rattle.paper.specs.OfWire as OfWire

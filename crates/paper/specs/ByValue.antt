@@ -1,4 +1,5 @@
--- What each call by value answers where it is refused: the number, and the station as it was. Assumes nothing.
+-- What calls by value on a station answer where they are refused: the number, and the station as it was; and what hearing a frame leaves. A start that is refused
+-- stands in `Starts`, a client frame's 5, 6 and 7 in `Stages`. Assumes nothing.
 use Prim.Native.Nat.{ℕ, _/_, _%_, _≤_, _<_}
 use mathlib.Core.List.{List}
 use mathlib.Core.Path.{_≡_}
@@ -7,7 +8,7 @@ use Rattle.queue.specs.Frame.{FrameOk, frameOf}
 use Rattle.queue.specs.Queue.{spaceOf}
 use Rattle.advert.specs.Frame.{advertIn}
 use Rattle.flow.specs.Offer.{queueFor}
-use Rattle.flow.specs.Parts.{queueOf, capacityOf}
+use Rattle.flow.specs.Parts.{queueOf, capacityOf, boundsOf}
 use Rattle.fair.specs.Advertise.{heardOf}
 use Rattle.station.specs.declared.Station.{Station}
 use Rattle.station.specs.Range.{StationOk}
@@ -34,16 +35,16 @@ pub record Lost (st : Station) : Type 0 where
 pub record Unfit (st : Station) : Type 0 where
   -- 3: a frame (class, hops, size, mark) or coded choice is outside its range.
   pub tick : (a b c : ℕ) → (YesNo a × YesNo b × YesNo c → ⊥) → tickOf st a b c ≡ refusedOf st 3
-  pub transit : (class size hops eligible : ℕ) → (FrameOk (st .settings .mtu) (record { size = size; hops = hops; class = class; mark = eligible }) → ⊥)
+  pub transit : (class size hops eligible : ℕ) → (FrameOk (boundsOf (st .settings)) (record { size = size; hops = hops; class = class; mark = eligible }) → ⊥)
       → offerTransitOf st class size hops eligible ≡ refusedOf st 3
-  pub control : (size : ℕ) → (FrameOk (st .settings .mtu) (record { size = size; hops = 1; class = 0; mark = 0 }) → ⊥) → offerControlOf st size ≡ refusedOf st 3
-  pub client : (class size hops : ℕ) → (FrameOk (st .settings .mtu) (record { size = size; hops = hops; class = class; mark = 0 }) → ⊥)
+  pub control : (size : ℕ) → (FrameOk (boundsOf (st .settings)) (record { size = size; hops = 1; class = 0; mark = 0 }) → ⊥) → offerControlOf st size ≡ refusedOf st 3
+  pub client : (class size hops : ℕ) → (FrameOk (boundsOf (st .settings)) (record { size = size; hops = hops; class = class; mark = 0 }) → ⊥)
       → offerClientOf st class size hops ≡ turnedOf st 3
   -- 4: a frame's size exceeds the queue's space.
-  pub transit-full : (class size hops eligible : ℕ) → FrameOk (st .settings .mtu) (record { size = size; hops = hops; class = class; mark = eligible })
-      → spaceOf (queueOf (st .flow) (queueFor class)) (capacityOf (st .settings) (queueFor class)) < size
+  pub transit-full : (class size hops eligible : ℕ) → FrameOk (boundsOf (st .settings)) (record { size = size; hops = hops; class = class; mark = eligible })
+      → spaceOf (queueOf (st .flow) (queueFor (st .settings) class)) (capacityOf (st .settings) (queueFor (st .settings) class)) < size
       → offerTransitOf st class size hops eligible ≡ refusedOf st 4
-  pub control-full : (size : ℕ) → FrameOk (st .settings .mtu) (record { size = size; hops = 1; class = 0; mark = 0 })
+  pub control-full : (size : ℕ) → FrameOk (boundsOf (st .settings)) (record { size = size; hops = 1; class = 0; mark = 0 })
       → spaceOf (st .flow .control) (st .settings .queues .control) < size → offerControlOf st size ≡ refusedOf st 4
 
 -- A fairness frame that a station hears. Its shape and its ringlet bit, held to the station's own, come before the station's range.

@@ -20,17 +20,19 @@ use Rattle.shaper.specs.Limits.{mostEvents, mostAmount, mostSize, limitsOk, Lim
 use Rattle.summary.specs.declared.Summary.{Summary}
 use Rattle.summary.specs.Range.{inRange, InRange}
 use Rattle.settings.specs.declared.Settings.{Settings}
-use Rattle.settings.specs.Range.{settingsOk, AgeCoef, Coef, SettingsOk}
+use Rattle.settings.specs.declared.Site.{Site}
+use Rattle.settings.specs.Range.{settingsOk, AgeCoef, Coef, SiteOk, SettingsOk}
 use Rattle.flow.specs.declared.Flow.{Flow}
 use Rattle.flow.specs.Range.{flowOk, FlowOk}
 use Rattle.fair.specs.declared.Fair.{Fair}
 use Rattle.fair.specs.Range.{fairOk, FairOk}
 use Rattle.station.specs.declared.Station.{Station}
 use Rattle.station.specs.Range.{stationOk, StationOk}
-use Rattle.layout.specs.Layout.{stationLength}
+use Rattle.layout.specs.Layout.{stationLength, stationAt}
 use Rattle.settings.specs.Words.{settingsLength}
 use Rattle.queue.specs.declared.Queue.{Queue}
 use Rattle.queue.specs.declared.Frame.{Frame}
+use Rattle.queue.specs.declared.Bounds.{Bounds}
 use Rattle.queue.specs.Frame.{hopsOk, frameOk, FrameOk}
 use Rattle.queue.specs.Range.{AllOk, queueOk, QueueOk}
 use Rattle.advert.specs.Frame.{advertLength}
@@ -63,19 +65,20 @@ pub record RefusesRecord (bytes room : List ℕ) : Type 0 where
   pub alone : 0 < summarizeAnswer bytes room % 256 → digits 8 (summarizeAnswer bytes room) ≡ summarizeAnswer bytes room % 256 ∷ 0 ∷ 0 ∷ 0 ∷ 0 ∷ 0 ∷ 0 ∷ 0 ∷ []
   pub stays : 0 < summarizeAnswer bytes room % 256 → summarizeAfter bytes room ≡ room
 
--- each public test of a range, and the range
+-- the tests of ranges that refusals rest on, and the ranges
 pub record Tested : Type 0 where
   pub limits : (l : Limits) → (test (limitsOk l) ≡ true) ↔ LimitsOk l
   pub summary : (s : Summary) → (inRange s ≡ true) ↔ InRange s
   pub settings : (s : Settings) → (test (settingsOk s) ≡ true) ↔ SettingsOk s
-  pub frame : (mtu : ℕ) (x : Frame) → (test (frameOk mtu x) ≡ true) ↔ FrameOk mtu x
+  pub site : (x : Site) → SiteOk x
+  pub frame : (b : Bounds) (x : Frame) → (test (frameOk b x) ≡ true) ↔ FrameOk b x
   -- the frames of a queue, each in range
-  pub no-frame : (mtu : ℕ) → AllOk mtu []
-  pub a-frame : (mtu : ℕ) (x : Frame) (xs : List Frame) → AllOk mtu (x ∷ xs) ↔ (FrameOk mtu x × AllOk mtu xs)
+  pub no-frame : (b : Bounds) → AllOk b []
+  pub a-frame : (b : Bounds) (x : Frame) (xs : List Frame) → AllOk b (x ∷ xs) ↔ (FrameOk b x × AllOk b xs)
   -- ageCoef 1, 2, 4, 8 or 16; lpCoef and rampUp 16, 32, 64, 128, 256 or 512
   pub age-coef : (x : ℕ) → AgeCoef x ↔ ((x ≡ 1) ⊎ ((x ≡ 2) ⊎ ((x ≡ 4) ⊎ ((x ≡ 8) ⊎ (x ≡ 16)))))
   pub coef : (x : ℕ) → Coef x ↔ ((x ≡ 16) ⊎ ((x ≡ 32) ⊎ ((x ≡ 64) ⊎ ((x ≡ 128) ⊎ ((x ≡ 256) ⊎ (x ≡ 512))))))
-  pub queue : (mtu capacity : ℕ) (q : Queue) → (test (queueOk mtu capacity q) ≡ true) ↔ QueueOk mtu capacity q
+  pub queue : (b : Bounds) (capacity : ℕ) (q : Queue) → (test (queueOk b capacity q) ≡ true) ↔ QueueOk b capacity q
   pub flow : (s : Settings) (f : Flow) → (test (flowOk s f) ≡ true) ↔ FlowOk s f
   pub fair : (s : Settings) (f : Fair) → (test (fairOk s f) ≡ true) ↔ FairOk s f
   pub station : (st : Station) → (test (stationOk st) ≡ true) ↔ StationOk st
@@ -95,12 +98,12 @@ pub record Condition1 : Type 0 where
   pub offer-client : (station : List ℕ) (class size hops : ℕ)
       → RefusesLent (clientRefused station class size hops) (offerClientAnswer station class size hops) station (offerClientAfter station class size hops)
   pub offer-transit : (station : List ℕ) (class size hops eligible : ℕ)
-      → RefusesLent (offerRefused station (queueFor class) (record { size = size; hops = hops; class = class; mark = eligible })) (offerTransitAnswer station class size hops eligible)
+      → RefusesLent (offerRefused station (queueFor (stationAt station .settings) class) (record { size = size; hops = hops; class = class; mark = eligible })) (offerTransitAnswer station class size hops eligible)
       station (offerTransitAfter station class size hops eligible)
   pub offer-control : (station : List ℕ) (size : ℕ)
       → RefusesLent (offerRefused station Control (record { size = size; hops = 1; class = 0; mark = 0 })) (offerControlAnswer station size) station (offerControlAfter station size)
   -- how much room a queue in range has, for 4
-  pub space : (mtu capacity : ℕ) (q : Queue) → QueueOk mtu capacity q → Spaces capacity q
+  pub space : (b : Bounds) (capacity : ℕ) (q : Queue) → QueueOk b capacity q → Spaces capacity q
   pub select : (station : List ℕ) → RefusesLent (stationRefused station) (selectAnswer station) station (selectAfter station)
   pub age : (station : List ℕ) → RefusesLent (stationRefused station) (ageAnswer station) station (ageAfter station)
   pub read-frame : (station frame : List ℕ) → RefusesLent (readRefused station frame) (readFrameAnswer station frame) station (readFrameAfter station frame)

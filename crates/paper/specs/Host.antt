@@ -1,5 +1,6 @@
--- What the host is told by each exported call, byte by byte, and what it finds in the bytes that it lent: for the second condition. The rules that make a
--- station of another (`tickOf`, `selectOf` and so on) are said in `Acts`. Refusals are the first condition's.
+-- What the host is told by each exported call on a station and on the ring, byte by byte, and what it finds in the bytes that it lent: for the second condition.
+-- The rules that make a station of another (`tickOf`, `selectOf`, `hearOf` and so on) are said in `Acts` and `ByValue`; why a call is refused is the first
+-- condition's, and calls on records and summaries are the third's.
 -- Assumes nothing.
 use Prim.Native.Nat.{ℕ, _+_, _%_}
 use mathlib.Core.Bool.{Bool}
@@ -129,8 +130,7 @@ PathRefused =
 
 -- ---- a station in bytes
 
--- The layout is the library's own: it is one to one, so bytes that hold a station are the only ones that do, and no bytes outside their range pass for another
--- station.
+-- The layout is the library's own: it is one to one, so bytes that hold a station are the only ones that do.
 pub record Lays : Type 0 where
   pub back : (st : Station) → StationFits st → stationAt (stationBytes st) ≡ st
   pub again : (xs : List ℕ) → Bytes xs → length xs ≡ stationLength → stationBytes (stationAt xs) ≡ xs

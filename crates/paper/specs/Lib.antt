@@ -1,5 +1,6 @@
 pub mod Examples
 pub mod Names
+pub mod LentNames
 pub mod Rules
 pub mod Acts
 pub mod Reasons

@@ -1,11 +1,11 @@
 -- The small definitions that the conditions speak through, said outright: a statement that names one of these says no more than stands here.
 -- Assumes nothing.
-use Prim.Native.Nat.{ℕ, suc, _+_, _*_, _-_, _/_, _%_, _^_, _<_, min}
+use Prim.Native.Nat.{ℕ, suc, _+_, _*_, _-_, _/_, _%_, _^_, _≤_, _<_, min}
 use mathlib.Core.Bool.{Bool, true, false}
 use mathlib.Core.List.{List, [], _∷_, _++_}
 use mathlib.Core.Logic.{_↔_}
 use mathlib.Core.Path.{_≡_}
-use lib.ListN.{getD, length, take, drop}
+use lib.ListN.{getD, set, length, take, drop}
 use Rattle.wire.specs.Wire.{le, be, digits, put, Bytes}
 use Rattle.slots.specs.Slots.{wordsAt}
 use Rattle.rpr.specs.Reading.{wordsFrom, framesHeld}
@@ -16,18 +16,21 @@ use Rattle.settings.specs.Range.{usualOf}
 use Rattle.queue.specs.declared.Frame.{Frame}
 use Rattle.queue.specs.declared.Queue.{Queue}
 use Rattle.queue.specs.Frame.{frameOf}
-use Rattle.queue.specs.Queue.{framesOf, firstFrame, sizes}
+use Rattle.queue.specs.Queue.{framesFrom, framesOf, firstFrame, taken, spaceOf, sizes}
 use Rattle.advert.specs.declared.Advert.{Advert}
 use Rattle.flow.specs.declared.Credits.{Credits}
 use Rattle.flow.specs.declared.Flow.{Flow}
 use Rattle.flow.specs.declared.Selected.{Selected}
 use Rattle.flow.specs.Frames.{Holding, Staged, stageFrames, gone}
+use Rattle.flow.specs.declared.Line.{Line}
 use Rattle.flow.specs.declared.Line.the-variants.{Control, Primary, Secondary}
 use Rattle.flow.specs.declared.Way as entry
 use Rattle.flow.specs.declared.Which.{Which}
 use Rattle.flow.specs.declared.Which.the-variants.{M, A, B, C, D}
-use Rattle.flow.specs.Which.{bucketOf, creditOf, limitsFor, member, sends}
-use Rattle.flow.specs.Parts.{queueOf, capacityOf, withCredits, withStage}
+use Rattle.flow.specs.Which.{bucketOf, creditOf, limitsFor, member, sends, fed}
+use Rattle.flow.specs.Parts.{queueOf, capacityOf, boundsOf, withCredits, withStage, withQueue}
+use Rattle.flow.specs.Select.{leaves, leavesCharged, leavesStage}
+use Rattle.flow.specs.Events.{wayBack}
 use Rattle.flow.specs.Offer.{markOf, clientFrame}
 use Rattle.rates.specs.Rates.{smoothedOf, agedOf, rampedOf, allowanceOf, ownRateOf, shareOf}
 use Rattle.fair.specs.declared.Fair.{Fair}
@@ -44,7 +47,7 @@ use Rattle.station.specs.declared.Station.{Station}
 use Rattle.station.specs.Answers.{withFlow, withFair, refusedOf, doneOf}
 use Rattle.station.specs.Offers.{turnedOf, offerClientOf, offerTransitOf, offerControlOf}
 use Rattle.station.specs.Hear.{changedOf, hearOf, tellOf}
-use Rattle.station.specs.Show.{showOf}
+use Rattle.station.specs.Show.{heldIn, heldOn, readingOf, blankOf, showOf}
 use Rattle.shaper.specs.declared.Charged.{Charged}
 use Rattle.station.specs.declared.Done.{Done}
 use Rattle.station.specs.declared.Client.{Client}
@@ -82,6 +85,15 @@ pub record QueueNames : Type 0 where
       → (capacityOf s Control ≡ s .queues .control) × (capacityOf s Primary ≡ s .queues .primary) × (capacityOf s Secondary ≡ s .queues .secondary)
   -- bytes held: the sizes' sum
   pub sums : (sizes [] ≡ 0) × ((x : Frame) (xs : List Frame) → sizes (x ∷ xs) ≡ x .size + sizes xs)
+  -- its frames: as many as it counts, from its head on, round the ring of slots
+  pub frames : (q : Queue) → framesOf q ≡ framesFrom (q .slots) (q .head) (q .count)
+  pub frames-none : (slots : List ℕ) (head : ℕ) → framesFrom slots head 0 ≡ []
+  pub frames-more : (slots : List ℕ) (head n : ℕ) → framesFrom slots head (suc n) ≡ frameOf (getD slots (head % 128) 0) ∷ framesFrom slots (suc head) n
+  -- the frame of a slot's word, and no frame
+  pub slot : (w : ℕ) → frameOf w ≡ record { size = w % 16384; hops = w / 16384 % 64; class = w / 1048576 % 4; mark = w / 4194304 }
+  pub no-frame : frameOf 0 ≡ record { size = 0; hops = 0; class = 0; mark = 0 }
+  -- what the frames of a station are held to
+  pub bounds : (s : Settings) → boundsOf s ≡ record { mtu = s .mtu }
   -- the first of a queue's frames
   pub first : (q : Queue) (x : Frame) (xs : List Frame) → framesOf q ≡ x ∷ xs → firstFrame q ≡ x
   -- a queue, and the stage, that holds a frame
@@ -95,6 +107,68 @@ pub record QueueNames : Type 0 where
   -- a client's frame as it lies in the stage
   pub staged : (way : entry.Way) (class size hops : ℕ)
       → clientFrame way class size hops ≡ record { size = size; hops = hops; class = class; mark = markOf way }
+
+-- ---- selection: how a frame goes, in range or not
+
+pub record GoingNames : Type 0 where
+  -- Space is capacity less bytes held, or 0 with 128 frames held.
+  pub space : (q : Queue) (capacity : ℕ) → q .count < 128 → spaceOf q capacity ≡ capacity - q .held
+  pub full : (q : Queue) (capacity : ℕ) → 128 ≤ q .count → spaceOf q capacity ≡ 0
+  -- the frame in the first slot; without it the slot is empty again, and the next one is the first
+  pub first-slot : (q : Queue) → firstFrame q ≡ frameOf (getD (q .slots) (q .head % 128) 0)
+  pub without-first : (q : Queue)
+      → taken q
+      ≡ record { slots = set (q .slots) (q .head % 128) 0; head = (q .head + 1) % 128; count = q .count - 1; held = q .held - firstFrame q .size }
+  -- The first frame of a queue leaves it, with nothing charged, or with a shaper charged; or the frame in the stage does.
+  pub leaves-queue : (f : Flow) (l : Line)
+      → leaves f l ≡ record { origin = leaves f l .origin; frame = firstFrame (queueOf f l); flow = withQueue f l (taken (queueOf f l)) }
+  pub charged : (s : Settings) (f : Flow) (l : Line) (w : Which)
+      → leavesCharged s f l w ≡ leaves (withCredits f (fed s (f .credits) (sends (w ∷ []) (firstFrame (queueOf f l) .size)))) l
+  pub stage : (f : Flow) → leavesStage f ≡ record { origin = 4; frame = frameOf (f .stage); flow = withStage f 0 }
+  -- a flow with another queue
+  pub control : (f : Flow) (q : Queue)
+      → withQueue f Control q ≡ record { credits = f .credits; control = q; primary = f .primary; secondary = f .secondary; stage = f .stage }
+  pub primary : (f : Flow) (q : Queue)
+      → withQueue f Primary q ≡ record { credits = f .credits; control = f .control; primary = q; secondary = f .secondary; stage = f .stage }
+  pub secondary : (f : Flow) (q : Queue)
+      → withQueue f Secondary q ≡ record { credits = f .credits; control = f .control; primary = f .primary; secondary = q; stage = f .stage }
+  -- how a client's frame went in, by its class and mark
+  pub as-a : (mark : ℕ) → wayBack 0 mark ≡ entry.Way.ClassA
+  pub as-b : (class : ℕ) → (class ≡ 0 → ⊥) → wayBack class 0 ≡ entry.Way.ClassB
+  pub as-excess : (class mark : ℕ) → (class ≡ 0 → ⊥) → (mark ≡ 0 → ⊥) → wayBack class mark ≡ entry.Way.Excess
+
+-- ---- a reading
+
+pub record ReadingNames : Type 0 where
+  -- a queue: frames, bytes; stage: frames (0 or 1), bytes
+  pub queue : (q : Queue) → heldIn q ≡ record { frames = q .count; bytes = q .held }
+  pub no-stage : heldOn 0 ≡ record { frames = 0; bytes = 0 }
+  pub stage : (w : ℕ) → (w ≡ 0 → ⊥) → heldOn w ≡ record { frames = 1; bytes = frameOf w .size }
+  pub reading : (st : Station)
+      → readingOf st
+      ≡ record {
+        credits = st .flow .credits;
+        control = heldIn (st .flow .control);
+        primary = heldIn (st .flow .primary);
+        secondary = heldIn (st .flow .secondary);
+        stage = heldOn (st .flow .stage);
+        counters = st .fair .counters;
+        smoothed = st .fair .smoothed;
+        decided = st .fair .decided;
+        received = st .fair .received;
+      }
+  -- each number 0
+  pub blank : blankOf ≡ record {
+    credits = record { m = 0; a = 0; b = 0; c = 0; d = 0 };
+    control = record { frames = 0; bytes = 0 };
+    primary = record { frames = 0; bytes = 0 };
+    secondary = record { frames = 0; bytes = 0 };
+    stage = record { frames = 0; bytes = 0 };
+    counters = record { add = 0; fw = 0; addc = 0; fwc = 0 };
+    smoothed = record { add = 0; fw = 0; addc = 0; fwc = 0 };
+    decided = record { local = 0; allowed = 0; allowedc = 0; own = 0; congested = 0 };
+    received = record { downstream = 0; ttl = 0; high = 0; low = 0; rate = 0 };
+  }
 
 -- ---- rates
 
@@ -126,20 +200,7 @@ pub record PartNames (st : Station) : Type 0 where
       ≡ record { credits = st .flow .credits; control = st .flow .control; primary = st .flow .primary; secondary = st .flow .secondary; stage = w }
   pub counters : (c : Four)
       → withCounters c (st .fair)
-      ≡ record {
-        counters = c;
-        smoothed = st .fair .smoothed;
-        local = st .fair .local;
-        allowed = st .fair .allowed;
-        allowedc = st .fair .allowedc;
-        own = st .fair .own;
-        congested = st .fair .congested;
-        downstream = st .fair .downstream;
-        ttl = st .fair .ttl;
-        high = st .fair .high;
-        low = st .fair .low;
-        rate = st .fair .rate;
-      }
+      ≡ record { counters = c; smoothed = st .fair .smoothed; decided = st .fair .decided; received = st .fair .received }
   pub heard : (a : Advert) → changedOf st a ≡ withFair st (heardOf (st .fair) a)
   pub done : doneOf st ≡ record { number = 0; detail = 0; station = st }
   pub refused : (n : ℕ) → refusedOf st n ≡ record { number = n; detail = 0; station = st }
@@ -224,6 +285,8 @@ pub record ByteNames : Type 0 where
 pub record Names : Type 0 where
   pub shapers : ShaperNames
   pub lines : QueueNames
+  pub going : GoingNames
+  pub readings : ReadingNames
   pub rates : RateNames
   pub anew : (st : Station) → PartNames st
   pub entries : EntryNames

@@ -1,4 +1,4 @@
--- The public functions of `answer`, by name: two answers that meet the contract are equal.
+-- Public functions of `answer`, by name: two answers that meet the contract are equal.
 -- Assumes nothing.
 use Prim.Native.Nat.{ℕ}
 use Rattle.answer.specs.Bytes.{chosenBytes, markBytes, movedBytes, packed, permittedBytes, selectedBytes}

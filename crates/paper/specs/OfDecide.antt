@@ -1,4 +1,4 @@
--- The public functions of `decide`, by name: two answers that meet the contract are equal.
+-- Public functions of `decide`, by name: two answers that meet the contract are equal.
 -- Assumes nothing.
 use Prim.Native.Nat.{_-_, max, min, ℕ}
 use mathlib.Core.Path.{_≡_}

@@ -1,4 +1,4 @@
--- The public functions of `fair`, by name: two answers that meet the contract are equal.
+-- Public functions of `fair`, by name: two answers that meet the contract are equal.
 -- Assumes nothing.
 use Prim.Native.Nat.{ℕ}
 use Rattle.advert.specs.declared.Advert.{Advert}
@@ -17,6 +17,10 @@ use mathlib.Core.Path.{_≡_}
 use Rattle.paper.specs.Determined.{Determined}
 
 pub record Functions : Type 0 where
+  -- Fair::told (a leaf: it asks that FairOk settings self)
+  pub fair-told : (self : Fair) (settings : Settings) → Determined (λ (r : Advert). r ≡ toldOf self settings)
+  -- Fair::heard
+  pub fair-heard : (self : Fair) (advert : Advert) → Determined (λ (r : Fair). r ≡ heardOf self advert)
   -- Four::in_range
   pub four-in-range : (self : Four) → Determined (λ (r : Bool). r ≡ test (fourOk self))
   -- ttl_ok
@@ -30,15 +34,11 @@ pub record Functions : Type 0 where
   -- Fair::is_over
   pub fair-is-over : (self : Fair) (size hops : ℕ) → Determined (λ (r : Bool). r ≡ test (over self size hops))
   -- Fair::count
-  pub fair-count : (self : Fair) (origin mark hops size : ℕ) → Determined (λ (r : Fair). r ≡ countOf self origin mark hops size)
+  pub fair-count : (self : Fair) (settings : Settings) (origin mark hops size : ℕ) → Determined (λ (r : Fair). r ≡ countOf settings self origin mark hops size)
   -- Fair::age
   pub fair-age : (self : Fair) (settings : Settings) (held : ℕ) → Determined (λ (r : Fair). r ≡ ageOf self settings held)
   -- Fair::share
-  pub fair-share : (self : Fair) (settings : Settings) → Determined (λ (r : ℕ). r ≡ shareOf (self .allowed) (settings .fairness .age) (settings .fairness .ticks))
-  -- Fair::told (a leaf: it asks that FairOk settings self)
-  pub fair-told : (self : Fair) (settings : Settings) → Determined (λ (r : Advert). r ≡ toldOf self settings)
-  -- Fair::heard
-  pub fair-heard : (self : Fair) (advert : Advert) → Determined (λ (r : Fair). r ≡ heardOf self advert)
+  pub fair-share : (self : Fair) (settings : Settings) → Determined (λ (r : ℕ). r ≡ shareOf (self .decided .allowed) (settings .fairness .age) (settings .fairness .ticks))
   -- is_own_ringlet
   pub is-own-ringlet : (settings : Settings) (advert : Advert) → Determined (λ (r : Bool). r ≡ test (ownRinglet settings advert))
   -- is_own_address

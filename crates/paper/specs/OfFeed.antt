@@ -1,4 +1,4 @@
--- The public functions of `feed`, by name: two answers that meet the contract are equal.
+-- Public functions of `feed`, by name: two answers that meet the contract are equal.
 -- Assumes nothing.
 use Prim.Native.Nat.{ℕ}
 use Rattle.feed.specs.Feed.{fedByte, fedOf, finishOf, startOf}

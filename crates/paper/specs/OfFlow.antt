@@ -1,9 +1,9 @@
--- The public functions of `flow`, by name: two answers that meet the contract are equal.
+-- Public functions of `flow`, by name: two answers that meet the contract are equal.
 -- Assumes nothing.
 use Prim.Native.Nat.{ℕ}
 use Rattle.decide.specs.Test.{test}
-use Rattle.flow.specs.Offer.{clientOf, controlOf, transitOf}
-use Rattle.flow.specs.Parts.{stageHolds}
+use Rattle.flow.specs.Offer.{clientOf, controlOf, queueFor, transitOf}
+use Rattle.flow.specs.Parts.{boundsOf, stageHolds}
 use Rattle.flow.specs.Pick.{leftOf, pickOf, seenIn, sightOf}
 use Rattle.flow.specs.Range.{flowOk}
 use Rattle.flow.specs.Tick.{startOf, tickOf}
@@ -11,8 +11,10 @@ use Rattle.flow.specs.declared.Client.{Client}
 use Rattle.flow.specs.declared.Credits.{Credits}
 use Rattle.flow.specs.declared.Entered.{Entered}
 use Rattle.flow.specs.declared.Flow.{Flow}
+use Rattle.flow.specs.declared.Line.{Line}
 use Rattle.flow.specs.declared.Pick.{Pick}
 use Rattle.flow.specs.declared.Sight.{Sight}
+use Rattle.queue.specs.declared.Bounds.{Bounds}
 use Rattle.queue.specs.declared.Frame.{Frame}
 use Rattle.settings.specs.declared.Settings.{Settings}
 use mathlib.Core.Bool.{Bool}
@@ -28,12 +30,16 @@ pub record Functions : Type 0 where
   pub flow-tick : (self : Flow) (settings : Settings) (share : ℕ) (a b c : Bool) → Determined (λ (r : Flow). r ≡ tickOf settings self share a b c)
   -- Flow::stage_holds
   pub flow-stage-holds : (self : Flow) → Determined (λ (r : Bool). r ≡ stageHolds self)
+  -- bounds
+  pub bounds : (settings : Settings) → Determined (λ (r : Bounds). r ≡ boundsOf settings)
   -- Flow::transit (a leaf: it asks that Offered settings self frame)
   pub flow-transit : (self : Flow) (settings : Settings) (frame : Frame) → Determined (λ (r : Entered). r ≡ transitOf settings self frame)
   -- Flow::control (a leaf: it asks that Offered settings self (controlFrame size))
   pub flow-control : (self : Flow) (settings : Settings) (size : ℕ) → Determined (λ (r : Entered). r ≡ controlOf settings self size)
   -- Flow::client
   pub flow-client : (self : Flow) (settings : Settings) (class size hops : ℕ) (over : Bool) → Determined (λ (r : Client). r ≡ clientOf settings self class size hops over)
+  -- Line::queue_for
+  pub line-queue-for : (settings : Settings) (class : ℕ) → Determined (λ (r : Line). r ≡ queueFor settings class)
   -- Flow::sight
   pub flow-sight : (self : Flow) → Determined (λ (r : Sight). r ≡ sightOf self)
   -- Flow::leave

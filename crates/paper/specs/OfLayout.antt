@@ -1,11 +1,13 @@
--- The public functions of `layout`, by name: two answers that meet the contract are equal.
+-- Public functions of `layout`, by name: two answers that meet the contract are equal.
 -- Assumes nothing.
 use Prim.Native.Nat.{ℕ}
+use Rattle.fair.specs.declared.Decided.{Decided}
 use Rattle.fair.specs.declared.Fair.{Fair}
 use Rattle.fair.specs.declared.Four.{Four}
+use Rattle.fair.specs.declared.Received.{Received}
 use Rattle.flow.specs.declared.Credits.{Credits}
 use Rattle.flow.specs.declared.Line.{Line}
-use Rattle.layout.specs.Layout.{creditsWords, fairAt, fairWords, fourWords, pushedAt, stationAt, stationBytes, takenFrom}
+use Rattle.layout.specs.Layout.{creditsWords, decidedWords, fairAt, fairBytes, fairPlace, fourWords, pushedAt, receivedWords, stagePlace, stationAt, stationBytes, takenFrom}
 use Rattle.layout.specs.Reading.{readingBytes}
 use Rattle.slots.specs.Slots.{wordsBytes}
 use Rattle.station.specs.Offers.{givenFrame}
@@ -19,12 +21,16 @@ use mathlib.Core.Path.{_≡_}
 use Rattle.paper.specs.Determined.{Determined}
 
 pub record Functions : Type 0 where
-  -- fairness::read (a leaf: it asks that at + 72 ≤ length (now s))
+  -- fairness::read (a leaf: it asks that at + fairLength ≤ length (now s))
   pub fairness-read : (s : List ℕ) (at : ℕ) → Determined (λ (r : Fair). r ≡ fairAt s at)
-  -- fairness::write (a leaf: it asks that at + 72 ≤ length (now s))
-  pub fairness-write : (f : Fair) (s : List ℕ) (at : ℕ) → Determined (λ (after-s : List ℕ). after-s ≡ put s at (wordsBytes (fairWords f)))
-  -- fairness::write_four (a leaf: it asks that at + 16 ≤ length (now s))
+  -- fairness::write (a leaf: it asks that at + fairLength ≤ length (now s))
+  pub fairness-write : (f : Fair) (s : List ℕ) (at : ℕ) → Determined (λ (after-s : List ℕ). after-s ≡ put s at (fairBytes f))
+  -- fairness::write_four (a leaf: it asks that at + fourLength ≤ length (now s))
   pub fairness-write-four : (r : Four) (s : List ℕ) (at : ℕ) → Determined (λ (after-s : List ℕ). after-s ≡ put s at (wordsBytes (fourWords r)))
+  -- fairness::write_decided (a leaf: it asks that at + decidedLength ≤ length (now s))
+  pub fairness-write-decided : (d : Decided) (s : List ℕ) (at : ℕ) → Determined (λ (after-s : List ℕ). after-s ≡ put s at (wordsBytes (decidedWords d)))
+  -- fairness::write_received (a leaf: it asks that at + receivedLength ≤ length (now s))
+  pub fairness-write-received : (r : Received) (s : List ℕ) (at : ℕ) → Determined (λ (after-s : List ℕ). after-s ≡ put s at (wordsBytes (receivedWords r)))
   -- read (a leaf: it asks that length (now s) ≡ stationLength)
   pub read : (s : List ℕ) → Determined (λ (r : Station). r ≡ stationAt s)
   -- pick (a leaf: it asks that length (now s) ≡ stationLength)
@@ -38,10 +44,10 @@ pub record Functions : Type 0 where
   -- take_frame (a leaf: it asks that length (now s) ≡ stationLength)
   pub take-frame : (origin : ℕ) (s : List ℕ) → Determined (λ (after-s : List ℕ). after-s ≡ takenFrom origin s)
   -- write_stage (a leaf: it asks that length (now s) ≡ stationLength)
-  pub write-stage : (word : ℕ) (s : List ℕ) → Determined (λ (after-s : List ℕ). after-s ≡ put s 1574 (digits 4 word))
+  pub write-stage : (word : ℕ) (s : List ℕ) → Determined (λ (after-s : List ℕ). after-s ≡ put s stagePlace (digits 4 word))
   -- write_fair (a leaf: it asks that length (now s) ≡ stationLength)
-  pub write-fair : (f : Fair) (s : List ℕ) → Determined (λ (after-s : List ℕ). after-s ≡ put s 1578 (wordsBytes (fairWords f)))
+  pub write-fair : (f : Fair) (s : List ℕ) → Determined (λ (after-s : List ℕ). after-s ≡ put s fairPlace (fairBytes f))
   -- write_counters (a leaf: it asks that length (now s) ≡ stationLength)
-  pub write-counters : (c : Four) (s : List ℕ) → Determined (λ (after-s : List ℕ). after-s ≡ put s 1578 (wordsBytes (fourWords c)))
+  pub write-counters : (c : Four) (s : List ℕ) → Determined (λ (after-s : List ℕ). after-s ≡ put s fairPlace (wordsBytes (fourWords c)))
   -- write_reading (a leaf: it asks that length (now s) ≡ readingLength)
   pub write-reading : (r : Reading) (s : List ℕ) → Determined (λ (after-s : List ℕ). after-s ≡ readingBytes r)

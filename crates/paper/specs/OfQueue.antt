@@ -1,4 +1,4 @@
--- The public functions of `queue`, by name: two answers that meet the contract are equal.
+-- Public functions of `queue`, by name: two answers that meet the contract are equal.
 -- Assumes nothing.
 use Prim.Native.Nat.{ℕ}
 use Rattle.decide.specs.Test.{test}
@@ -6,6 +6,7 @@ use Rattle.queue.specs.Frame.{frameOf, frameOk, hopsOk, wordOf}
 use Rattle.queue.specs.Front.{frontOf, fronted}
 use Rattle.queue.specs.Queue.{emptyQueue, firstFrame, holdsFrame, pushed, spaceOf, takeOf}
 use Rattle.queue.specs.Range.{queueOk}
+use Rattle.queue.specs.declared.Bounds.{Bounds}
 use Rattle.queue.specs.declared.Frame.{Frame}
 use Rattle.queue.specs.declared.Front.{Front}
 use Rattle.queue.specs.declared.Queue.{Queue}
@@ -18,7 +19,7 @@ pub record Functions : Type 0 where
   -- hops_ok
   pub hops-ok : (hops : ℕ) → Determined (λ (r : Bool). r ≡ test (hopsOk hops))
   -- Frame::in_range
-  pub frame-in-range : (self : Frame) (mtu : ℕ) → Determined (λ (r : Bool). r ≡ test (frameOk mtu self))
+  pub frame-in-range : (self : Frame) (bounds : Bounds) → Determined (λ (r : Bool). r ≡ test (frameOk bounds self))
   -- Frame::word
   pub frame-word : (self : Frame) → Determined (λ (r : ℕ). r ≡ wordOf self)
   -- Frame::of
@@ -42,4 +43,4 @@ pub record Functions : Type 0 where
   -- Queue::holds_frame
   pub queue-holds-frame : (self : Queue) → Determined (λ (r : Bool). r ≡ holdsFrame self)
   -- Queue::in_range
-  pub queue-in-range : (self : Queue) (mtu capacity : ℕ) → Determined (λ (r : Bool). r ≡ test (queueOk mtu capacity self))
+  pub queue-in-range : (self : Queue) (bounds : Bounds) (capacity : ℕ) → Determined (λ (r : Bool). r ≡ test (queueOk bounds capacity self))

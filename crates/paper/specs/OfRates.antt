@@ -1,4 +1,4 @@
--- The public functions of `rates`, by name: two answers that meet the contract are equal.
+-- Public functions of `rates`, by name: two answers that meet the contract are equal.
 -- Assumes nothing.
 use Prim.Native.Nat.{ℕ}
 use Rattle.rates.specs.Rates.{agedOf, allowanceOf, countedOf, ownRateOf, partOf, rampedOf, shareOf, shownOf, smoothedOf}

@@ -1,7 +1,8 @@
--- The public functions of `reader`, by name: two answers that meet the contract are equal.
+-- Public functions of `reader`, by name: two answers that meet the contract are equal.
 -- Assumes nothing.
 use Prim.Native.Nat.{ℕ}
 use Rattle.reader.specs.Place.{nextAt}
+use Rattle.reader.specs.declared.Place.{Place}
 use Rattle.record.specs.declared.Step.{Step}
 use mathlib.Core.List.{List}
 use mathlib.Core.Path.{_≡_}
@@ -9,4 +10,4 @@ use Rattle.paper.specs.Determined.{Determined}
 
 pub record Functions : Type 0 where
   -- read_at
-  pub read-at : (bytes : List ℕ) (at : ℕ) → Determined (λ (r : Step). r ≡ nextAt bytes at)
+  pub read-at : (bytes : List ℕ) (place : Place) → Determined (λ (r : Step). r ≡ nextAt bytes place)

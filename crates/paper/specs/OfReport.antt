@@ -1,4 +1,4 @@
--- The public functions of `report`, by name: two answers that meet the contract are equal.
+-- Public functions of `report`, by name: two answers that meet the contract are equal.
 -- Assumes nothing.
 use Prim.Native.Nat.{_+_, ℕ}
 use Rattle.report.specs.Report.{printedOf}

@@ -1,4 +1,4 @@
--- The public functions of `settings`, by name: two answers that meet the contract are equal.
+-- Public functions of `settings`, by name: two answers that meet the contract are equal.
 -- Assumes nothing.
 use Prim.Native.Nat.{ℕ}
 use Rattle.decide.specs.Test.{test}
@@ -20,10 +20,6 @@ use Rattle.paper.specs.Determined.{Determined}
 pub record Functions : Type 0 where
   -- Settings::in_range
   pub settings-in-range : (self : Settings) → Determined (λ (r : Bool). r ≡ test (settingsOk self))
-  -- Settings::read (a leaf: it asks that at + settingsLength ≤ length (now s))
-  pub settings-read : (s : List ℕ) (at : ℕ) → Determined (λ (r : Settings). r ≡ settingsAt s at)
-  -- Settings::write (a leaf: it asks that at + settingsLength ≤ length (now s))
-  pub settings-write : (self : Settings) (s : List ℕ) (at : ℕ) → Determined (λ (after-s : List ℕ). after-s ≡ put s at (settingsBytes self))
   -- Address::number
   pub address-number : (self : Address) → Determined (λ (r : ℕ). r ≡ addressOf self)
   -- Bucket::in_range
@@ -38,3 +34,7 @@ pub record Functions : Type 0 where
   pub fairness-usual : (weight unit ticks unreserved : ℕ) → Determined (λ (r : Fairness). r ≡ usualOf weight unit ticks unreserved)
   -- Fairness::in_range
   pub fairness-in-range : (self : Fairness) → Determined (λ (r : Bool). r ≡ test (fairnessOk self))
+  -- Settings::read (a leaf: it asks that at + settingsLength ≤ length (now s))
+  pub settings-read : (s : List ℕ) (at : ℕ) → Determined (λ (r : Settings). r ≡ settingsAt s at)
+  -- Settings::write (a leaf: it asks that at + settingsLength ≤ length (now s))
+  pub settings-write : (self : Settings) (s : List ℕ) (at : ℕ) → Determined (λ (after-s : List ℕ). after-s ≡ put s at (settingsBytes self))

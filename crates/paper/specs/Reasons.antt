@@ -22,7 +22,7 @@ use Rattle.queue.specs.Queue.{framesOf, sizes, spaceOf}
 use Rattle.advert.specs.Frame.{advertLength}
 use Rattle.flow.specs.declared.Line.{Line}
 use Rattle.flow.specs.Frames.{Staged}
-use Rattle.flow.specs.Parts.{queueOf, capacityOf}
+use Rattle.flow.specs.Parts.{queueOf, capacityOf, boundsOf}
 use Rattle.flow.specs.Offer.{wayOf, markOf}
 use Rattle.ring.specs.declared.Way.{Way}
 use Rattle.ring.specs.Choosing.{reachesOf}
@@ -44,7 +44,7 @@ CarriedOut n = n ≡ 0
 
 -- ---- lent bytes
 
--- bytes are not a whole station, summary, frame or reading, or the room for one: another length
+-- bytes are not whole settings, a whole station or summary, or the room for a summary, frame or reading: another length
 abbrev pub OtherLength : ℕ → List ℕ → Type 0
 OtherLength n xs = length xs ≡ n → ⊥
 
@@ -76,7 +76,7 @@ offerRefused xs l x =
     let st = stationAt xs in
     RefusedWhen 2 (OtherLength stationLength xs)
     (RefusedWhen 1 (StationOut xs)
-    (RefusedWhen 3 (FrameOk (st .settings .mtu) x → ⊥)
+    (RefusedWhen 3 (FrameOk (boundsOf (st .settings)) x → ⊥)
     (RefusedWhen 4 (spaceOf (queueOf (st .flow) l) (capacityOf (st .settings) l) < x .size)
     CarriedOut)))
 
@@ -87,7 +87,7 @@ clientRefused xs class size hops =
     let way = wayOf (st .settings) (st .flow .credits) class in
     RefusedWhen 2 (OtherLength stationLength xs)
     (RefusedWhen 1 (StationOut xs)
-    (RefusedWhen 3 (FrameOk (st .settings .mtu) (record { size = size; hops = hops; class = class; mark = 0 }) → ⊥)
+    (RefusedWhen 3 (FrameOk (boundsOf (st .settings)) (record { size = size; hops = hops; class = class; mark = 0 }) → ⊥)
     (RefusedWhen 5 (Staged (st .flow))
     (RefusedWhen 6 (Permits st way → ⊥)
     (RefusedWhen 7 ((markOf way ≡ 1) × Passes (st .fair) size hops)

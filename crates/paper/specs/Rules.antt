@@ -18,6 +18,7 @@ use Rattle.flow.specs.Which.{bucketOf, creditOf, permitsOf, permitsAll, member,
 use Rattle.flow.specs.Tick.{waits}
 use Rattle.flow.specs.Offer.{queueFor, wayOf, needsOf, markOf}
 use Rattle.flow.specs.Frames.{Holding, Staged}
+use Rattle.fair.specs.declared.Received.{Received}
 use Rattle.fair.specs.declared.Fair.{Fair}
 use Rattle.wire.specs.Wire.{be}
 use Rattle.advert.specs.declared.Advert.{Advert}
@@ -25,7 +26,7 @@ use Rattle.advert.specs.declared.Parsed.{Parsed}
 use Rattle.advert.specs.Frame.{whole, advertIn, parsedOf, advertBytes}
 use Rattle.rates.specs.Rates.{countedOf}
 use Rattle.fair.specs.Count.{beyond, countOf, withCounters}
-use Rattle.fair.specs.Advertise.{ownFrame, passedOn, receivedOf, toldOf, heardOf}
+use Rattle.fair.specs.Advertise.{ownFrame, passedOn, withReceived, toldOf, heardOf}
 use Rattle.station.specs.declared.Station.{Station}
 use Rattle.station.specs.Calls.{tickOf, amountFor}
 
@@ -42,7 +43,7 @@ pub record Ticks (st : Station) (a b c : ℕ) : Type 0 where
   pub d-waits : (waits (st .flow) (eqb a 1) (eqb b 1) (eqb c 1) D ≡ true)
       ↔ (((eqb b 1 ≡ true) ⊎ (eqb c 1 ≡ true)) ⊎ (Staged (st .flow) ⊎ Holding (st .flow .secondary)))
   -- C's amount is the smaller of its setting and floor(allowedRate / (ageCoef × ticks per interval)); every other shaper's is its setting.
-  pub c-amount : amountFor st C ≡ min (st .settings .shapers .c .amount) (st .fair .allowed / (st .settings .fairness .age * st .settings .fairness .ticks))
+  pub c-amount : amountFor st C ≡ min (st .settings .shapers .c .amount) (st .fair .decided .allowed / (st .settings .fairness .age * st .settings .fairness .ticks))
   pub set-amount : (w : Which) → (w ≡ C → ⊥) → amountFor st w ≡ bucketOf (st .settings) w .amount
   -- A tick adds the amount; while traffic waits the sum is cut to hiLimit, otherwise to loLimit.
   pub waiting : (w : Which) → waits (st .flow) (eqb a 1) (eqb b 1) (eqb c 1) w ≡ true
@@ -66,9 +67,9 @@ pub record Charges (s : Settings) (c : Credits) : Type 0 where
 
 pub record Enters : Type 0 where
   -- Transit A goes to the primary queue, B and C to the secondary.
-  pub transit-a : queueFor 0 ≡ Primary
-  pub transit-b : queueFor 1 ≡ Secondary
-  pub transit-c : queueFor 2 ≡ Secondary
+  pub transit-a : (s : Settings) → queueFor s 0 ≡ Primary
+  pub transit-b : (s : Settings) → queueFor s 1 ≡ Secondary
+  pub transit-c : (s : Settings) → queueFor s 2 ≡ Secondary
   -- Client A needs and charges A. Client B needs and charges B and D; failing that it is tried as excess. Excess B and C need C and D, charge both, and are
   -- marked eligible.
   pub client-a : (s : Settings) (c : Credits) → wayOf s c 0 ≡ ClassA
@@ -82,20 +83,20 @@ pub record Enters : Type 0 where
 
 -- ---- counting a selected frame: origin 4 is the stage, 3 the secondary queue
 
-pub record Counts (f : Fair) (hops size : ℕ) : Type 0 where
+pub record Counts (s : Settings) (f : Fair) (hops size : ℕ) : Type 0 where
   -- An eligible stage frame adds its size to addRate, a secondary one to fwRate; also to the Congested twin if downstream congested and hops >
   -- hopsToCongestion.
-  pub twin : (test (beyond f hops) ≡ true) ↔ ((f .downstream ≡ 1) × (256 - f .ttl < hops))
-  pub stage-twin : test (beyond f hops) ≡ true → countOf f 4 1 hops size
+  pub twin : (test (beyond f hops) ≡ true) ↔ ((f .received .downstream ≡ 1) × (256 - f .received .ttl < hops))
+  pub stage-twin : test (beyond f hops) ≡ true → countOf s f 4 1 hops size
       ≡ withCounters (record { add = countedOf (f .counters .add) size; fw = f .counters .fw; addc = countedOf (f .counters .addc) size; fwc = f .counters .fwc }) f
-  pub stage : test (beyond f hops) ≡ false → countOf f 4 1 hops size
+  pub stage : test (beyond f hops) ≡ false → countOf s f 4 1 hops size
       ≡ withCounters (record { add = countedOf (f .counters .add) size; fw = f .counters .fw; addc = f .counters .addc; fwc = f .counters .fwc }) f
-  pub secondary-twin : test (beyond f hops) ≡ true → countOf f 3 1 hops size
+  pub secondary-twin : test (beyond f hops) ≡ true → countOf s f 3 1 hops size
       ≡ withCounters (record { add = f .counters .add; fw = countedOf (f .counters .fw) size; addc = f .counters .addc; fwc = countedOf (f .counters .fwc) size }) f
-  pub secondary : test (beyond f hops) ≡ false → countOf f 3 1 hops size
+  pub secondary : test (beyond f hops) ≡ false → countOf s f 3 1 hops size
       ≡ withCounters (record { add = f .counters .add; fw = countedOf (f .counters .fw) size; addc = f .counters .addc; fwc = f .counters .fwc }) f
-  pub not-eligible : (origin mark : ℕ) → (mark ≡ 1 → ⊥) → countOf f origin mark hops size ≡ f
-  pub elsewhere : (origin mark : ℕ) → (origin ≡ 4 → ⊥) → (origin ≡ 3 → ⊥) → countOf f origin mark hops size ≡ f
+  pub not-eligible : (origin mark : ℕ) → (mark ≡ 1 → ⊥) → countOf s f origin mark hops size ≡ f
+  pub elsewhere : (origin mark : ℕ) → (origin ≡ 4 → ⊥) → (origin ≡ 3 → ⊥) → countOf s f origin mark hops size ≡ f
   -- Counters stop at 2,147,483,647.
   pub stop : (counter : ℕ) → countedOf counter size ≡ min (counter + size) 2147483647
 
@@ -103,16 +104,17 @@ pub record Counts (f : Fair) (hops size : ℕ) : Type 0 where
 
 pub record Tells (f : Fair) (s : Settings) : Type 0 where
   -- Advertise 65,535 (FULL_RATE) when not congested either way;
-  pub full : f .congested ≡ 0 → f .downstream ≡ 0 → toldOf f s ≡ ownFrame s 65535
+  pub full : f .decided .congested ≡ 0 → f .received .downstream ≡ 0 → toldOf f s ≡ ownFrame s 65535
   -- own rate when only locally congested, or both and own ≤ received;
-  pub own : f .congested ≡ 1 → f .downstream ≡ 0 → toldOf f s ≡ ownFrame s (f .own)
-  pub both : f .congested ≡ 1 → f .downstream ≡ 1 → f .own ≤ f .rate → toldOf f s ≡ ownFrame s (f .own)
+  pub own : f .decided .congested ≡ 1 → f .received .downstream ≡ 0 → toldOf f s ≡ ownFrame s (f .decided .own)
+  pub both : f .decided .congested ≡ 1 → f .received .downstream ≡ 1 → f .decided .own ≤ f .received .rate → toldOf f s ≡ ownFrame s (f .decided .own)
   -- Own and FULL frames use own address and ttl 255, and bear the other ringlet's bit;
   pub own-frame : (rate : ℕ) → ownFrame s rate ≡ record { ringlet = 1 - s .ringlet; ttl = 255; high = s .address .high; low = s .address .low; rate = rate }
   -- else the received rate, its address, ttl less 1, but FULL_RATE if its ttl was 193.
-  pub passed-on : passedOn f s ≡ record { ringlet = 1 - s .ringlet; ttl = f .ttl - 1; high = f .high; low = f .low; rate = f .rate }
-  pub received : (f .downstream ≡ 1) × ((f .congested ≡ 0) ⊎ (f .rate < f .own)) → (f .ttl ≡ 193 → ⊥) → toldOf f s ≡ passedOn f s
-  pub last : (f .downstream ≡ 1) × ((f .congested ≡ 0) ⊎ (f .rate < f .own)) → f .ttl ≡ 193 → toldOf f s ≡ ownFrame s 65535
+  pub passed-on : passedOn f s
+      ≡ record { ringlet = 1 - s .ringlet; ttl = f .received .ttl - 1; high = f .received .high; low = f .received .low; rate = f .received .rate }
+  pub received : (f .received .downstream ≡ 1) × ((f .decided .congested ≡ 0) ⊎ (f .received .rate < f .decided .own)) → (f .received .ttl ≡ 193 → ⊥) → toldOf f s ≡ passedOn f s
+  pub last : (f .received .downstream ≡ 1) × ((f .decided .congested ≡ 0) ⊎ (f .received .rate < f .decided .own)) → f .received .ttl ≡ 193 → toldOf f s ≡ ownFrame s 65535
 
 -- The twelve bytes: ttl; base (bit 7 ringlet, bits 5 to 4 frame type, 2 = fairness); address 6; header 2, top three bits 0 for single choke; rate 2.
 -- Big-endian.
@@ -135,21 +137,8 @@ pub record Writes (a : Advert) : Type 0 where
 
 pub record Hears (f : Fair) (a : Advert) : Type 0 where
   -- A rate of 65,535 clears downstream congestion, with received ttl 255, received address and rate 0; others set it.
-  pub clears : a .rate ≡ 65535 → heardOf f a ≡ receivedOf f 0 255 0 0 0
-  pub sets : (a .rate ≡ 65535 → ⊥) → heardOf f a ≡ receivedOf f 1 (a .ttl) (a .high) (a .low) (a .rate)
+  pub clears : a .rate ≡ 65535 → heardOf f a ≡ withReceived (record { downstream = 0; ttl = 255; high = 0; low = 0; rate = 0 }) f
+  pub sets : (a .rate ≡ 65535 → ⊥)
+      → heardOf f a ≡ withReceived (record { downstream = 1; ttl = a .ttl; high = a .high; low = a .low; rate = a .rate }) f
   -- Nothing else changes.
-  pub keeps : (downstream ttl high low rate : ℕ) → receivedOf f downstream ttl high low rate
-      ≡ record {
-        counters = f .counters;
-        smoothed = f .smoothed;
-        local = f .local;
-        allowed = f .allowed;
-        allowedc = f .allowedc;
-        own = f .own;
-        congested = f .congested;
-        downstream = downstream;
-        ttl = ttl;
-        high = high;
-        low = low;
-        rate = rate;
-      }
+  pub keeps : (r : Received) → withReceived r f ≡ record { counters = f .counters; smoothed = f .smoothed; decided = f .decided; received = r }

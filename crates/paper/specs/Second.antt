@@ -1,19 +1,20 @@
 -- The second condition of acceptance, in its own words: credits, frame selection, fair rates, ringlet choice and fairness frames equal the rules of document 01,
 -- step for step; fairness frames are both written and read. That each exported call does what the definitions say is its contract (`AnswersDetermined` has
--- them all, made from the contracts' own text). What the host is told and finds is said by `Hosts`; which rule each call of a station applies to which of its parts by `Acts`; here stand the
--- rules, in the paper's words. Ranges and refusals are the first condition's. Assumes nothing.
+-- them all, made from the contracts' own text). What the host is told and finds is said in Host.antt; which rule each call of a station applies to which of its parts by `Acts` and
+-- `Listens`; here stand the rules, in the paper's words. Ranges and refusals are the first condition's. Assumes nothing.
 use Prim.Native.Nat.{ℕ, suc, _+_, _*_, _-_, _/_, _%_, _^_, _≤_, _<_, min}
 use mathlib.Core.Bool.{true, false}
 use mathlib.Core.List.{List, [], _∷_}
 use mathlib.Core.Logic.{_⊎_, _↔_}
 use mathlib.Core.Path.{_≡_}
 use lib.ListN.{length, take}
-use Rattle.decide.specs.Test.{Holds}
+use Rattle.decide.specs.Test.{test, Holds}
 use Rattle.settings.specs.declared.Settings.{Settings}
 use Rattle.settings.specs.Range.{SettingsOk}
 use Rattle.settings.specs.Words.{settingsLength, settingsAt}
 use Rattle.wire.specs.Wire.{Bytes}
 use Rattle.queue.specs.declared.Frame.{Frame}
+use Rattle.queue.specs.declared.Bounds.{Bounds}
 use Rattle.queue.specs.Frame.{FrameOk, wordOf, frameOf}
 use Rattle.queue.specs.Queue.{framesOf, firstFrame, spaceOf}
 use Rattle.flow.specs.declared.Credits.{Credits}
@@ -48,8 +49,9 @@ use Rattle.rpr.specs.Lent.{Lending, memoryThrough, NoNewStart, startedIn, stati
 use Rattle.rpr.specs.Told.{recordTold}
 use Rattle.rpr.specs.Says.{Keeps}
 use Rattle.paper.specs.Names.{Names}
+use Rattle.paper.specs.LentNames.{LentNames}
 use Rattle.paper.specs.Rules.{Ticks, Charges, Enters, Counts, Tells, Reads, Writes, Hears}
-use Rattle.paper.specs.Acts.{Starts, YesNo, Acts, Traces, ReadsOff}
+use Rattle.paper.specs.Acts.{least, Starts, YesNo, Acts, Traces, ReadsOff}
 use Rattle.paper.specs.ByValue.{Lost, Unfit, Listens}
 use Rattle.paper.specs.Host.{Lays, Hosts, SettingsWords, Begins, ChoiceTold, ChoiceRefused, PathTold, PathRefused}
 
@@ -67,6 +69,7 @@ pub record Ready (s : Settings) (f : Flow) : Type 0 where
   pub primary : Holds (primaryReady f) ↔ Holding (f .primary)
   -- secondary, if mtu > its space
   pub needy-secondary : Holds (needy s f) ↔ (spaceOf (f .secondary) (s .queues .secondary) < s .mtu)
+  pub needy-tested : (test (needy s f) ≡ true) ↔ Holds (needy s f)
   -- stage
   pub stage : Holds (stageReady f) ↔ Staged f
   -- secondary, if D permits
@@ -91,9 +94,9 @@ pub record Selects (s : Settings) (f : Flow) : Type 0 where
   pub nothing : (Holds (controlReady s f) → ⊥) → (Holds (primaryReady f) → ⊥) → (Holds (needy s f) → ⊥) → (Holds (stageReady f) → ⊥)
       → (Holds (secondaryReady s f) → ⊥) → flow.selectOf s f ≡ nothingOf f
   -- Where it came from: control 1, primary 2, secondary 3, stage 4, nothing 0; and where nothing goes nothing changes.
-  pub origins : (leaves f Control .origin ≡ 1) × (leaves f Primary .origin ≡ 2) × (leaves f Secondary .origin ≡ 3) × (leavesStage f .origin ≡ 4)
-      × (nothingOf f .origin ≡ 0)
-  pub unchanged : nothingOf f .flow ≡ f
+  pub origins : (leavesCharged s f Control M .origin ≡ 1) × (leaves f Primary .origin ≡ 2) × (leaves f Secondary .origin ≡ 3) × (leavesStage f .origin ≡ 4)
+      × (leavesCharged s f Secondary D .origin ≡ 3)
+  pub no-frame : nothingOf f ≡ record { origin = 0; frame = frameOf 0; flow = f }
   -- What is charged, and what is not.
   pub m-charged : leavesCharged s f Control M .flow .credits ≡ fed s (f .credits) (sends (M ∷ []) (firstFrame (f .control) .size))
   pub d-charged : leavesCharged s f Secondary D .flow .credits ≡ fed s (f .credits) (sends (D ∷ []) (firstFrame (f .secondary) .size))
@@ -113,14 +116,14 @@ pub record Ages (f : Fair) (s : Settings) (held : ℕ) : Type 0 where
         fwc = ((s .fairness .lp - 1) * f .smoothed .fwc + f .counters .fwc) / s .fairness .lp;
       }
   -- Locally congested: secondary bytes > low threshold. localFairRate: lpAddRate if locally congested, else unreservedRate.
-  pub congested : s .queues .threshold < held → (interval.ageOf f s held .congested ≡ 1) × (interval.ageOf f s held .local ≡ interval.ageOf f s held .smoothed .add)
-  pub not-congested : held ≤ s .queues .threshold → (interval.ageOf f s held .congested ≡ 0) × (interval.ageOf f s held .local ≡ s .fairness .unreserved)
+  pub congested : s .queues .threshold < held → (interval.ageOf f s held .decided .congested ≡ 1) × (interval.ageOf f s held .decided .local ≡ interval.ageOf f s held .smoothed .add)
+  pub not-congested : held ≤ s .queues .threshold → (interval.ageOf f s held .decided .congested ≡ 0) × (interval.ageOf f s held .decided .local ≡ s .fairness .unreserved)
   -- allowedRate: the smaller of localFairRate and unreservedRate if locally congested, else allowedRate + floor((unreservedRate − allowedRate) / rampUp).
-  pub allowed-congested : s .queues .threshold < held → interval.ageOf f s held .allowed ≡ min (interval.ageOf f s held .local) (s .fairness .unreserved)
-  pub allowed-ramped : held ≤ s .queues .threshold → interval.ageOf f s held .allowed ≡ f .allowed + (s .fairness .unreserved - f .allowed) / s .fairness .ramp
+  pub allowed-congested : s .queues .threshold < held → interval.ageOf f s held .decided .allowed ≡ min (interval.ageOf f s held .decided .local) (s .fairness .unreserved)
+  pub allowed-ramped : held ≤ s .queues .threshold → interval.ageOf f s held .decided .allowed ≡ f .decided .allowed + (s .fairness .unreserved - f .decided .allowed) / s .fairness .ramp
   -- allowedRateCongested: if downstream congested the smaller of unreservedRate and received × weight × unit, else ramped the same way.
-  pub allowedc-congested : f .downstream ≡ 1 → interval.ageOf f s held .allowedc ≡ min (s .fairness .unreserved) (f .rate * s .fairness .weight * s .fairness .unit)
-  pub allowedc-ramped : (f .downstream ≡ 1 → ⊥) → interval.ageOf f s held .allowedc ≡ f .allowedc + (s .fairness .unreserved - f .allowedc) / s .fairness .ramp
+  pub allowedc-congested : f .received .downstream ≡ 1 → interval.ageOf f s held .decided .allowedc ≡ min (s .fairness .unreserved) (f .received .rate * s .fairness .weight * s .fairness .unit)
+  pub allowedc-ramped : (f .received .downstream ≡ 1 → ⊥) → interval.ageOf f s held .decided .allowedc ≡ f .decided .allowedc + (s .fairness .unreserved - f .decided .allowedc) / s .fairness .ramp
   -- Each counter becomes floor(rate × (ageCoef−1) / ageCoef).
   pub counters : interval.ageOf f s held .counters
       ≡ record {
@@ -130,10 +133,9 @@ pub record Ages (f : Fair) (s : Settings) (held : ℕ) : Type 0 where
         fwc = f .counters .fwc * (s .fairness .age - 1) / s .fairness .age;
       }
   -- What was received stays.
-  pub keeps : (interval.ageOf f s held .downstream ≡ f .downstream) × (interval.ageOf f s held .ttl ≡ f .ttl) × (interval.ageOf f s held .high ≡ f .high)
-      × (interval.ageOf f s held .low ≡ f .low) × (interval.ageOf f s held .rate ≡ f .rate)
+  pub keeps : interval.ageOf f s held .received ≡ f .received
   -- Own rate is floor(localFairRate / (weight × unit)), at most 65,534.
-  pub own : interval.ageOf f s held .own ≡ min (interval.ageOf f s held .local / (s .fairness .weight * s .fairness .unit)) 65534
+  pub own : interval.ageOf f s held .decided .own ≡ min (interval.ageOf f s held .decided .local / (s .fairness .weight * s .fairness .unit)) 65534
 
 -- ---- ringlet choice and path
 
@@ -222,6 +224,7 @@ pub record Sends (stations own target links ring : ℕ) : Type 0 where
 pub record Condition2 : Type 0 where
   -- What the small definitions mean through which the rules are said.
   pub names : Names
+  pub lent-names : LentNames
   -- Over any calls from a fresh station, each lent what the one before left and none a new start, a shaper's credit equals that of its record: one event per
   -- tick, one send per charge; and every send was permitted at its place. Here over any exported calls on one piece of memory, wrong lengths, refused
   -- arguments and refused starts among them, from a start that was carried out. The record is told from the calls and the numbers that the host got.
@@ -245,9 +248,13 @@ pub record Condition2 : Type 0 where
   -- What a call is to a shaper's record, by its answer; and what the host reads off the number that it got.
   pub events : (st : Station) (w : Which) (r : Answer) → Traces st w r
   pub reads-off : (st : Station) (w : Which) (r : ℕ) → ReadsOff st w r
+  -- There are settings that start, and so there are stations in range.
+  pub some-start : SettingsOk least
   pub starts : (s : Settings) → Starts s
   -- Which part of a station each call looks at and changes; the rules of these parts are below.
   pub calls : (st : Station) → StationOk st → Acts st
+  -- Calls keep a station in range, by value too.
+  pub kept : (st : Station) → StationOk st → (c : Call) → StationOk (step c st .station)
   -- By value too, a refusal is its number and leaves the station.
   pub lost : (st : Station) → (StationOk st → ⊥) → Lost st
   pub unfit : (st : Station) → StationOk st → Unfit st
@@ -256,13 +263,13 @@ pub record Condition2 : Type 0 where
   pub charges : (s : Settings) (c : Credits) → Charges s c
   pub entry : Enters
   -- The word of a slot or of the stage holds its frame.
-  pub words : (mtu : ℕ) (x : Frame) → mtu ≤ 9216 → FrameOk mtu x → (frameOf (wordOf x) ≡ x) × (wordOf x ≡ 0 → ⊥)
+  pub words : (b : Bounds) (x : Frame) → b .mtu ≤ 9216 → FrameOk b x → (frameOf (wordOf x) ≡ x) × (wordOf x ≡ 0 → ⊥)
   pub selection : (s : Settings) (f : Flow) → Selects s f
-  pub counting : (f : Fair) (hops size : ℕ) → Counts f hops size
+  pub counting : (s : Settings) (f : Fair) (hops size : ℕ) → Counts s f hops size
   pub rates : (f : Fair) (s : Settings) (held : ℕ) → Ages f s held
   -- Local congestion and own rate hold till the next interval: no call but that of an interval changes them.
   pub holding : (st : Station) (c : Call) → (c ≡ history.age → ⊥)
-      → (step c st .station .fair .congested ≡ st .fair .congested) × (step c st .station .fair .own ≡ st .fair .own)
+      → (step c st .station .fair .decided .congested ≡ st .fair .decided .congested) × (step c st .station .fair .decided .own ≡ st .fair .decided .own)
   pub telling : (f : Fair) (s : Settings) → Tells f s
   pub hearing : (f : Fair) (a : Advert) → Hears f a
   pub reading : (frame : List ℕ) → Reads frame
@@ -284,4 +291,4 @@ pub record Condition2 : Type 0 where
   pub limit-unseen : (stations own target links : ℕ) (home : Way) → Placed stations own target links
       → courseOf stations links target home (2 * stations + 1) atHome own .delivered ≡ courseOf stations links target home (2 * stations) atHome own .delivered
   -- Reading a written frame, with the same settings but an address it doesn't bear, gives back its ringlet bit, ttl, address and rate.
-  pub frames : (s : Settings) (f : Fair) → SettingsOk s → FairOk s f → s .address .low < 4294967296 → f .low < 4294967296 → ReadBack s f
+  pub frames : (s : Settings) (f : Fair) → SettingsOk s → FairOk s f → s .address .low < 4294967296 → f .received .low < 4294967296 → ReadBack s f

@@ -1,12 +1,12 @@
 -- The third condition of acceptance, in its own words, and what a night's record says of a station.
 -- Assumes nothing.
-use Prim.Native.Nat.{ℕ, suc, _+_, _*_, _≤_, _<_}
+use Prim.Native.Nat.{ℕ, suc, _+_, _-_, _*_, _≤_, _<_}
 use mathlib.Core.List.{List, [], _∷_, _++_}
 use mathlib.Core.Logic.{_⊎_, _↔_}
 use mathlib.Core.Path.{_≡_}
-use lib.ListN.{length, take}
+use lib.ListN.{length, take, drop}
 use denote.Ref.{RefT, now}
-use Rattle.wire.specs.Wire.{Bytes}
+use Rattle.wire.specs.Wire.{le, Bytes}
 use Rattle.shaper.specs.declared.Limits.{Limits}
 use Rattle.shaper.specs.declared.Event.{Event}
 use Rattle.shaper.specs.declared.Event.the-variants.{Waiting, Idle, Send}
@@ -18,8 +18,11 @@ use Rattle.summary.specs.declared.Outcome.{Outcome}
 use Rattle.summary.specs.Answer.{settleOf}
 use Rattle.summary.specs.Summary.{summaryOf}
 use Rattle.record.specs.Record.{written, eventBytes, WellFormed}
+use Rattle.record.specs.declared.Header.{Header}
 use Rattle.record.specs.declared.Step.the-variants.{Stands, End, Faulty}
+use Rattle.record.specs.Step.{headerOf, stepAt, stepWithin}
 use Rattle.record.specs.Read.{Events, faulty, events}
+use Rattle.reader.specs.declared.Place.{Place}
 use Rattle.reader.specs.declared.Reader.{Reader}
 use Rattle.reader.specs.Place.{nextAt}
 use Rattle.reader.specs.Walk.{newOf, nextOf, movedOf, told, walkOf}
@@ -83,33 +86,63 @@ pub record LentPieces (l : Limits) (es : List Event) (t : Rooms) : Type 0 where
   pub permitted : (c : ℕ) → c ≤ l .hi → Permitted l c es → EndsAt (settleAnswer (roomOf t) c) (endCredit l c es)
   pub not-permitted : (c : ℕ) → c ≤ l .hi → (Permitted l c es → ⊥) → settleAnswer (roomOf t) c ≡ 0
 
+-- What stands in any bytes, as a record's.
+pub record Finding (xs : List ℕ) : Type 0 where
+  -- The header's settings, or the number of its fault.
+  pub settings : headerRefused xs 0 → headerOf xs ≡ Header.Settings (record { mtu = le 2 xs 4; lo = le 4 xs 6; hi = le 4 xs 10 })
+  pub unreadable : (n : ℕ) → 0 < n → headerRefused xs n → headerOf xs ≡ Header.Unreadable n
+  -- At a place of a record whose header bears this mtu: past the last byte the end, else an event of 6 bytes, which is one, or the number of its fault.
+  pub end : (mtu at : ℕ) → length xs ≤ at → stepAt mtu xs at ≡ End
+  pub stands : (mtu at : ℕ) → at < length xs → eventRefused mtu (drop at xs) 0
+      → stepAt mtu xs at ≡ Stands (le 2 (drop at xs) 2) (le 2 (drop at xs) 4) 1 (at + 6)
+  pub faulty : (mtu at n : ℕ) → at < length xs → 0 < n → eventRefused mtu (drop at xs) n → stepAt mtu xs at ≡ Faulty n
+  -- The same where so many more events may come: any byte after the last of them gives this number, and so does one that stands for more than may come.
+  pub none-left : (late mtu at n : ℕ) → stepAt mtu xs at ≡ Faulty n → stepWithin late 0 mtu xs at ≡ Faulty late
+  pub some-left : (late left mtu at n : ℕ) → stepAt mtu xs at ≡ Faulty n → 0 < left → stepWithin late left mtu xs at ≡ Faulty n
+  pub all-passed : (late left mtu at : ℕ) → stepAt mtu xs at ≡ End → stepWithin late left mtu xs at ≡ End
+  pub few : (late left mtu at kind number count next : ℕ) → stepAt mtu xs at ≡ Stands kind number count next → count ≤ left
+      → stepWithin late left mtu xs at ≡ Stands kind number count next
+  pub many : (late left mtu at kind number count next : ℕ) → stepAt mtu xs at ≡ Stands kind number count next → left < count
+      → stepWithin late left mtu xs at ≡ Faulty late
+  -- A reader looks at the header first, and any byte after the millionth event gives 9.
+  pub read : (l : Limits) (p : Place) → headerOf xs ≡ Header.Settings l → nextAt xs p ≡ stepWithin 9 (1000000 - p .done) (l .mtu) xs (p .at)
+  pub not-read : (n : ℕ) (p : Place) → headerOf xs ≡ Header.Unreadable n → nextAt xs p ≡ Faulty n
+
+-- A reader that stands behind these events: 14 bytes of header and 6 for each, and it knows how many they are.
+abbrev pub Behind : List Event → Reader → Type 0
+Behind es r = r .place ≡ record { at = 14 + 6 * length es; done = length es }
+
 -- A walk: what the reader tells, then the walk of the reader that moved on, over the same bytes.
 pub record Walking : Type 0 where
-  pub first : (s : RefT (List ℕ)) → newOf s .bytes ≡ s
+  pub first : (s : RefT (List ℕ)) → newOf s ≡ record { bytes = s; place = record { at = 14; done = 0 } }
   -- It moves behind an event, and stays at the end and at a fault.
-  pub moves : (r : Reader) (kind number count next : ℕ) → nextOf r ≡ Stands kind number count next → movedOf r ≡ record { bytes = r .bytes; at = r .at + 6 }
+  pub moves : (r : Reader) (kind number count next : ℕ) → nextOf r ≡ Stands kind number count next
+      → movedOf r ≡ record { bytes = r .bytes; place = record { at = r .place .at + 6; done = r .place .done + 1 } }
   pub stays : (r : Reader) → (nextOf r ≡ End) ⊎ ((m : ℕ) × (nextOf r ≡ Faulty m)) → movedOf r ≡ r
   -- Each event is told at its place, whatever stands behind it: kind 1 a tick that waits, 2 an idle one, 3 a send.
   pub told-there : (r : Reader) (l : Limits) (es : List Event) (e : Event) (rest : List ℕ) → WellFormed l es → Valid l e → length es < 1000000
-      → now (r .bytes) ≡ written l es ++ (eventBytes e ++ rest) → r .at ≡ 14 + 6 * length es → nextOf r ≡ Stands (kindOf e) (numberOf e) 1 (14 + 6 * suc (length es))
+      → now (r .bytes) ≡ written l es ++ (eventBytes e ++ rest) → Behind es r → nextOf r ≡ Stands (kindOf e) (numberOf e) 1 (14 + 6 * suc (length es))
   -- Behind the last event is the end; a fault of the header is found everywhere, one of an event at its place, and any byte after the millionth event gives 9.
-  pub at-end : (r : Reader) (l : Limits) (es : List Event) → WellFormed l es → now (r .bytes) ≡ written l es → r .at ≡ 14 + 6 * length es → nextOf r ≡ End
+  pub at-end : (r : Reader) (l : Limits) (es : List Event) → WellFormed l es → now (r .bytes) ≡ written l es → Behind es r → nextOf r ≡ End
   pub at-header : (r : Reader) (n : ℕ) → 0 < n → headerRefused (now (r .bytes)) n → nextOf r ≡ Faulty n
   pub at-event : (r : Reader) (l : Limits) (es : List Event) (rest : List ℕ) (n : ℕ) → WellFormed l es → length es < 1000000 → 0 < length rest
-      → now (r .bytes) ≡ written l es ++ rest → r .at ≡ 14 + 6 * length es → 0 < n → eventRefused (l .mtu) rest n → nextOf r ≡ Faulty n
+      → now (r .bytes) ≡ written l es ++ rest → Behind es r → 0 < n → eventRefused (l .mtu) rest n → nextOf r ≡ Faulty n
   pub at-million : (r : Reader) (l : Limits) (es : List Event) (rest : List ℕ) → WellFormed l es → length es ≡ 1000000 → 0 < length rest
-      → now (r .bytes) ≡ written l es ++ rest → r .at ≡ 14 + 6 * length es → nextOf r ≡ Faulty 9
-  pub place : (r : Reader) → nextOf r ≡ nextAt (now (r .bytes)) (r .at)
+      → now (r .bytes) ≡ written l es ++ rest → Behind es r → nextOf r ≡ Faulty 9
+  pub place : (r : Reader) → nextOf r ≡ nextAt (now (r .bytes)) (r .place)
   pub kinds : (x : ℕ) → (kindOf (Waiting x) ≡ 1) × (kindOf (Idle x) ≡ 2) × (kindOf (Send x) ≡ 3)
   pub counted : (x : ℕ) → (numberOf (Waiting x) ≡ x) × (numberOf (Idle x) ≡ x) × (numberOf (Send x) ≡ x)
   pub no-turn : (r : Reader) → walkOf 0 r ≡ events []
   pub a-turn : (n : ℕ) (r : Reader) → walkOf (suc n) r ≡ told (nextOf r) (walkOf n (movedOf r))
-  -- An event of kind 1 is a tick that waits, of kind 2 an idle one, of kind 3 a send; it stands before those behind it.
-  pub waiting : (number count next : ℕ) (es : List Event) → told (Stands 1 number count next) (events es) ≡ events (Waiting number ∷ es)
-  pub idle : (number count next : ℕ) (es : List Event) → told (Stands 2 number count next) (events es) ≡ events (Idle number ∷ es)
-  pub send : (number count next : ℕ) (es : List Event) → told (Stands 3 number count next) (events es) ≡ events (Send number ∷ es)
+  -- An event of kind 1 is a tick that waits, of kind 2 an idle one, of kind 3 a send; it stands before those behind it, as many times as the count says.
+  pub waiting : (number next : ℕ) (es : List Event) → told (Stands 1 number 1 next) (events es) ≡ events (Waiting number ∷ es)
+  pub idle : (number next : ℕ) (es : List Event) → told (Stands 2 number 1 next) (events es) ≡ events (Idle number ∷ es)
+  pub send : (number next : ℕ) (es : List Event) → told (Stands 3 number 1 next) (events es) ≡ events (Send number ∷ es)
+  pub none : (kind number next : ℕ) (rest : Events) → told (Stands kind number 0 next) rest ≡ rest
+  pub again : (kind number count next : ℕ) (rest : Events)
+      → told (Stands kind number (suc count) next) rest ≡ told (Stands kind number 1 next) (told (Stands kind number count next) rest)
   -- A fault behind it counts, the end and a fault end the walk.
-  pub behind : (kind number count next m : ℕ) → told (Stands kind number count next) (faulty m) ≡ faulty m
+  pub behind : (kind number next m : ℕ) → told (Stands kind number 1 next) (faulty m) ≡ faulty m
   pub end : (rest : Events) → told End rest ≡ events []
   pub fault : (m : ℕ) (rest : Events) → told (Faulty m) rest ≡ faulty m
 
@@ -130,6 +163,7 @@ pub record Condition3 : Type 0 where
   pub walks-faults : (s : RefT (List ℕ)) (n : ℕ) → Bytes (now s) → 1000000 ≤ n → (m : ℕ) → 0 < m
       → (walkOf (suc n) (newOf s) ≡ faulty m) ↔ RecordRefused (now s) m
   pub walking : Walking
+  pub finding : (xs : List ℕ) → Finding xs
   -- It is so over lent bytes too.
   pub lent : (l : Limits) (es : List Event) → WellFormed l es → (room : List ℕ) → length room ≡ sheetLength → LentAccount l es room
   pub lent-pieces : (l : Limits) (es : List Event) → WellFormed l es → (t : Rooms) → CutsRooms l es t → LentPieces l es t

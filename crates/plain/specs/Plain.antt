@@ -1,7 +1,7 @@
 -- Summaries by natural numbers alone: the ceiling as its depth below hiLimit, which no event raises above it, and the gain as accrued and sent.
 -- The paper's own summary, whose ceiling is signed, stands in the crate `summary`; the laws are proved here, since `omega` reads no signed number.
 -- Assumes nothing.
-use Prim.Native.Nat.{ℕ, _+_, _-_, _≤_, min, max}
+use Prim.Native.Nat.{ℕ, _+_, _-_, min, max}
 use mathlib.Core.Bool.{cond}
 use mathlib.Core.List.{List, [], _∷_}
 use lib.Dec.{ltb}

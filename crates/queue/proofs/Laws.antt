@@ -11,17 +11,18 @@ use borrow.Author.Tests.{ltb-true, ltb-false, lt-ltb, le-ltb}
 use lib.ListN.{length, getD, set, length-set, getD-replicate}
 use lib.Seq.{getD-set-same, getD-set-other}
 use Rattle.decide.specs.Test.{split, _≤?_, _<?_}
+use Rattle.queue.specs.declared.Bounds.{Bounds}
 use Rattle.queue.specs.declared.Frame.{Frame}
 use Rattle.queue.specs.declared.Queue.{Queue}
-use Rattle.queue.specs.Frame.{FrameOk, wordOf}
+use Rattle.queue.specs.Frame.{FrameOk, BoundsOk, wordOf}
 use Rattle.queue.specs.Queue.{framesFrom, framesOf, sizes, emptyQueue, pushed, firstFrame, taken, spaceOf, holdsFrame}
 use Rattle.queue.specs.Range.{AllOk, QueueOk}
 use Rattle.queue.proofs.Word.{word-frame, frame-fits}
 use Rattle.queue.proofs.Ring.{from-mod, from-set, from-snoc, from-length, sizes-append}
 
-all-snoc : (mtu : ℕ) (fs : List Frame) (f : Frame) → AllOk mtu fs → FrameOk mtu f → AllOk mtu (fs ++ (f ∷ []))
-all-snoc mtu [] f a r = (r, tt)
-all-snoc mtu (g ∷ fs) f a r = (a .0, all-snoc mtu fs f (a .1) r)
+all-snoc : (bounds : Bounds) (fs : List Frame) (f : Frame) → AllOk bounds fs → FrameOk bounds f → AllOk bounds (fs ++ (f ∷ []))
+all-snoc bounds [] f a r = (r, tt)
+all-snoc bounds (g ∷ fs) f a r = (a .0, all-snoc bounds fs f (a .1) r)
 
 -- less than a whole round leads to another slot
 off : (h k : ℕ) → 0 < k → k < 128 → (h + k) % 128 ≡ h % 128 → ⊥
@@ -45,9 +46,9 @@ pub empty-frames : framesOf emptyQueue ≡ []
 unfolding framesOf framesFrom emptyQueue
 empty-frames = refl
 
-pub empty-ok : (mtu capacity : ℕ) → QueueOk mtu capacity emptyQueue
+pub empty-ok : (bounds : Bounds) (capacity : ℕ) → QueueOk bounds capacity emptyQueue
 unfolding framesOf framesFrom sizes emptyQueue
-empty-ok mtu capacity =
+empty-ok bounds capacity =
     record {
       slots = refl;
       head = omega arith;
@@ -58,7 +59,7 @@ empty-ok mtu capacity =
       most = omega arith;
     }
 
-module _ {mtu capacity : ℕ} {q : Queue} (ok : QueueOk mtu capacity q) where
+module _ {bounds : Bounds} {capacity : ℕ} {q : Queue} (ok : QueueOk bounds capacity q) where
   -- ---- what a queue in range holds
 
   -- bytes held are the sum of the sizes
@@ -88,7 +89,7 @@ module _ {mtu capacity : ℕ} {q : Queue} (ok : QueueOk mtu capacity q) where
   fits-space size l p = omega (arith, space-left q capacity l)
 
   -- where a whole frame does not fit there is one in the queue
-  pub tight-holds : mtu ≤ capacity → spaceOf q capacity < mtu → holdsFrame q ≡ true
+  pub tight-holds : bounds .mtu ≤ capacity → spaceOf q capacity < bounds .mtu → holdsFrame q ≡ true
   unfolding framesOf framesFrom sizes
   tight-holds m p =
       ⊎-elim
@@ -114,7 +115,7 @@ module _ {mtu capacity : ℕ} {q : Queue} (ok : QueueOk mtu capacity q) where
         ap (framesFrom (q .slots) (q .head)) e
         ∙ rw (from-set (q .slots) (q .head % 128) 0 ((q .head + 1) % 128) (q .count - 1) (λ j l e. omega (arith, ok .count)), from-mod (q .slots) (suc (q .head)) ((q .head + 1) % 128) (q .count - 1) (omega arith))
 
-    pub first-ok : FrameOk mtu (firstFrame q)
+    pub first-ok : FrameOk bounds (firstFrame q)
     first-ok = (rw take-first at (ok .frames)) .0
 
     -- the bytes held are the first frame's and the others'
@@ -137,7 +138,7 @@ module _ {mtu capacity : ℕ} {q : Queue} (ok : QueueOk mtu capacity q) where
         ∙ ok .rest (j + 1) (omega arith) (omega arith))
         (split (127 ≤? j))
 
-    pub take-ok : QueueOk mtu capacity (taken q)
+    pub take-ok : QueueOk bounds capacity (taken q)
     unfolding taken
     take-ok =
         record {
@@ -159,7 +160,7 @@ module _ {mtu capacity : ℕ} {q : Queue} (ok : QueueOk mtu capacity q) where
 
   -- ---- pushing
 
-  module _ (f : Frame) (large : mtu ≤ 9216) (good : FrameOk mtu f) (fits : f .size ≤ spaceOf q capacity) where
+  module _ (f : Frame) (large : BoundsOk bounds) (good : FrameOk bounds f) (fits : f .size ≤ spaceOf q capacity) where
     room : (q .count < 128) × (q .held + f .size ≤ capacity)
     room = space-fits (f .size) (omega (arith, good .least)) fits
 
@@ -173,7 +174,7 @@ module _ {mtu capacity : ℕ} {q : Queue} (ok : QueueOk mtu capacity q) where
         ∙ from-snoc (set (q .slots) at (wordOf f)) (q .head) (q .count)
         ∙ rw (getD-set-same (q .slots) at (wordOf f) 0 (omega (arith, ok .slots)), from-set (q .slots) at (wordOf f) (q .head) (q .count) (λ j l e. omega arith), word-frame f (frame-fits large good))
 
-    pub push-ok : QueueOk mtu capacity (pushed q f)
+    pub push-ok : QueueOk bounds capacity (pushed q f)
     unfolding pushed sizes
     push-ok =
         let p = room .0 in
@@ -182,7 +183,7 @@ module _ {mtu capacity : ℕ} {q : Queue} (ok : QueueOk mtu capacity q) where
           slots = length-set (q .slots) ((q .head + q .count) % 128) (wordOf f) ∙ ok .slots;
           head = h;
           count = omega arith;
-          frames = rw push-appends (all-snoc mtu (framesOf q) f (ok .frames) good);
+          frames = rw push-appends (all-snoc bounds (framesOf q) f (ok .frames) good);
           rest = λ j n l. getD-set-other (q .slots) ((q .head + q .count) % 128) ((q .head + j) % 128) (wordOf f) 0 (λ x. omega arith) ∙ ok .rest j (omega arith) l;
           held = omega (arith, ap sizes push-appends, sizes-append (framesOf q) (f ∷ []), ok .held);
           most = room .1;

@@ -7,10 +7,11 @@ use native.Mathlib.Nat.{add-zero}
 use native.Mathlib.Omega.{arith}
 use lib.ListN.{length, getD, set}
 use lib.Seq.{getD-set-other}
+use Rattle.queue.specs.declared.Bounds.{Bounds}
 use Rattle.queue.specs.declared.Frame.{Frame}
 use Rattle.queue.specs.Frame.{frameOf, FrameOk}
 use Rattle.queue.specs.Queue.{framesFrom, sizes}
-use Rattle.queue.specs.Range.{AllOk, bytesIn}
+use Rattle.queue.specs.Range.{AllOk}
 
 -- the head counts by its remainder alone
 pub from-mod : (s : List ℕ) (h k n : ℕ) → h % 128 ≡ k % 128 → framesFrom s h n ≡ framesFrom s k n
@@ -77,15 +78,15 @@ held-sum s h n p z =
     omega (arith, a, sizes-append (framesFrom s h n) (framesFrom s (h + n) (128 - n)), zero-sizes s (h + n) (128 - n) step)
 
 -- the frames one by one, and all
-pub all-in : (mtu : ℕ) (s : List ℕ) (h n : ℕ) → ((j : ℕ) → j < n → FrameOk mtu (frameOf (getD s ((h + j) % 128) 0))) → AllOk mtu (framesFrom s h n)
+pub all-in : (bounds : Bounds) (s : List ℕ) (h n : ℕ) → ((j : ℕ) → j < n → FrameOk bounds (frameOf (getD s ((h + j) % 128) 0))) → AllOk bounds (framesFrom s h n)
 unfolding framesFrom
-all-in mtu s h zero f = tt
-all-in mtu s h (suc n) f =
+all-in bounds s h zero f = tt
+all-in bounds s h (suc n) f =
     let e : h % 128 ≡ (h + 0) % 128 = omega arith in
-    (rw e (f 0 (omega arith)), all-in mtu s (suc h) n (λ j l. let k : (suc h + j) % 128 ≡ (h + suc j) % 128 = omega arith in rw k (f (suc j) (omega arith))))
+    (rw e (f 0 (omega arith)), all-in bounds s (suc h) n (λ j l. let k : (suc h + j) % 128 ≡ (h + suc j) % 128 = omega arith in rw k (f (suc j) (omega arith))))
 
-pub in-all : (mtu : ℕ) (s : List ℕ) (h n : ℕ) → AllOk mtu (framesFrom s h n) → (j : ℕ) → j < n → FrameOk mtu (frameOf (getD s ((h + j) % 128) 0))
+pub in-all : (bounds : Bounds) (s : List ℕ) (h n : ℕ) → AllOk bounds (framesFrom s h n) → (j : ℕ) → j < n → FrameOk bounds (frameOf (getD s ((h + j) % 128) 0))
 unfolding framesFrom
-in-all mtu s h zero a j l = absurd (omega arith)
-in-all mtu s h (suc n) a zero l = let e : (h + 0) % 128 ≡ h % 128 = omega arith in rw e (a .0)
-in-all mtu s h (suc n) a (suc j) l = let k : (h + suc j) % 128 ≡ (suc h + j) % 128 = omega arith in rw k (in-all mtu s (suc h) n (a .1) j (omega arith))
+in-all bounds s h zero a j l = absurd (omega arith)
+in-all bounds s h (suc n) a zero l = let e : (h + 0) % 128 ≡ h % 128 = omega arith in rw e (a .0)
+in-all bounds s h (suc n) a (suc j) l = let k : (h + suc j) % 128 ≡ (suc h + j) % 128 = omega arith in rw k (in-all bounds s (suc h) n (a .1) j (omega arith))

@@ -1,15 +1,16 @@
 -- A frame and its word: each is read back from the other, since the parts of a word do not overlap; and the tests of both say the same.
 -- Assumes nothing.
 use Prim.Native.Nat.{ℕ, _+_, _*_, _/_, _%_, _<_, _≤_}
-use mathlib.Core.Path.{_≡_, refl, ap, sym, _∙_}
+use mathlib.Core.Path.{_≡_, ap, _∙_}
 use mathlib.Core.Logic.{⊎-elim, inl, inr}
-use mathlib.Core.Bool.{true, false, _&&_, _||_}
+use mathlib.Core.Bool.{_&&_, _||_}
 use native.Mathlib.Omega.{arith}
 use lib.Dec.{leb}
 use Rattle.decide.specs.Test.{test, Holds, split, _≤?_, _∧?_, _∨?_}
 use Rattle.decide.proofs.Tests.{same-test}
+use Rattle.queue.specs.declared.Bounds.{Bounds}
 use Rattle.queue.specs.declared.Frame.{Frame}
-use Rattle.queue.specs.Frame.{frameOk, FrameOk, wordOf, frameOf, FrameFits}
+use Rattle.queue.specs.Frame.{frameOk, FrameOk, BoundsOk, wordOf, frameOf, FrameFits}
 
 -- ---- the codec
 
@@ -51,25 +52,25 @@ frame-word w h =
     rw (a, b, c, d) (joined w)
 
 -- the word of a frame in range is not that of an empty slot
-pub word-not-empty : {mtu : ℕ} {f : Frame} → mtu ≤ 9216 → FrameOk mtu f → 0 < wordOf f
-word-not-empty m r = omega (arith, r .least, r .most)
+pub word-not-empty : {bounds : Bounds} {f : Frame} → BoundsOk bounds → FrameOk bounds f → 0 < wordOf f
+word-not-empty m r = omega (arith, r .least, r .most, m .mtu-most)
 
 -- ---- the range
 
 -- the test of a frame as facts, and back
-pub frame-facts : (mtu : ℕ) (f : Frame) → Holds (frameOk mtu f) → FrameOk mtu f
-frame-facts mtu f h =
+pub frame-facts : (bounds : Bounds) (f : Frame) → Holds (frameOk bounds f) → FrameOk bounds f
+frame-facts bounds f h =
     record { least = h .0 .0; most = h .0 .1; hops = h .1 .0; class = h .1 .1 .0; mark = h .1 .1 .1 .0; marked = h .1 .1 .1 .1 }
 
-pub frame-holds : (mtu : ℕ) (f : Frame) → FrameOk mtu f → Holds (frameOk mtu f)
-frame-holds mtu f r = ((r .least, r .most), (r .hops, (r .class, (r .mark, r .marked))))
+pub frame-holds : (bounds : Bounds) (f : Frame) → FrameOk bounds f → Holds (frameOk bounds f)
+frame-holds bounds f r = ((r .least, r .most), (r .hops, (r .class, (r .mark, r .marked))))
 
 -- a frame in range fits a word
-pub frame-fits : {mtu : ℕ} {f : Frame} → mtu ≤ 9216 → FrameOk mtu f → FrameFits f
-frame-fits m r = record { size = omega (arith, r .most); hops = omega (arith, r .hops); class = omega (arith, r .class); mark = omega (arith, r .mark) }
+pub frame-fits : {bounds : Bounds} {f : Frame} → BoundsOk bounds → FrameOk bounds f → FrameFits f
+frame-fits m r = record { size = omega (arith, r .most, m .mtu-most); hops = omega (arith, r .hops); class = omega (arith, r .class); mark = omega (arith, r .mark) }
 
 -- only B and C may be marked
-pub a-unmarked : {mtu : ℕ} {f : Frame} → FrameOk mtu f → f .class ≡ 0 → f .mark ≡ 0
+pub a-unmarked : {bounds : Bounds} {f : Frame} → FrameOk bounds f → f .class ≡ 0 → f .mark ≡ 0
 a-unmarked r e = omega (arith, r .marked)
 
 -- class and mark tested as one number: 0, 1 or 2 without the mark, 5 or 6 with it

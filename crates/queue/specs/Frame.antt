@@ -3,6 +3,7 @@
 use Prim.Native.Nat.{ℕ, _+_, _*_, _/_, _%_, _≤_, _<_}
 use Rattle.decide.specs.Test.{Test, Holds, _≤?_, _∧?_}
 use Rattle.decide.specs.Size.{sizeOk}
+use Rattle.queue.specs.declared.Bounds.{Bounds}
 use Rattle.queue.specs.declared.Frame.{Frame}
 
 -- Hops 1 to 63.
@@ -10,21 +11,25 @@ abbrev pub hopsOk : ℕ → Test
 hopsOk hops = 1 ≤? hops ∧? hops ≤? 63
 
 -- Frame size 16 to mtu; hops 1 to 63; class A, B or C, which are 0, 1 and 2; only B and C may be marked fairness eligible: A, being 0, has mark 0.
-abbrev pub frameOk : ℕ → Frame → Test
-frameOk mtu f =
-    sizeOk (f .size) mtu
+abbrev pub frameOk : Bounds → Frame → Test
+frameOk b f =
+    sizeOk (f .size) (b .mtu)
     ∧? hopsOk (f .hops)
     ∧? f .class ≤? 2
     ∧? f .mark ≤? 1 ∧? f .mark ≤? f .class
 
 -- the same as facts with names
-pub record FrameOk (mtu : ℕ) (f : Frame) : Type 0 where
+pub record FrameOk (b : Bounds) (f : Frame) : Type 0 where
   pub least : 16 ≤ f .size
-  pub most : f .size ≤ mtu
+  pub most : f .size ≤ b .mtu
   pub hops : Holds (hopsOk (f .hops))
   pub class : f .class ≤ 2
   pub mark : f .mark ≤ 1
   pub marked : f .mark ≤ f .class
+
+-- what frames may be held to: mtu at most 9,216
+pub record BoundsOk (b : Bounds) : Type 0 where
+  pub mtu-most : b .mtu ≤ 9216
 
 -- The word of a frame: size in bits 0 to 13, hops in 14 to 19, class in 20 and 21, the mark in 22.
 abbrev pub wordOf : Frame → ℕ

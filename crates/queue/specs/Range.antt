@@ -7,6 +7,7 @@ use mathlib.Core.Bool.{Bool, cond}
 use lib.ListN.{length, getD}
 use lib.Dec.{ltb}
 use Rattle.decide.specs.Test.{Test, _≤?_, _<?_, _≡?_, _∧?_}
+use Rattle.queue.specs.declared.Bounds.{Bounds}
 use Rattle.queue.specs.declared.Frame.{Frame}
 use Rattle.queue.specs.declared.Queue.{Queue}
 use Rattle.queue.specs.Frame.{frameOf, frameOk, FrameOk}
@@ -15,17 +16,17 @@ use Rattle.queue.specs.Queue.{framesFrom, framesOf, sizes}
 -- ---- as facts
 
 -- every frame of the list is in range
-abbrev pub AllOk : ℕ → List Frame → Type 0
-AllOk mtu [] = Unit {0}
-AllOk mtu (f ∷ fs) = FrameOk mtu f × AllOk mtu fs
+abbrev pub AllOk : Bounds → List Frame → Type 0
+AllOk b [] = Unit {0}
+AllOk b (f ∷ fs) = FrameOk b f × AllOk b fs
 
 -- A lent station is in range if its .. frames, slots and bytes held (the sizes' sum, at most the capacity) are. A slot outside head .. head + count is
 -- empty, which is 0.
-pub record QueueOk (mtu capacity : ℕ) (q : Queue) : Type 0 where
+pub record QueueOk (b : Bounds) (capacity : ℕ) (q : Queue) : Type 0 where
   pub slots : length (q .slots) ≡ 128
   pub head : q .head < 128
   pub count : q .count ≤ 128
-  pub frames : AllOk mtu (framesOf q)
+  pub frames : AllOk b (framesOf q)
   pub rest : (j : ℕ) → q .count ≤ j → j < 128 → getD (q .slots) ((q .head + j) % 128) 0 ≡ 0
   pub held : q .held ≡ sizes (framesOf q)
   pub most : q .held ≤ capacity
@@ -37,23 +38,31 @@ unfoldable pub occupied : ℕ → ℕ → ℕ → Bool
 occupied h n i = ltb ((128 - h + i) % 128) n
 
 -- an occupied slot holds a frame in range, another 0
-unfoldable pub slotOk : ℕ → Bool → ℕ → Test
-slotOk mtu o w = cond o (frameOk mtu (frameOf w)) (w ≡? 0)
+unfoldable pub slotOk : Bounds → Bool → ℕ → Test
+slotOk b o w = cond o (frameOk b (frameOf w)) (w ≡? 0)
+
+-- a test at each of the k numbers from i on
+unfoldable pub eachFrom : (ℕ → Test) → ℕ → ℕ → Test
+eachFrom at i zero = 0 ≤? 0
+eachFrom at i (suc k) = at i ∧? eachFrom at (suc i) k
 
 -- the k slots from slot i on are so
-unfoldable pub slotsOk : ℕ → ℕ → ℕ → List ℕ → ℕ → ℕ → Test
-slotsOk mtu h n s i zero = 0 ≤? 0
-slotsOk mtu h n s i (suc k) = slotOk mtu (occupied h n i) (getD s i 0) ∧? slotsOk mtu h n s (suc i) k
+abbrev pub slotsOk : Bounds → ℕ → ℕ → List ℕ → ℕ → ℕ → Test
+slotsOk b h n s i k = eachFrom (λ j. slotOk b (occupied h n j) (getD s j 0)) i k
+
+-- they are empty
+abbrev pub emptyOk : List ℕ → ℕ → ℕ → Test
+emptyOk s i k = eachFrom (λ j. getD s j 0 ≡? 0) i k
 
 -- the bytes in all 128 slots, of which an empty one has none
 abbrev pub bytesIn : List ℕ → ℕ
 bytesIn s = sizes (framesFrom s 0 128)
 
-unfoldable pub queueOk : ℕ → ℕ → Queue → Test
-queueOk mtu capacity q =
+unfoldable pub queueOk : Bounds → ℕ → Queue → Test
+queueOk b capacity q =
     length (q .slots) ≡? 128
     ∧? q .head <? 128
     ∧? q .count ≤? 128
-    ∧? slotsOk mtu (q .head) (q .count) (q .slots) 0 128
+    ∧? slotsOk b (q .head) (q .count) (q .slots) 0 128
     ∧? q .held ≡? bytesIn (q .slots)
     ∧? q .held ≤? capacity

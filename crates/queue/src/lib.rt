@@ -5,7 +5,12 @@ ghost use Rattle.decide.specs.Test.{test};
 ghost use Rattle.queue.specs.Frame.{hopsOk, frameOk, wordOf, frameOf};
 ghost use Rattle.queue.specs.Queue.{emptyQueue, pushed, firstFrame, takeOf, spaceOf, holdsFrame};
 ghost use Rattle.queue.specs.Front.{frontOf, fronted};
-ghost use Rattle.queue.specs.Range.{slotOk, slotsOk, queueOk};
+ghost use Rattle.queue.specs.Range.{slotOk, emptyOk, queueOk};
+
+// What frames are held to: their largest size.
+pub struct Bounds {
+    pub mtu: u32,
+}
 
 // A frame. Its class is A 0, B 1 or C 2; its mark is 1 where it is fairness eligible, else 0.
 pub struct Frame {
@@ -48,10 +53,11 @@ pub fn hops_ok(hops: u32) -> bool
 }
 
 impl Frame {
-    // Whether the frame is in its range where frames are at most mtu bytes.
-    pub fn in_range(self, mtu: u32) -> bool
-        ensures { λ r. ⌜ r ≡ test (frameOk mtu self) ⌝ }
+    // Whether the frame is in its range.
+    pub fn in_range(self, bounds: Bounds) -> bool
+        ensures { λ r. ⌜ r ≡ test (frameOk bounds self) ⌝ }
     {
+        let mtu = bounds.mtu;
         let hops = hops_ok(self.hops);
         (16 <= self.size)
             & (self.size <= mtu)
@@ -184,18 +190,18 @@ impl Queue {
     }
 
     // Whether the queue is in its range: its slots, its frames, and its bytes, which are at most the capacity.
-    pub fn in_range(self, mtu: u32, capacity: u32) -> bool
-        ensures { λ r. ⌜ r ≡ test (queueOk mtu capacity self) ⌝ }
+    pub fn in_range(self, bounds: Bounds, capacity: u32) -> bool
+        ensures { λ r. ⌜ r ≡ test (queueOk bounds capacity self) ⌝ }
     {
         if self.count == 0 {
             return (self.head < 128) & self.all_empty() & (self.held == 0);
         }
-        self.scan(mtu, capacity)
+        self.scan(bounds, capacity)
     }
 
     // Whether the slots are those of a queue that holds no frame.
     fn all_empty(self) -> bool
-        ensures { λ r. ⌜ r ≡ test (slotsOk 0 0 0 (self .slots) 0 128) ⌝ }
+        ensures { λ r. ⌜ r ≡ test (emptyOk (self .slots) 0 128) ⌝ }
     {
         let mut good = true;
         let mut i: usize = 0;
@@ -207,8 +213,8 @@ impl Queue {
     }
 
     // Whether the queue is in range, by one loop without a branch.
-    fn scan(self, mtu: u32, capacity: u32) -> bool
-        ensures { λ r. ⌜ r ≡ test (queueOk mtu capacity self) ⌝ }
+    fn scan(self, bounds: Bounds, capacity: u32) -> bool
+        ensures { λ r. ⌜ r ≡ test (queueOk bounds capacity self) ⌝ }
     {
         let head = self.head;
         let count = self.count;
@@ -222,7 +228,7 @@ impl Queue {
         let mut i: usize = 0;
         while i < 128 {
             let w = self.slots[i];
-            good = good & slot_ok(mtu, turn % 128 < count, w);
+            good = good & slot_ok(bounds, turn % 128 < count, w);
             sum += w % 16384;
             turn += 1;
             i += 1;
@@ -232,17 +238,18 @@ impl Queue {
 }
 
 // Whether a slot is in range: an occupied one holds a frame in range, another nothing.
-fn slot_ok(mtu: u32, occupied: bool, w: u32) -> bool
-    ensures { λ r. ⌜ r ≡ test (slotOk mtu occupied w) ⌝ }
+fn slot_ok(bounds: Bounds, occupied: bool, w: u32) -> bool
+    ensures { λ r. ⌜ r ≡ test (slotOk bounds occupied w) ⌝ }
 {
-    (occupied & word_ok(mtu, w)) | (!occupied & (w == EMPTY))
+    (occupied & word_ok(bounds, w)) | (!occupied & (w == EMPTY))
 }
 
 // Whether the frame of a word is in range. Its class and mark are tested as one number, which is quicker than two: 0, 1 or 2 without the mark, 5 or 6
 // with it.
-fn word_ok(mtu: u32, w: u32) -> bool
-    ensures { λ r. ⌜ r ≡ test (frameOk mtu (frameOf w)) ⌝ }
+fn word_ok(bounds: Bounds, w: u32) -> bool
+    ensures { λ r. ⌜ r ≡ test (frameOk bounds (frameOf w)) ⌝ }
 {
+    let mtu = bounds.mtu;
     let size = w % 16384;
     let hops = hops_ok(w / 16384 % 64);
     let kind = w / 1048576;

@@ -27,8 +27,9 @@ use Rattle.record.proofs.Rows.{event-stands}
 use Rattle.record.proofs.Steps.{step-faulty}
 use Rattle.record.proofs.Written.{length-written, event-fits, header-back}
 use Rattle.record.proofs.Refused.{event-refused-exactly}
+use Rattle.reader.specs.declared.Place.{Place}
 use Rattle.reader.specs.Place.{nextAt}
-use Rattle.reader.proofs.Rows.{next-over, next-within, next-end}
+use Rattle.reader.proofs.Rows.{next-item, next-faulty, next-over, next-end}
 
 -- ---- behind any bytes
 
@@ -58,8 +59,8 @@ fault-there mtu p q at n d e =
 -- ---- behind the events of a written record
 
 -- the place behind so many events
-abbrev pub place : ℕ → ℕ
-place n = 14 + 6 * n
+abbrev pub placeAt : ℕ → Place
+placeAt n = record { at = 14 + 6 * n; done = n }
 
 module _ (l : Limits) (es : List Event) (w : WellFormed l es) where
   headed : (q : List ℕ) → headerOf (written l es ++ q) ≡ Settings l
@@ -67,23 +68,24 @@ module _ (l : Limits) (es : List Event) (w : WellFormed l es) where
 
   -- Each event is found at its place, whatever stands behind it.
   pub found-event : (e : Event) (q : List ℕ) → Valid l e → length es < mostEvents →
-      nextAt (written l es ++ (eventBytes e ++ q)) (place (length es)) ≡ Step.Stands (kindOf e) (numberOf e) 1 (place (suc (length es)))
+      nextAt (written l es ++ (eventBytes e ++ q)) (placeAt (length es)) ≡ Step.Stands (kindOf e) (numberOf e) 1 (placeAt (suc (length es)) .at)
   found-event e q v few =
-      next-within (written l es ++ (eventBytes e ++ q)) (place (length es)) l (headed (eventBytes e ++ q)) (omega arith)
-      ∙ event-there l e (written l es) q (place (length es)) (w .settings) v (length-written l es)
+      let s = event-there l e (written l es) q (placeAt (length es) .at) (w .settings) v (length-written l es) in
+      next-item (written l es ++ (eventBytes e ++ q)) (placeAt (length es)) l (headed (eventBytes e ++ q)) (kindOf e) (numberOf e) 1 (placeAt (length es) .at + 6) s (omega arith)
       ∙ ap (Step.Stands (kindOf e) (numberOf e) 1) (omega arith)
 
   -- The end is found behind the last.
-  pub found-end : nextAt (written l es) (place (length es)) ≡ End
-  found-end = next-end (written l es) (place (length es)) l (header-back l (w .settings) (eventsBytes es)) (omega (arith, length-written l es))
+  pub found-end : nextAt (written l es) (placeAt (length es)) ≡ End
+  found-end = next-end (written l es) (placeAt (length es)) l (header-back l (w .settings) (eventsBytes es)) (omega (arith, length-written l es))
 
   -- A fault is found behind the events before it,
-  pub found-faulty : (q : List ℕ) (n : ℕ) → length es < mostEvents → stepAt (l .mtu) q 0 ≡ Faulty n → nextAt (written l es ++ q) (place (length es)) ≡ Faulty n
+  pub found-faulty : (q : List ℕ) (n : ℕ) → length es < mostEvents → stepAt (l .mtu) q 0 ≡ Faulty n → nextAt (written l es ++ q) (placeAt (length es)) ≡ Faulty n
   found-faulty q n few e =
-      next-within (written l es ++ q) (place (length es)) l (headed q) (omega arith)
-      ∙ fault-there (l .mtu) (written l es) q (place (length es)) n (length-written l es) e
+      next-faulty (written l es ++ q) (placeAt (length es)) l (headed q) n
+      (fault-there (l .mtu) (written l es) q (placeAt (length es) .at) n (length-written l es) e)
+      few
 
   -- and any byte after the millionth event gives 9.
-  pub found-over : (q : List ℕ) → length es ≡ mostEvents → 0 < length q → nextAt (written l es ++ q) (place (length es)) ≡ Faulty 9
+  pub found-over : (q : List ℕ) → length es ≡ mostEvents → 0 < length q → nextAt (written l es ++ q) (placeAt (length es)) ≡ Faulty 9
   found-over q e h =
-      next-over (written l es ++ q) (place (length es)) l (headed q) (omega arith) (omega (arith, length-append (written l es) q, length-written l es))
+      next-over (written l es ++ q) (placeAt (length es)) l (headed q) (omega arith) (omega (arith, length-append (written l es) q, length-written l es))

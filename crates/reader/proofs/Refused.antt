@@ -7,36 +7,51 @@ use mathlib.Core.Path.{_≡_, refl, sym, ap, _∙_}
 use native.Mathlib.Omega.{arith}
 use lib.ListN.{length}
 use Rattle.decide.proofs.Cases.{by-cases, le-or}
+use Rattle.shaper.specs.Limits.{mostEvents}
 use Rattle.record.specs.declared.Header.{Header}
 use Rattle.record.specs.declared.Header.the-variants.{Settings, Unreadable}
-use Rattle.record.specs.declared.Step.the-variants.{Faulty}
-use Rattle.record.specs.Step.{headerOf, stepNumber}
+use Rattle.record.specs.declared.Step.{Step}
+use Rattle.record.specs.declared.Step.the-variants.{Stands, End, Faulty}
+use Rattle.record.specs.Step.{headerOf, stepAt, stepNumber}
 use Rattle.record.proofs.Refused.{header-refused-exactly, event-refused-exactly}
 use Rattle.record.proofs.Answers.{step-refuses}
-use Rattle.reader.specs.Place.{limit, nextAt, Wrong, in-header, too-many, has-fault}
-use Rattle.reader.proofs.Rows.{next-unreadable, next-over, next-within, next-end}
+use Rattle.record.proofs.Steps.{step-stands, step-end, step-faulty}
+use Rattle.reader.specs.declared.Place.{Place}
+use Rattle.reader.specs.Place.{nextAt, Wrong, in-header, too-many, has-fault}
+use Rattle.reader.proofs.Rows.{next-unreadable, next-item, next-faulty, next-over, next-end}
 
-module _ (xs : List ℕ) (at n : ℕ) (p : 0 < n) where
-  wrong : (h : Header) → headerOf xs ≡ h → nextAt xs at ≡ Faulty n → Wrong xs at n
+module _ (xs : List ℕ) (p : Place) (n : ℕ) (some : 0 < n) where
+  wrong : (h : Header) → headerOf xs ≡ h → nextAt xs p ≡ Faulty n → Wrong xs p n
   wrong (Unreadable m) e f =
-      let g = next-unreadable xs at m e in
+      let g = next-unreadable xs p m e in
       let s : m ≡ n = cc in
-      in-header (header-refused-exactly xs n p .0 (e ∙ ap Unreadable s))
-  wrong (Settings l) e f =
-      by-cases (le-or (length xs) at)
-      (λ k. let g = next-end xs at l e k in let z : _≡_ {A = ℕ} 0 1 = cc in absurd (omega arith))
-      (λ k. by-cases (le-or limit at)
-      (λ o. let g = next-over xs at l e o k in too-many l e o k (cc))
-      (λ o. has-fault l e o k (event-refused-exactly (l .mtu) xs at n k p .0 (sym (next-within xs at l e o) ∙ f))))
+      in-header (header-refused-exactly xs n some .0 (e ∙ ap Unreadable s))
+  wrong (Settings l) e f = by (stepAt (l .mtu) xs (p .at)) refl
+    where
+      none : {s : Step} → nextAt xs p ≡ s → s ≡ Faulty n
+      none g = sym g ∙ f
 
-  given : Wrong xs at n → nextAt xs at ≡ Faulty n
-  given (in-header g) = next-unreadable xs at n (header-refused-exactly xs n p .1 g)
-  given (too-many l e o k s) = next-over xs at l e o k ∙ ap Faulty (sym s)
-  given (has-fault l e o k g) = next-within xs at l e o ∙ event-refused-exactly (l .mtu) xs at n k p .1 g
+      by : (s : Step) → stepAt (l .mtu) xs (p .at) ≡ s → Wrong xs p n
+      by End g = let h = none (next-end xs p l e (step-end (l .mtu) xs (p .at) g)) in let z : _≡_ {A = ℕ} 0 1 = cc in absurd (omega arith)
+      by (Stands k v c next) g =
+          let t = step-stands (l .mtu) xs (p .at) k v c next g in
+          by-cases (le-or mostEvents (p .done))
+          (λ o. let k : p .at < length xs = omega (arith, t .fits) in let h = none (next-over xs p l e o k) in too-many l e o k (cc))
+          (λ o. let h = none (next-item xs p l e k v c next g (omega (arith, t .one))) in let z : _≡_ {A = ℕ} 0 1 = cc in absurd (omega arith))
+      by (Faulty m) g =
+          let k = step-faulty (l .mtu) xs (p .at) m g .some in
+          by-cases (le-or mostEvents (p .done))
+          (λ o. let h = none (next-over xs p l e o k) in too-many l e o k (cc))
+          (λ o. let h = none (next-faulty xs p l e m g o) in has-fault l e o k (event-refused-exactly (l .mtu) xs (p .at) n k some .0 (g ∙ h)))
 
-  pub next-refused-exactly : (nextAt xs at ≡ Faulty n → Wrong xs at n) × (Wrong xs at n → nextAt xs at ≡ Faulty n)
+  given : Wrong xs p n → nextAt xs p ≡ Faulty n
+  given (in-header g) = next-unreadable xs p n (header-refused-exactly xs n some .1 g)
+  given (too-many l e o k s) = next-over xs p l e o k ∙ ap Faulty (sym s)
+  given (has-fault l e o k g) = next-faulty xs p l e n (event-refused-exactly (l .mtu) xs (p .at) n k some .1 g) o
+
+  pub next-refused-exactly : (nextAt xs p ≡ Faulty n → Wrong xs p n) × (Wrong xs p n → nextAt xs p ≡ Faulty n)
   next-refused-exactly = (wrong (headerOf xs) refl, given)
 
   -- the same of the paper's number
-  pub next-exactly : (stepNumber (nextAt xs at) ≡ n) ↔ Wrong xs at n
-  next-exactly = (λ e. next-refused-exactly .0 (step-refuses (nextAt xs at) n p e), λ w. ap stepNumber (next-refused-exactly .1 w))
+  pub next-exactly : (stepNumber (nextAt xs p) ≡ n) ↔ Wrong xs p n
+  next-exactly = (λ e. next-refused-exactly .0 (step-refuses (nextAt xs p) n some e), λ w. ap stepNumber (next-refused-exactly .1 w))

@@ -6,22 +6,22 @@ use denote.Ref.{RefT, now}
 use Rattle.shaper.specs.Kind.{eventOf}
 use Rattle.record.specs.declared.Step.{Step}
 use Rattle.record.specs.declared.Step.the-variants.{Stands, End, Faulty}
-use Rattle.record.specs.Read.{Events, faulty, events, onward}
+use Rattle.record.specs.Read.{Events, faulty, events, ahead}
 use Rattle.reader.specs.declared.Reader.{Reader}
 use Rattle.reader.specs.Place.{start, nextAt, afterAt}
 
 abbrev pub newOf : RefT (List ℕ) → Reader
-newOf s = record { bytes = s; at = start }
+newOf s = record { bytes = s; place = start }
 
 abbrev pub nextOf : Reader → Step
-nextOf r = nextAt (now (r .bytes)) (r .at)
+nextOf r = nextAt (now (r .bytes)) (r .place)
 
 abbrev pub movedOf : Reader → Reader
-movedOf r = record { bytes = r .bytes; at = afterAt (now (r .bytes)) (r .at) }
+movedOf r = record { bytes = r .bytes; place = afterAt (now (r .bytes)) (r .place) }
 
--- an event stands before those of the walk behind it; the end and a fault end the walk
+-- an item's events stand before those of the walk behind it; the end and a fault end the walk
 abbrev pub told : Step → Events → Events
-told (Stands kind number count next) rest = onward 0 (eventOf kind number) rest
+told (Stands kind number count next) rest = ahead count (eventOf kind number) rest
 told End rest = events []
 told (Faulty n) rest = faulty n
 

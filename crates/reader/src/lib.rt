@@ -1,21 +1,23 @@
 // A reader walks the lent bytes of a shaper record and remembers its place.
 ghost use mathlib.Core.Path.{_≡_};
-ghost use Rattle.reader.specs.Place.{limitedAt, nextAt, afterAt};
+ghost use Rattle.reader.specs.Place.{nextAt, afterAt};
 ghost use Rattle.reader.specs.Walk.{newOf, nextOf, movedOf};
 use record::Header;
 use record::Step;
-use shaper::Event;
 
-// The place of the first event, behind the header.
+// Where the first event begins, behind the header.
 pub const START: usize = 14;
 
-// The place behind the millionth event.
-const LIMIT: usize = START + 6 * Event::MAX_EVENTS as usize;
+// A place of a record: where an item begins, and how many events stand before it.
+pub struct Place {
+    pub at: usize,
+    pub done: u64,
+}
 
 // The lent bytes of a record, and a place in them.
 pub struct Reader<'a> {
     pub bytes: &'a [u8],
-    pub at: usize,
+    pub place: Place,
 }
 
 impl<'a> Reader<'a> {
@@ -25,7 +27,7 @@ impl<'a> Reader<'a> {
     {
         Reader {
             bytes: bytes,
-            at: START,
+            place: Place { at: START, done: 0 },
         }
     }
 
@@ -33,65 +35,58 @@ impl<'a> Reader<'a> {
     pub fn next(self) -> Step
         ensures { λ r. ⌜ r ≡ nextOf (self .entry) ⌝ }
     {
-        next_at(self.bytes, self.at)
+        next_at(self.bytes, self.place)
     }
 
-    // The reader behind the event at its place; at the end and at a fault it stays.
+    // The reader behind the item at its place; at the end and at a fault it stays.
     pub fn moved(self) -> Reader<'a>
         ensures { λ r. ⌜ r ≡ movedOf (self .entry) ⌝ }
     {
         Reader {
             bytes: self.bytes,
-            at: after_at(self.bytes, self.at),
+            place: after_at(self.bytes, self.place),
         }
     }
 }
 
-// What a reader finds at a place, for callers that keep the place as a number: an event's `next` is the place to ask for then.
-pub fn read_at(bytes: &[u8], at: usize) -> Step
-    ensures { λ r. ⌜ r ≡ nextAt (now (bytes .entry)) at ⌝ }
+// What a reader finds at a place, for callers that keep the place themselves: behind an item its `next` and its `count` lead on.
+pub fn read_at(bytes: &[u8], place: Place) -> Step
+    ensures { λ r. ⌜ r ≡ nextAt (now (bytes .entry)) place ⌝ }
 {
     Reader {
         bytes: bytes,
-        at: at,
+        place: place,
     }.next()
 }
 
-// What stands at a place of a record, its header first.
-fn next_at(bytes: &[u8], at: usize) -> Step
-    ensures { λ r. ⌜ r ≡ nextAt (now (bytes .entry)) at ⌝ }
+// What stands at a place of a record, its header first; behind the millionth event only the end may.
+fn next_at(bytes: &[u8], place: Place) -> Step
+    ensures { λ r. ⌜ r ≡ nextAt (now (bytes .entry)) place ⌝ }
 {
     match record::header_of(bytes) {
-        Header::Settings(limits) => limited_at(bytes, at, limits.mtu),
+        Header::Settings(limits) => {
+            let left = record::may_come(place.done);
+            record::event_within(bytes, place.at, limits.mtu, left, 9)
+        }
         Header::Unreadable(fault) => Step::Faulty(fault),
     }
 }
 
-// What stands at a place of a record whose header bears this mtu; behind the millionth event only the end may.
-fn limited_at(bytes: &[u8], at: usize, mtu: u32) -> Step
-    ensures { λ r. ⌜ r ≡ limitedAt mtu (now (bytes .entry)) at ⌝ }
+// The place behind the item at a place.
+fn after_at(bytes: &[u8], place: Place) -> Place
+    ensures { λ r. ⌜ r ≡ afterAt (now (bytes .entry)) place ⌝ }
 {
-    if bytes.len() <= at {
-        return Step::End;
-    }
-    if LIMIT <= at {
-        return Step::Faulty(9);
-    }
-    record::event_at(bytes, at, mtu)
-}
-
-// The place behind the event at a place.
-fn after_at(bytes: &[u8], at: usize) -> usize
-    ensures { λ r. ⌜ r ≡ afterAt (now (bytes .entry)) at ⌝ }
-{
-    match next_at(bytes, at) {
+    match next_at(bytes, place) {
         Step::Stands {
             kind: _,
             number: _,
-            count: _,
+            count,
             next,
-        } => next,
-        Step::End => at,
-        Step::Faulty(_) => at,
+        } => Place {
+            at: next,
+            done: place.done + count as u64,
+        },
+        Step::End => place,
+        Step::Faulty(_) => place,
     }
 }

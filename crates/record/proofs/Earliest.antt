@@ -2,7 +2,7 @@
 -- Assumes nothing.
 use Prim.Native.Nat.{ℕ, suc, _+_, _-_, _≤_, _<_}
 use mathlib.Core.List.{List, [], _++_, append-assoc}
-use mathlib.Core.Logic.{_⊎_, inl, inr}
+use mathlib.Core.Logic.{_⊎_, inr}
 use mathlib.Core.Path.{_≡_, ap, _∙_}
 use native.Mathlib.Omega.{arith}
 use lib.ListN.{length}
@@ -15,11 +15,11 @@ use Rattle.shaper.specs.Limits.{limitsOk, mostEvents}
 use Rattle.wire.specs.Wire.{le}
 use Rattle.record.specs.Record.{headerBytes, eventsBytes, written, WellFormed}
 use Rattle.record.specs.Read.{limitsAt, fieldFault, readFrom, whole, unreadable, under, readRecord}
-use Rattle.record.specs.Step.{stepAt}
+use Rattle.record.specs.Step.{stepAt, stepWithin}
 use Rattle.record.specs.declared.Step.the-variants.{Faulty}
 use Rattle.record.proofs.Fields.{fields-length, fields-below, fields-above, fields-small, fields-large}
 use Rattle.record.proofs.Rows.{header-short, header-length, header-kind, header-outside, event-short, event-faulty}
-use Rattle.record.proofs.Steps.{read-header, header-faulty, read-over, step-faulty}
+use Rattle.record.proofs.Steps.{read-header, header-faulty, read-over, step-faulty, failed-within}
 use Rattle.record.proofs.Written.{length-header, header-back, behind, behind-faulty, events-then, written-read}
 
 -- ---- the header
@@ -56,7 +56,7 @@ header-alone l ok = written-read l [] (record { settings = ok; valid = tt; few =
 
 module _ (l : Limits) (es : List Event) (q : List ℕ) (w : WellFormed l es) where
   -- what a record says whose first events are in range
-  rest : (m : ℕ) → length es + m ≡ mostEvents → readRecord (written l es ++ q) ≡ under l (behind es (readFrom (l .mtu) m q))
+  rest : (m : ℕ) → length es + m ≡ mostEvents → readRecord (written l es ++ q) ≡ under l (behind es (readFrom 9 (l .mtu) m 0 q))
   rest m e =
       ap readRecord (append-assoc (headerBytes l) (eventsBytes es) q)
       ∙ read-header (headerBytes l ++ (eventsBytes es ++ q))
@@ -64,17 +64,22 @@ module _ (l : Limits) (es : List Event) (q : List ℕ) (w : WellFormed l es) whe
         header-back l (w .settings) (eventsBytes es ++ q),
         drop-at (headerBytes l) (eventsBytes es ++ q) 14 (length-header l),
         ← e,
-        events-then l (w .settings) es m q (w .valid),
+        events-then 9 l (w .settings) es m q (w .valid),
       )
+
+  -- What stops behind them stops the record: a fault, or an item too many.
+  pub stops-within : (n : ℕ) → stepWithin 9 (mostEvents - length es) (l .mtu) q 0 ≡ Faulty n → readRecord (written l es ++ q) ≡ unreadable n
+  stops-within n e =
+      rest (mostEvents - length es) (omega (arith, w .few)) ∙ rw (failed-within 9 (mostEvents - length es) (l .mtu) q 0 n e .1, behind-faulty es n)
 
   -- Any byte after the millionth event gives 9.
   pub over-million : length es ≡ mostEvents → 0 < length q → readRecord (written l es ++ q) ≡ unreadable 9
-  over-million e h = rest 0 (omega arith) ∙ rw (read-over (l .mtu) q 0 h, behind-faulty es 9)
+  over-million e h = rest 0 (omega arith) ∙ rw (read-over 9 (l .mtu) q 0 h, behind-faulty es 9)
 
   -- A fault at an event counts, whatever stands behind it.
   pub earliest : (n : ℕ) → length es < mostEvents → stepAt (l .mtu) q 0 ≡ Faulty n → readRecord (written l es ++ q) ≡ unreadable n
   earliest n few e =
-      rest (suc (999999 - length es)) (omega arith) ∙ rw (step-faulty (l .mtu) q 0 n e .stops (999999 - length es), behind-faulty es n)
+      rest (suc (999999 - length es)) (omega arith) ∙ rw (step-faulty (l .mtu) q 0 n e .stops 9 (999999 - length es), behind-faulty es n)
 
   -- 2: an event that is cut short,
   pub cut-short : length es < mostEvents → 0 < length q → length q < 6 → readRecord (written l es ++ q) ≡ unreadable 2

@@ -21,7 +21,7 @@ pub unreadable-means : (xs : List ℕ) (n : ℕ) → Bytes xs → readRecord xs 
 unreadable-means xs n b e = rw e at (says-whole xs b)
 
 -- and each cause has its number.
-stops : (l : Limits) (es : List Event) (q : List ℕ) (n : ℕ) → 0 < n → WellFormed l es → 0 < length q → Why (l .mtu) mostEvents (length es) q n →
+stops : (l : Limits) (es : List Event) (q : List ℕ) (n : ℕ) → 0 < n → WellFormed l es → 0 < length q → Why 9 (l .mtu) mostEvents (length es) q n →
     readRecord (written l es ++ q) ≡ unreadable n
 stops l es q n p w h (too-many e z) = over-million l es q w e h ∙ ap unreadable (sym z)
 stops l es q n p w h (has-fault few g) = earliest l es q w n few (event-refused-exactly (l .mtu) q 0 n h p .1 g)

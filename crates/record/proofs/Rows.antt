@@ -16,8 +16,8 @@ use Rattle.wire.specs.Wire.{le}
 use Rattle.wire.proofs.Numbers.{le-drop}
 use Rattle.record.specs.declared.Header.the-variants.{Settings, Unreadable}
 use Rattle.record.specs.declared.Step.the-variants.{Stands, End, Faulty}
-use Rattle.record.specs.Read.{limitsAt, headerFaults, lengthAt, kindAt, numberAt, fieldFaults, fieldFault, eventFaults}
-use Rattle.record.specs.Step.{headerOf, stepAt}
+use Rattle.record.specs.Read.{limitsAt, headerFaults, lengthAt, kindAt, numberAt, countAt, fieldFaults, fieldFault, eventFaults}
+use Rattle.record.specs.Step.{headerOf, stepAt, stepWithin}
 
 -- ---- the header
 
@@ -57,6 +57,11 @@ unfolding fieldFault
 event-fields mtu xs h =
     in-order (eventFaults mtu xs) refl ∙ rw (le-ltb (length xs) 6 h) (sym (in-order (fieldFaults mtu (lengthAt xs) (kindAt xs) (numberAt xs)) refl))
 
+-- Each item stands for one event.
+pub count-one : (xs : List ℕ) → countAt xs ≡ 1
+unfolding countAt
+count-one xs = refl
+
 -- the number of the fault of the fields at a place, or 0
 abbrev pub faultAt : ℕ → List ℕ → ℕ → ℕ
 faultAt mtu xs at = fieldFault mtu (le 2 xs at) (le 2 xs (at + 2)) (le 2 xs (at + 4))
@@ -85,4 +90,31 @@ module _ (mtu : ℕ) (xs : List ℕ) (at : ℕ) where
   -- and without one its kind and number stand there, for one event; the next begins behind its length.
   pub event-stands : at + 6 ≤ length xs → faultAt mtu xs at ≡ 0 → stepAt mtu xs at ≡ Stands (le 2 xs (at + 2)) (le 2 xs (at + 4)) 1 (at + le 2 xs at)
   unfolding stepAt
-  event-stands h e = rw (lt-leb (length xs) at (omega arith), event-fields-at h, e) (simp (le-drop, add-zero))
+  event-stands h e = rw (lt-leb (length xs) at (omega arith), event-fields-at h, e, count-one) (simp (le-drop, add-zero))
+
+-- ---- where `left` more events may come
+
+module _ (late left mtu : ℕ) (xs : List ℕ) (at : ℕ) where
+  -- An item that stands for no more than may come stands there,
+  pub within-stands : (k v c next : ℕ) → stepAt mtu xs at ≡ Stands k v c next → c ≤ left → stepWithin late left mtu xs at ≡ Stands k v c next
+  unfolding stepWithin
+  within-stands k v c next e h = rw (e, le-leb c left h)
+
+  -- and one that stands for more is too late.
+  pub within-over : (k v c next : ℕ) → stepAt mtu xs at ≡ Stands k v c next → left < c → stepWithin late left mtu xs at ≡ Faulty late
+  unfolding stepWithin
+  within-over k v c next e h = rw (e, lt-leb c left h)
+
+  pub within-end : stepAt mtu xs at ≡ End → stepWithin late left mtu xs at ≡ End
+  unfolding stepWithin
+  within-end e = rw e
+
+-- A fault counts where one more may come; else any byte is too late.
+pub within-faulty : (late left mtu : ℕ) (xs : List ℕ) (at n : ℕ) → stepAt mtu xs at ≡ Faulty n → 0 < left → stepWithin late left mtu xs at ≡ Faulty n
+unfolding stepWithin
+within-faulty late zero mtu xs at n e h = absurd (omega arith)
+within-faulty late (suc left) mtu xs at n e h = rw e
+
+pub within-none : (late left mtu : ℕ) (xs : List ℕ) (at n : ℕ) → stepAt mtu xs at ≡ Faulty n → left ≡ 0 → stepWithin late left mtu xs at ≡ Faulty late
+unfolding stepWithin
+within-none late left mtu xs at n e h = rw (e, h)

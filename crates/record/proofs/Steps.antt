@@ -21,15 +21,15 @@ use Rattle.record.specs.declared.Header.the-variants.{Settings, Unreadab
 use Rattle.record.specs.declared.Step.{Step}
 use Rattle.record.specs.declared.Step.the-variants.{Stands, End, Faulty}
 use Rattle.record.specs.Read.{limitsAt, headerFaults, lengthAt, kindAt, numberAt, eventFaults, Events, faulty, events, onward, readFrom, Read, unreadable, under, opened, readRecord}
-use Rattle.record.specs.Step.{headed, headerOf, stepped, stepAt}
+use Rattle.record.specs.Step.{headed, headerOf, stepped, stepAt, stepWithin}
 use Rattle.record.proofs.Fields.{Good, free-facts, facts-free, valid-good}
-use Rattle.record.proofs.Rows.{faultAt, header-short, header-length, header-kind, header-outside, header-settings, event-end, event-short, event-faulty, event-stands}
+use Rattle.record.proofs.Rows.{faultAt, header-short, header-length, header-kind, header-outside, header-settings, count-one, event-end, event-short, event-faulty, event-stands, within-stands, within-over, within-end, within-faulty, within-none}
 
 -- ---- the header
 
 -- what the whole says, by what its header says
 abbrev pub readBy : List ℕ → Header → Read
-readBy xs (Settings l) = under l (readFrom (l .mtu) mostEvents (drop 14 xs))
+readBy xs (Settings l) = under l (readFrom 9 (l .mtu) mostEvents 0 (drop 14 xs))
 readBy xs (Unreadable n) = unreadable n
 
 pub read-header : (xs : List ℕ) → readRecord xs ≡ readBy xs (headerOf xs)
@@ -47,7 +47,7 @@ pub record Headed (xs : List ℕ) (l : Limits) : Type 0 where
   pub kind-field : le 2 xs 2 ≡ 16
   pub settings : l ≡ limitsAt xs
   pub in-range : Holds (limitsOk l)
-  pub goes-on : readRecord xs ≡ under l (readFrom (l .mtu) mostEvents (drop 14 xs))
+  pub goes-on : readRecord xs ≡ under l (readFrom 9 (l .mtu) mostEvents 0 (drop 14 xs))
 
 abbrev MeansHeader : List ℕ → Header → Type 0
 MeansHeader xs (Settings l) = Headed xs l
@@ -82,29 +82,31 @@ header-faulty xs n e = (rw e at (means-header xs), read-header xs ∙ rw e)
 
 -- ---- the events
 
-module _ (mtu : ℕ) where
+module _ (late mtu : ℕ) where
+  -- an item stands for one event, so a turn takes an item
   read-some : (m : ℕ) (ys : List ℕ) → 0 < length ys →
-      readFrom mtu (suc m) ys ≡ onward (firstOf (eventFaults mtu ys)) (eventOf (kindAt ys) (numberAt ys)) (readFrom mtu m (drop (lengthAt ys) ys))
+      readFrom late mtu (suc m) 0 ys
+      ≡ onward (firstOf (eventFaults mtu ys)) (eventOf (kindAt ys) (numberAt ys)) (readFrom late mtu m 0 (drop (lengthAt ys) ys))
   unfolding readFrom
   read-some m [] h = absurd (omega arith)
-  read-some m (y ∷ ys) h = refl
+  read-some m (y ∷ ys) h = rw (count-one (y ∷ ys))
 
-  read-none : (left : ℕ) → readFrom mtu left [] ≡ events []
+  read-none : (left : ℕ) → readFrom late mtu left 0 [] ≡ events []
   unfolding readFrom
   read-none zero = refl
   read-none (suc m) = refl
 
-  read-more : (ys : List ℕ) → 0 < length ys → readFrom mtu 0 ys ≡ faulty 9
+  read-more : (ys : List ℕ) → 0 < length ys → readFrom late mtu 0 0 ys ≡ faulty late
   unfolding readFrom
   read-more [] h = absurd (omega arith)
   read-more (y ∷ ys) h = refl
 
   -- at the end
-  pub read-end : (left : ℕ) (xs : List ℕ) (at : ℕ) → length xs ≤ at → readFrom mtu left (drop at xs) ≡ events []
+  pub read-end : (left : ℕ) (xs : List ℕ) (at : ℕ) → length xs ≤ at → readFrom late mtu left 0 (drop at xs) ≡ events []
   read-end left xs at h = rw (drop-of-length-le xs h) (read-none left)
 
-  -- Any byte after the millionth event gives 9.
-  pub read-over : (xs : List ℕ) (at : ℕ) → at < length xs → readFrom mtu 0 (drop at xs) ≡ faulty 9
+  -- Any byte after the last event that may come is too late.
+  pub read-over : (xs : List ℕ) (at : ℕ) → at < length xs → readFrom late mtu 0 0 (drop at xs) ≡ faulty late
   read-over xs at h = read-more (drop at xs) (simp length-drop (omega arith))
 
 -- the fields at a place are good
@@ -112,29 +114,29 @@ abbrev pub GoodAt : ℕ → List ℕ → ℕ → Type 0
 GoodAt mtu xs at = Good mtu (le 2 xs at) (le 2 xs (at + 2)) (le 2 xs (at + 4))
 
 -- what the rest says, by what stands at its front
-abbrev pub readOn : ℕ → ℕ → List ℕ → Step → Events
-readOn mtu m xs (Stands k v c next) = onward 0 (eventOf k v) (readFrom mtu m (drop next xs))
-readOn mtu m xs End = events []
-readOn mtu m xs (Faulty n) = faulty n
+abbrev pub readOn : ℕ → ℕ → ℕ → List ℕ → Step → Events
+readOn late mtu m xs (Stands k v c next) = onward 0 (eventOf k v) (readFrom late mtu m 0 (drop next xs))
+readOn late mtu m xs End = events []
+readOn late mtu m xs (Faulty n) = faulty n
 
-module _ (mtu : ℕ) (xs : List ℕ) (at : ℕ) where
+module _ (late mtu : ℕ) (xs : List ℕ) (at : ℕ) where
   -- where one more event may come
-  pub read-step : (m : ℕ) → readFrom mtu (suc m) (drop at xs) ≡ readOn mtu m xs (stepAt mtu xs at)
+  pub read-step : (m : ℕ) → readFrom late mtu (suc m) 0 (drop at xs) ≡ readOn late mtu m xs (stepAt mtu xs at)
   unfolding stepAt
   read-step m =
       by-cases (le-or (length xs) at)
-      (λ h. read-end mtu (suc m) xs at h ∙ rw (le-leb (length xs) at h))
-      (λ h. read-some mtu m (drop at xs) (simp length-drop (omega arith)) ∙ rw (lt-leb (length xs) at h) (by (firstOf (eventFaults mtu (drop at xs)))))
+      (λ h. read-end late mtu (suc m) xs at h ∙ rw (le-leb (length xs) at h))
+      (λ h. read-some late mtu m (drop at xs) (simp length-drop (omega arith)) ∙ rw (lt-leb (length xs) at h) (by (firstOf (eventFaults mtu (drop at xs)))))
     where
       by : (n : ℕ) →
-          onward n (eventOf (kindAt (drop at xs)) (numberAt (drop at xs))) (readFrom mtu m (drop (lengthAt (drop at xs)) (drop at xs)))
-          ≡ readOn mtu m xs (stepped n xs at)
+          onward n (eventOf (kindAt (drop at xs)) (numberAt (drop at xs))) (readFrom late mtu m 0 (drop (lengthAt (drop at xs)) (drop at xs)))
+          ≡ readOn late mtu m xs (stepped n xs at)
       by zero = rw (drop-drop (lengthAt (drop at xs)) at xs)
       by (suc n) = refl
 
   -- good fields at a place: the event, and what stands behind it
   pub read-good : (m : ℕ) → at + 6 ≤ length xs → GoodAt mtu xs at →
-      readFrom mtu (suc m) (drop at xs) ≡ onward 0 (eventOf (le 2 xs (at + 2)) (le 2 xs (at + 4))) (readFrom mtu m (drop (at + 6) xs))
+      readFrom late mtu (suc m) 0 (drop at xs) ≡ onward 0 (eventOf (le 2 xs (at + 2)) (le 2 xs (at + 4))) (readFrom late mtu m 0 (drop (at + 6) xs))
   read-good m h g =
       read-step m ∙ rw (event-stands mtu xs at h (facts-free mtu (le 2 xs at) (le 2 xs (at + 2)) (le 2 xs (at + 4)) g), g .six)
 
@@ -150,13 +152,13 @@ pub record Stood (mtu : ℕ) (xs : List ℕ) (at k v c next : ℕ) : Type 0 wher
   pub fits : at + 6 ≤ length xs
   pub fields : Good mtu 6 k v
   pub valid : (l : Limits) → l .mtu ≡ mtu → v ≤ mostAmount → Valid l (eventOf k v)
-  pub goes-on : (m : ℕ) → readFrom mtu (suc m) (drop at xs) ≡ onward 0 (eventOf k v) (readFrom mtu m (drop next xs))
+  pub goes-on : (late m : ℕ) → readFrom late mtu (suc m) 0 (drop at xs) ≡ onward 0 (eventOf k v) (readFrom late mtu m 0 (drop next xs))
 
 -- a fault at a place: some byte stands there, and the number is the record's
 pub record Failed (mtu : ℕ) (xs : List ℕ) (at n : ℕ) : Type 0 where
   pub some : at < length xs
   pub given : 0 < n
-  pub stops : (m : ℕ) → readFrom mtu (suc m) (drop at xs) ≡ faulty n
+  pub stops : (late m : ℕ) → readFrom late mtu (suc m) 0 (drop at xs) ≡ faulty n
 
 abbrev MeansStep : ℕ → List ℕ → ℕ → Step → Type 0
 MeansStep mtu xs at (Stands k v c next) = Stood mtu xs at k v c next
@@ -175,11 +177,11 @@ module _ (mtu : ℕ) (xs : List ℕ) (at : ℕ) where
         fits = h;
         fields = record { six = refl; first = g .first; last = g .last; size = g .size };
         valid = valid-good mtu (le 2 xs at) (le 2 xs (at + 2)) (le 2 xs (at + 4)) g;
-        goes-on = λ m. read-good mtu xs at m h g ∙ rw (g .six);
+        goes-on = λ late m. read-good late mtu xs at m h g ∙ rw (g .six);
       }
 
   failed : (n : ℕ) → at < length xs → 0 < n → stepAt mtu xs at ≡ Faulty n → MeansStep mtu xs at (stepAt mtu xs at)
-  failed n h p e = rw e (record { some = h; given = p; stops = λ m. read-step mtu xs at m ∙ rw e })
+  failed n h p e = rw e (record { some = h; given = p; stops = λ late m. read-step late mtu xs at m ∙ rw e })
 
   means-step : MeansStep mtu xs at (stepAt mtu xs at)
   means-step =
@@ -198,6 +200,44 @@ module _ (mtu : ℕ) (xs : List ℕ) (at : ℕ) where
 
   pub step-faulty : (n : ℕ) → stepAt mtu xs at ≡ Faulty n → Failed mtu xs at n
   step-faulty n e = rw e at means-step
+
+-- ---- what a step tells where `left` more events may come
+
+abbrev MeansWithin : ℕ → ℕ → ℕ → List ℕ → ℕ → Step → Type 0
+MeansWithin late left mtu xs at (Stands k v c next) = Stood mtu xs at k v c next × (c ≤ left)
+MeansWithin late left mtu xs at End = length xs ≤ at
+MeansWithin late left mtu xs at (Faulty n) = (at < length xs) × (readFrom late mtu left 0 (drop at xs) ≡ faulty n)
+
+module _ (late mtu : ℕ) (xs : List ℕ) (at : ℕ) where
+  -- none: any byte is too late
+  late-by : at < length xs → stepWithin late 0 mtu xs at ≡ Faulty late → MeansWithin late 0 mtu xs at (stepWithin late 0 mtu xs at)
+  late-by h e = rw e (h, read-over late mtu xs at h)
+
+  means-within : (left : ℕ) → MeansWithin late left mtu xs at (stepWithin late left mtu xs at)
+  means-within left = by left (stepAt mtu xs at) refl
+    where
+      by : (left : ℕ) (s : Step) → stepAt mtu xs at ≡ s → MeansWithin late left mtu xs at (stepWithin late left mtu xs at)
+      by left End e = rw (within-end late left mtu xs at e) (step-end mtu xs at e)
+      by zero (Stands k v c next) e =
+          let t = step-stands mtu xs at k v c next e in
+          late-by (omega (arith, t .fits)) (within-over late 0 mtu xs at k v c next e (omega (arith, t .one)))
+      by (suc m) (Stands k v c next) e =
+          let t = step-stands mtu xs at k v c next e in
+          rw (within-stands late (suc m) mtu xs at k v c next e (omega (arith, t .one))) (t, omega (arith, t .one))
+      by zero (Faulty n) e = late-by (step-faulty mtu xs at n e .some) (within-none late 0 mtu xs at n e refl)
+      by (suc m) (Faulty n) e =
+          let t = step-faulty mtu xs at n e in
+          rw (within-faulty late (suc m) mtu xs at n e (omega arith)) (t .some, t .stops late m)
+
+module _ (late left mtu : ℕ) (xs : List ℕ) (at : ℕ) where
+  pub stood-within : (k v c next : ℕ) → stepWithin late left mtu xs at ≡ Stands k v c next → Stood mtu xs at k v c next × (c ≤ left)
+  stood-within k v c next e = rw e at (means-within late mtu xs at left)
+
+  pub end-within : stepWithin late left mtu xs at ≡ End → length xs ≤ at
+  end-within e = rw e at (means-within late mtu xs at left)
+
+  pub failed-within : (n : ℕ) → stepWithin late left mtu xs at ≡ Faulty n → (at < length xs) × (readFrom late mtu left 0 (drop at xs) ≡ faulty n)
+  failed-within n e = rw e at (means-within late mtu xs at left)
 
 -- the number of an event in bytes is below 65,536
 pub stood-bound : (mtu : ℕ) (xs : List ℕ) (at k v c next : ℕ) → Bytes xs → Stood mtu xs at k v c next → v ≤ mostAmount

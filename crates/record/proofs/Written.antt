@@ -97,7 +97,8 @@ module _ (l : Limits) (ok : Holds (limitsOk l)) where
       header-settings (laidOut (headerParts l) ++ q) n a b (t ∙ passes (limitsOk l) ok)
       ∙ rw (m, o, h)
 
-  pub event-back : (e : Event) → Valid l e → (m : ℕ) (q : List ℕ) → readFrom (l .mtu) (suc m) (eventBytes e ++ q) ≡ onward 0 e (readFrom (l .mtu) m q)
+module _ (late : ℕ) (l : Limits) (ok : Holds (limitsOk l)) where
+  pub event-back : (e : Event) → Valid l e → (m : ℕ) (q : List ℕ) → readFrom late (l .mtu) (suc m) 0 (eventBytes e ++ q) ≡ onward 0 e (readFrom late (l .mtu) m 0 q)
   unfolding eventBytes
   event-back e v m q =
       let s = stands-between [] (laidOut (eventParts e)) q in
@@ -106,23 +107,23 @@ module _ (l : Limits) (ok : Holds (limitsOk l)) where
       let k : le 2 (laidOut (eventParts e) ++ q) 2 ≡ kindOf e = le-part (eventParts e) 1 2 (kindOf e) (laidOut (eventParts e) ++ q) 0 refl (omega arith) s in
       let n : le 2 (laidOut (eventParts e) ++ q) 4 ≡ numberOf e = le-part (eventParts e) 2 2 (numberOf e) (laidOut (eventParts e) ++ q) 0 refl (omega arith) s in
       let h : 6 ≤ length (laidOut (eventParts e) ++ q) = omega (arith, length-append (laidOut (eventParts e)) q, length-laidOut (eventParts e)) in
-      read-good (l .mtu) (laidOut (eventParts e) ++ q) 0 m h (rw (a, k, n) (good-event l e v))
+      read-good late (l .mtu) (laidOut (eventParts e) ++ q) 0 m h (rw (a, k, n) (good-event l e v))
       ∙ rw (k, n, event-of e, drop-at (laidOut (eventParts e)) q 6 (length-laidOut (eventParts e)))
 
   -- events in range, and then what stands behind them
   pub events-then : (es : List Event) (m : ℕ) (q : List ℕ) → AllValid l es →
-      readFrom (l .mtu) (length es + m) (eventsBytes es ++ q) ≡ behind es (readFrom (l .mtu) m q)
+      readFrom late (l .mtu) (length es + m) 0 (eventsBytes es ++ q) ≡ behind es (readFrom late (l .mtu) m 0 q)
   events-then [] m q v = rw zero-add
   events-then (e ∷ es) m q v =
       rw (append-assoc, suc-add) (event-back e (v .0) (length es + m) (eventsBytes es ++ q) ∙ rw (events-then es m q (v .1)))
 
-  pub events-back : (es : List Event) (left : ℕ) → AllValid l es → length es ≤ left → readFrom (l .mtu) left (eventsBytes es) ≡ events es
+  pub events-back : (es : List Event) (left : ℕ) → AllValid l es → length es ≤ left → readFrom late (l .mtu) left 0 (eventsBytes es) ≡ events es
   events-back es left v h =
       let e : left ≡ length es + (left - length es) = omega arith in
-      ap (λ (n : ℕ). readFrom (l .mtu) n (eventsBytes es)) e
-      ∙ ap (λ (q : List ℕ). readFrom (l .mtu) (length es + (left - length es)) q) (sym (append-nil (eventsBytes es)))
+      ap (λ (n : ℕ). readFrom late (l .mtu) n 0 (eventsBytes es)) e
+      ∙ ap (λ (q : List ℕ). readFrom late (l .mtu) (length es + (left - length es)) 0 q) (sym (append-nil (eventsBytes es)))
       ∙ events-then es (left - length es) [] v
-      ∙ rw (read-end (l .mtu) (left - length es) [] 0 (omega arith)) (behind-none es)
+      ∙ rw (read-end late (l .mtu) (left - length es) [] 0 (omega arith)) (behind-none es)
 
 -- a well-formed record is read back whole
 pub written-read : (l : Limits) (es : List Event) → WellFormed l es → readRecord (written l es) ≡ whole l es
@@ -131,7 +132,7 @@ written-read l es w =
     ∙ rw (
       header-back l (w .settings) (eventsBytes es),
       drop-at (headerBytes l) (eventsBytes es) 14 (length-header l),
-      events-back l (w .settings) es mostEvents (w .valid) (w .few),
+      events-back 9 l (w .settings) es mostEvents (w .valid) (w .few),
     )
 
 -- ---- what is read was written
@@ -166,24 +167,24 @@ pub record Wrote (l : Limits) (left : ℕ) (ys : List ℕ) (es : List Event) : T
   pub few : length es ≤ left
 
 -- a fault that is read from ys: what stands before it was written, and it is at the front of the rest
-record Stopped (l : Limits) (left : ℕ) (ys : List ℕ) (n : ℕ) : Type 0 where
+record Stopped (late : ℕ) (l : Limits) (left : ℕ) (ys : List ℕ) (n : ℕ) : Type 0 where
   before : List Event
   rest : List ℕ
   same : ys ≡ eventsBytes before ++ rest
   wrote : Wrote l left (eventsBytes before) before
   some : 0 < length rest
-  why : Why (l .mtu) left (length before) rest n
+  why : Why late (l .mtu) left (length before) rest n
 
-abbrev Says : Limits → ℕ → List ℕ → Events → Type 0
-Says l left ys (faulty n) = Stopped l left ys n
-Says l left ys (events es) = Wrote l left ys es
+abbrev Says : ℕ → Limits → ℕ → List ℕ → Events → Type 0
+Says late l left ys (faulty n) = Stopped late l left ys n
+Says late l left ys (events es) = Wrote l left ys es
 
 wrote-none : (l : Limits) (left : ℕ) (ys : List ℕ) → ys ≡ [] → Wrote l left ys []
 wrote-none l left ys e = record { same = e; valid = tt; few = omega arith }
 
 -- a fault at the front
-here : (l : Limits) (left : ℕ) (ys : List ℕ) (n : ℕ) → 0 < length ys → Why (l .mtu) left 0 ys n → Stopped l left ys n
-here l left ys n h w = record { before = []; rest = ys; same = refl; wrote = wrote-none l left [] refl; some = h; why = w }
+here : (late : ℕ) (l : Limits) (left : ℕ) (ys : List ℕ) (n : ℕ) → 0 < length ys → Why late (l .mtu) left 0 ys n → Stopped late l left ys n
+here late l left ys n h w = record { before = []; rest = ys; same = refl; wrote = wrote-none l left [] refl; some = h; why = w }
 
 -- bytes before two others
 ahead : (hs us q ys zs : List ℕ) → ys ≡ hs ++ zs → zs ≡ us ++ q → ys ≡ (hs ++ us) ++ q
@@ -195,50 +196,50 @@ wrote-more : (l : Limits) (m : ℕ) (e : Event) (ys zs : List ℕ) (es : List Ev
 wrote-more l m e ys zs es f v s =
     record { same = f ∙ ap (λ (q : List ℕ). eventBytes e ++ q) (s .same); valid = (v, s .valid); few = omega (arith, s .few) }
 
-why-more : (mtu m k : ℕ) (q : List ℕ) (n : ℕ) → Why mtu m k q n → Why mtu (suc m) (suc k) q n
-why-more mtu m k q n (too-many e z) = too-many (ap suc e) z
-why-more mtu m k q n (has-fault h g) = has-fault (omega arith) g
+why-more : (late mtu m k : ℕ) (q : List ℕ) (n : ℕ) → Why late mtu m k q n → Why late mtu (suc m) (suc k) q n
+why-more late mtu m k q n (too-many e z) = too-many (ap suc e) z
+why-more late mtu m k q n (has-fault h g) = has-fault (omega arith) g
 
-onto : (l : Limits) (m : ℕ) (e : Event) (ys zs : List ℕ) → ys ≡ eventBytes e ++ zs → Valid l e → (r : Events) → Says l m zs r →
-    Says l (suc m) ys (onward 0 e r)
-onto l m e ys zs f v (faulty n) s =
+onto : (late : ℕ) (l : Limits) (m : ℕ) (e : Event) (ys zs : List ℕ) → ys ≡ eventBytes e ++ zs → Valid l e → (r : Events) → Says late l m zs r →
+    Says late l (suc m) ys (onward 0 e r)
+onto late l m e ys zs f v (faulty n) s =
     record {
       before = e ∷ s .before;
       rest = s .rest;
       same = ahead (eventBytes e) (eventsBytes (s .before)) (s .rest) ys zs f (s .same);
       wrote = wrote-more l m e (eventsBytes (e ∷ s .before)) (eventsBytes (s .before)) (s .before) refl v (s .wrote);
       some = s .some;
-      why = why-more (l .mtu) m (length (s .before)) (s .rest) n (s .why);
+      why = why-more late (l .mtu) m (length (s .before)) (s .rest) n (s .why);
     }
-onto l m e ys zs f v (events es) s = wrote-more l m e ys zs es f v s
+onto late l m e ys zs f v (events es) s = wrote-more l m e ys zs es f v s
 
 nothing-left : (ys : List ℕ) → length ys ≤ 0 → ys ≡ []
 nothing-left [] h = refl
 nothing-left (y ∷ ys) h = absurd (omega arith)
 
-step-says : (l : Limits) (m : ℕ) → ((zs : List ℕ) → Bytes zs → Says l m zs (readFrom (l .mtu) m zs)) → (ys : List ℕ) → Bytes ys →
-    Says l (suc m) ys (readFrom (l .mtu) (suc m) ys)
-step-says l m ih ys b = rw (read-step (l .mtu) ys 0 m) (by (stepAt (l .mtu) ys 0) refl)
+step-says : (late : ℕ) (l : Limits) (m : ℕ) → ((zs : List ℕ) → Bytes zs → Says late l m zs (readFrom late (l .mtu) m 0 zs)) → (ys : List ℕ) → Bytes ys →
+    Says late l (suc m) ys (readFrom late (l .mtu) (suc m) 0 ys)
+step-says late l m ih ys b = rw (read-step late (l .mtu) ys 0 m) (by (stepAt (l .mtu) ys 0) refl)
   where
-    by : (s : Step) → stepAt (l .mtu) ys 0 ≡ s → Says l (suc m) ys (readOn (l .mtu) m ys s)
+    by : (s : Step) → stepAt (l .mtu) ys 0 ≡ s → Says late l (suc m) ys (readOn late (l .mtu) m ys s)
     by End e = wrote-none l (suc m) ys (nothing-left ys (step-end (l .mtu) ys 0 e))
     by (Faulty n) e =
         let s = step-faulty (l .mtu) ys 0 n e in
-        here l (suc m) ys n (s .some) (has-fault (omega arith) (event-refused-exactly (l .mtu) ys 0 n (s .some) (s .given) .0 e))
+        here late l (suc m) ys n (s .some) (has-fault (omega arith) (event-refused-exactly (l .mtu) ys 0 n (s .some) (s .given) .0 e))
     by (Stands k v c next) e =
         let s = step-stands (l .mtu) ys 0 k v c next e in
-        onto l m (eventOf k v) ys (drop next ys) (event-front ys b (l .mtu) k v c next s)
+        onto late l m (eventOf k v) ys (drop next ys) (event-front ys b (l .mtu) k v c next s)
         (s .valid l refl (stood-bound (l .mtu) ys 0 k v c next b s))
-        (readFrom (l .mtu) m (drop next ys))
+        (readFrom late (l .mtu) m 0 (drop next ys))
         (ih (drop next ys) (bytes-drop next ys b))
 
-says : (l : Limits) (left : ℕ) (ys : List ℕ) → Bytes ys → Says l left ys (readFrom (l .mtu) left ys)
-says l zero [] b = rw (read-end (l .mtu) 0 [] 0 (omega arith)) (wrote-none l 0 [] refl)
-says l zero (y ∷ ys) b = rw (read-over (l .mtu) (y ∷ ys) 0 (omega arith)) (here l 0 (y ∷ ys) 9 (omega arith) (too-many refl refl))
-says l (suc m) ys b = step-says l m (λ zs c. says l m zs c) ys b
+says : (late : ℕ) (l : Limits) (left : ℕ) (ys : List ℕ) → Bytes ys → Says late l left ys (readFrom late (l .mtu) left 0 ys)
+says late l zero [] b = rw (read-end late (l .mtu) 0 [] 0 (omega arith)) (wrote-none l 0 [] refl)
+says late l zero (y ∷ ys) b = rw (read-over late (l .mtu) (y ∷ ys) 0 (omega arith)) (here late l 0 (y ∷ ys) late (omega arith) (too-many refl refl))
+says late l (suc m) ys b = step-says late l m (λ zs c. says late l m zs c) ys b
 
-pub events-written : (l : Limits) (left : ℕ) (ys : List ℕ) (es : List Event) → Bytes ys → readFrom (l .mtu) left ys ≡ events es → Wrote l left ys es
-events-written l left ys es b e = rw e at (says l left ys b)
+pub events-written : (late : ℕ) (l : Limits) (left : ℕ) (ys : List ℕ) (es : List Event) → Bytes ys → readFrom late (l .mtu) left 0 ys ≡ events es → Wrote l left ys es
+events-written late l left ys es b e = rw e at (says late l left ys b)
 
 abbrev pub SaysWhole : List ℕ → Read → Type 0
 SaysWhole xs (unreadable n) = Cause xs n
@@ -247,7 +248,7 @@ SaysWhole xs (whole l es) = (xs ≡ written l es) × WellFormed l es
 well-formed : (l : Limits) (zs : List ℕ) (es : List Event) → Holds (limitsOk l) → Wrote l mostEvents zs es → WellFormed l es
 well-formed l zs es ok s = record { settings = ok; valid = s .valid; few = s .few }
 
-under-says : (l : Limits) (xs zs : List ℕ) → xs ≡ headerBytes l ++ zs → Holds (limitsOk l) → (r : Events) → Says l mostEvents zs r →
+under-says : (l : Limits) (xs zs : List ℕ) → xs ≡ headerBytes l ++ zs → Holds (limitsOk l) → (r : Events) → Says 9 l mostEvents zs r →
     SaysWhole xs (under l r)
 under-says l xs zs f ok (faulty n) s =
     behind-events l (s .before) (s .rest)
@@ -264,8 +265,8 @@ says-whole xs b = rw (read-header xs) (by (headerOf xs) refl)
     by : (h : Header) → headerOf xs ≡ h → SaysWhole xs (readBy xs h)
     by (Settings l) e =
         let h = header-stands xs l e in
-        under-says l xs (drop 14 xs) (header-front xs b l h) (h .in-range) (readFrom (l .mtu) mostEvents (drop 14 xs))
-        (says l mostEvents (drop 14 xs) (bytes-drop 14 xs b))
+        under-says l xs (drop 14 xs) (header-front xs b l h) (h .in-range) (readFrom 9 (l .mtu) mostEvents 0 (drop 14 xs))
+        (says 9 l mostEvents (drop 14 xs) (bytes-drop 14 xs b))
     by (Unreadable n) e = in-header (header-refused-exactly xs n (header-faulty xs n e .0) .0 e)
 
 -- bytes that are read whole are what a writer writes, of settings and events in range

@@ -1,7 +1,7 @@
 -- What any bytes say as a record: its settings and events, or the number of the earliest fault.
 -- Assumes nothing.
 use Prim.Native.Nat.{ℕ, zero, suc}
-use mathlib.Core.Bool.{not, _&&_}
+use mathlib.Core.Bool.{not, _&&_, cond}
 use mathlib.Core.List.{List, [], _∷_}
 use lib.Dec.{leb, ltb, eqb}
 use lib.ListN.{length, drop}
@@ -29,9 +29,9 @@ headerFaults xs =
     ∷ fault 1 (not (test (limitsOk (limitsAt xs))))
     ∷ []
 
--- ---- an event
+-- ---- an item
 
--- Events, length 6: length, kind and number, 2 bytes each.
+-- Events, length 6: length, kind and number, 2 bytes each. The next item begins behind the stated length.
 abbrev pub lengthAt : List ℕ → ℕ
 lengthAt xs = le 2 xs 0
 
@@ -40,6 +40,10 @@ kindAt xs = le 2 xs 2
 
 abbrev pub numberAt : List ℕ → ℕ
 numberAt xs = le 2 xs 4
+
+-- how many events of that kind and number the item stands for
+unfoldable pub countAt : List ℕ → ℕ
+countAt xs = 1
 
 -- 2: another length, or no event's kind (a second header's too). 3: a send's size is not 16 to mtu.
 abbrev pub fieldFaults : ℕ → ℕ → ℕ → ℕ → List Fault
@@ -73,15 +77,26 @@ onward zero e (events es) = events (e ∷ es)
 onward zero e (faulty n) = faulty n
 onward (suc n) e r = faulty (suc n)
 
--- Within a record the earliest fault counts, and any byte after the millionth event gives 9: `left` is how many more may come.
--- Each event is followed by what stands behind its stated length.
-unfoldable pub readFrom : ℕ → ℕ → List ℕ → Events
-readFrom mtu zero [] = events []
-readFrom mtu zero (x ∷ xs) = faulty 9
-readFrom mtu (suc left) [] = events []
-readFrom mtu (suc left) (x ∷ xs) =
+-- so many of an event before the others
+abbrev pub ahead : ℕ → Event → Events → Events
+ahead zero e r = r
+ahead (suc count) e r = onward 0 e (ahead count e r)
+
+-- Behind an event of the item at the front, of which `gone` have gone by, stands the item's next event, and behind its last what is behind its stated length.
+abbrev pub goneBehind : ℕ → List ℕ → ℕ
+goneBehind gone xs = cond (ltb (suc gone) (countAt xs)) (suc gone) 0
+
+abbrev pub bytesBehind : ℕ → List ℕ → List ℕ
+bytesBehind gone xs = cond (ltb (suc gone) (countAt xs)) xs (drop (lengthAt xs) xs)
+
+-- Within a record the earliest fault counts. `left` more events may come, and any byte after the last of them gives `late`. Each turn takes one event.
+unfoldable pub readFrom : ℕ → ℕ → ℕ → ℕ → List ℕ → Events
+readFrom late mtu zero gone [] = events []
+readFrom late mtu zero gone (x ∷ xs) = faulty late
+readFrom late mtu (suc left) gone [] = events []
+readFrom late mtu (suc left) gone (x ∷ xs) =
     onward (firstOf (eventFaults mtu (x ∷ xs))) (eventOf (kindAt (x ∷ xs)) (numberAt (x ∷ xs)))
-    (readFrom mtu left (drop (lengthAt (x ∷ xs)) (x ∷ xs)))
+    (readFrom late mtu left (goneBehind gone (x ∷ xs)) (bytesBehind gone (x ∷ xs)))
 
 -- ---- the whole
 
@@ -93,9 +108,9 @@ abbrev pub under : Limits → Events → Read
 under l (faulty n) = unreadable n
 under l (events es) = whole l es
 
--- header first
+-- header first; any byte after the millionth event gives 9
 abbrev pub opened : ℕ → List ℕ → Read
-opened zero xs = under (limitsAt xs) (readFrom (le 2 xs 4) mostEvents (drop 14 xs))
+opened zero xs = under (limitsAt xs) (readFrom 9 (le 2 xs 4) mostEvents 0 (drop 14 xs))
 opened (suc n) xs = unreadable (suc n)
 
 unfoldable pub readRecord : List ℕ → Read

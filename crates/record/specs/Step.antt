@@ -10,7 +10,7 @@ use Rattle.record.specs.declared.Header.{Header}
 use Rattle.record.specs.declared.Header.the-variants.{Settings, Unreadable}
 use Rattle.record.specs.declared.Step.{Step}
 use Rattle.record.specs.declared.Step.the-variants.{Stands, End, Faulty}
-use Rattle.record.specs.Read.{limitsAt, headerFaults, lengthAt, kindAt, numberAt, eventFaults}
+use Rattle.record.specs.Read.{limitsAt, headerFaults, lengthAt, kindAt, numberAt, countAt, eventFaults}
 
 abbrev pub headed : ℕ → List ℕ → Header
 headed zero xs = Settings (limitsAt xs)
@@ -19,13 +19,23 @@ headed (suc n) xs = Unreadable (suc n)
 unfoldable pub headerOf : List ℕ → Header
 headerOf xs = headed (firstOf (headerFaults xs)) xs
 
--- an event stands for one; the next begins behind its stated length
+-- what an item stands for, and how many times; the next begins behind its stated length
 abbrev pub stepped : ℕ → List ℕ → ℕ → Step
-stepped zero xs at = Stands (kindAt (drop at xs)) (numberAt (drop at xs)) 1 (at + lengthAt (drop at xs))
+stepped zero xs at = Stands (kindAt (drop at xs)) (numberAt (drop at xs)) (countAt (drop at xs)) (at + lengthAt (drop at xs))
 stepped (suc n) xs at = Faulty (suc n)
 
 unfoldable pub stepAt : ℕ → List ℕ → ℕ → Step
 stepAt mtu xs at = cond (leb (length xs) at) End (stepped (firstOf (eventFaults mtu (drop at xs))) xs at)
+
+-- the same where `left` more events may come: any byte after the last of them gives `late`, and so does an item that stands for more than may come
+abbrev pub within : ℕ → ℕ → Step → Step
+within late left (Stands kind number count next) = cond (leb count left) (Stands kind number count next) (Faulty late)
+within late left End = End
+within late zero (Faulty n) = Faulty late
+within late (suc left) (Faulty n) = Faulty n
+
+unfoldable pub stepWithin : ℕ → ℕ → ℕ → List ℕ → ℕ → Step
+stepWithin late left mtu xs at = within late left (stepAt mtu xs at)
 
 -- ---- document 01's number and values of each answer
 

@@ -1,7 +1,9 @@
 // A shaper record, read from lent bytes: its header, and each event at its place.
 ghost use mathlib.Core.Path.{_≡_};
+ghost use Prim.Native.Nat.{_-_};
+ghost use Rattle.shaper.specs.Limits.{mostEvents};
 ghost use Rattle.record.specs.Read.{fieldFault};
-ghost use Rattle.record.specs.Step.{headerOf, stepAt};
+ghost use Rattle.record.specs.Step.{headerOf, stepAt, stepWithin};
 use shaper::Event;
 use shaper::Limits;
 
@@ -11,7 +13,7 @@ pub enum Header {
     Unreadable(u64),
 }
 
-// What stands at a place of a record: an event's kind and number, how many events it stands for and where the next begins; the end; or a fault.
+// What stands at a place of a record: an item's kind and number, how many events it stands for and where the next begins; the end; or a fault.
 pub enum Step {
     Stands {
         kind: u16,
@@ -70,6 +72,44 @@ pub fn event_at(s: &[u8], at: usize, mtu: u32) -> Step
         count: 1,
         next: at + length as usize,
     }
+}
+
+// The same where `left` more events may come: any byte after the last of them gives `late`, and so does an item that stands for more than may come.
+pub fn event_within(s: &[u8], at: usize, mtu: u32, left: u64, late: u64) -> Step
+    ensures { λ r. ⌜ r ≡ stepWithin late left mtu (now (s .entry)) at ⌝ }
+{
+    match event_at(s, at, mtu) {
+        Step::Stands {
+            kind,
+            number,
+            count,
+            next,
+        } => {
+            if left < count as u64 {
+                return Step::Faulty(late);
+            }
+            Step::Stands {
+                kind: kind,
+                number: number,
+                count: count,
+                next: next,
+            }
+        }
+        Step::End => Step::End,
+        Step::Faulty(fault) => {
+            if left == 0 {
+                return Step::Faulty(late);
+            }
+            Step::Faulty(fault)
+        }
+    }
+}
+
+// How many more events may come behind so many.
+pub fn may_come(done: u64) -> u64
+    ensures { λ r. ⌜ r ≡ mostEvents - done ⌝ }
+{
+    decide::less(Event::MAX_EVENTS as u64, done)
 }
 
 // The number of an event's fault by its fields, or 0.

@@ -1,6 +1,6 @@
 -- The choice, row by row, as document 01 has it: each law is one of its sentences, for numbers in range.
 -- Assumes nothing.
-use Prim.Native.Nat.{ℕ, _-_, _≤_, _<_}
+use Prim.Native.Nat.{ℕ, _≤_, _<_}
 use mathlib.Core.Bool.{Bool, true, false, cond, not, _&&_}
 use mathlib.Core.Path.{_≡_, refl, sym, ap, _∙_}
 use native.Mathlib.Omega.{arith}
@@ -181,9 +181,9 @@ module _ (stations own target links ring : ℕ) (place : Placed stations own tar
       go Right p Left e f = rescued 3 Right (omega arith) (by-default stations own target ∙ p) f e
       go Right p Right e f = reached 3 Right (omega arith) (by-default stations own target ∙ p) e
 
-  -- right on a tie,
-  pub default-tie : distance Left ≡ distance Right → reaches Right ≡ true → chosen 3 1 ≡ along Right 1
-  default-tie h = reached 3 Right (omega arith) (by-default stations own target ∙ tie-is stations own target h)
+  -- on a tie, the side of ties,
+  pub default-tie : distance Left ≡ distance Right → reaches (tieOf own target) ≡ true → chosen 3 1 ≡ along (tieOf own target) 1
+  default-tie h = reached 3 (tieOf own target) (omega arith) (by-default stations own target ∙ tie-is stations own target h)
 
   -- 8 if none.
   pub default-none : reaches Left ≡ false → reaches Right ≡ false → chosen 3 1 ≡ Refused 8
@@ -197,9 +197,9 @@ module _ (stations own target links ring : ℕ) (place : Placed stations own tar
   pub unprotected-shorter : (way : Way) → distance way < distance (otherOf way) → chosen 3 2 ≡ along way 2
   unprotected-shorter way h = regardless 3 way (omega arith) (by-default stations own target ∙ shorter-is stations own target way h)
 
-  -- right on a tie,
-  pub unprotected-tie : distance Left ≡ distance Right → chosen 3 2 ≡ along Right 2
-  unprotected-tie h = regardless 3 Right (omega arith) (by-default stations own target ∙ tie-is stations own target h)
+  -- on a tie, the side of ties,
+  pub unprotected-tie : distance Left ≡ distance Right → chosen 3 2 ≡ along (tieOf own target) 2
+  unprotected-tie h = regardless 3 (tieOf own target) (omega arith) (by-default stations own target ∙ tie-is stations own target h)
 
   -- never 8.
   pub unprotected-goes : (side : ℕ) → side ≤ 3 → chosen side 2 ≡ along (preferredOf side stations own target) 2

@@ -10,6 +10,7 @@ use Rattle.decide.proofs.Cases.{by-cases}
 use Rattle.wire.specs.Wire.{digits}
 use Rattle.settings.specs.declared.Settings.{Settings}
 use Rattle.settings.specs.Range.{SettingsOk}
+use Rattle.queue.specs.declared.Bounds.{Bounds}
 use Rattle.queue.specs.declared.Frame.{Frame}
 use Rattle.queue.specs.Frame.{FrameOk, frameOf}
 use Rattle.queue.proofs.Laws.{first-ok}
@@ -30,9 +31,9 @@ use Rattle.answer.specs.Bytes.{packed, selectedBytes}
 use Rattle.answer.proofs.Bytes.{EachByte}
 
 -- a frame in range
-of-frame : {mtu : ℕ} {x : Frame} (origin : ℕ) → origin ≤ 4 → mtu ≤ 9216 → FrameOk mtu x → EachByte (selectedBytes origin x)
+of-frame : {bounds : Bounds} {x : Frame} (origin : ℕ) → origin ≤ 4 → FrameOk bounds x → EachByte (selectedBytes origin x)
 unfolding digits
-of-frame origin h m r = omega (arith, r .class, r .hops, r .mark)
+of-frame origin h r = omega (arith, r .class, r .hops, r .mark)
 
 -- an empty slot or stage
 of-none : (origin w : ℕ) → origin ≤ 4 → w ≡ 0 → EachByte (selectedBytes origin (frameOf w))
@@ -41,12 +42,12 @@ of-none origin w h e = omega arith
 
 module _ {s : Settings} {f : Flow} (good : SettingsOk s) (ok : FlowOk s f) where
   of-row : {r : flow.Selected} → Goes s f r → EachByte (selectedBytes (r .origin) (r .frame))
-  of-row (control a) = of-frame 1 (omega arith) (good .mtu-most) (first-ok (ok .queues Control) (lt-ltb 0 (f .control .count) (facts (controlReady s f) a .0)))
-  of-row (primary a b) = of-frame 2 (omega arith) (good .mtu-most) (first-ok (ok .queues Primary) (lt-ltb 0 (f .primary .count) (facts (primaryReady f) b)))
-  of-row (pressed a b c) = of-frame 3 (omega arith) (good .mtu-most) (first-ok (ok .queues Secondary) (needy-holds ok good (facts (needy s f) c)))
-  of-row (staged a b c d) = by-cases (ok .stage) (λ e. of-none 4 (f .stage) (omega arith) e) (λ x. of-frame 4 (omega arith) (good .mtu-most) x)
+  of-row (control a) = of-frame 1 (omega arith) (first-ok (ok .queues Control) (lt-ltb 0 (f .control .count) (facts (controlReady s f) a .0)))
+  of-row (primary a b) = of-frame 2 (omega arith) (first-ok (ok .queues Primary) (lt-ltb 0 (f .primary .count) (facts (primaryReady f) b)))
+  of-row (pressed a b c) = of-frame 3 (omega arith) (first-ok (ok .queues Secondary) (needy-holds ok good (facts (needy s f) c)))
+  of-row (staged a b c d) = by-cases (ok .stage) (λ e. of-none 4 (f .stage) (omega arith) e) (λ x. of-frame 4 (omega arith) x)
   of-row (secondary a b c d e) =
-      of-frame 3 (omega arith) (good .mtu-most) (first-ok (ok .queues Secondary) (lt-ltb 0 (f .secondary .count) (facts (secondaryReady s f) e .0)))
+      of-frame 3 (omega arith) (first-ok (ok .queues Secondary) (lt-ltb 0 (f .secondary .count) (facts (secondaryReady s f) e .0)))
   of-row (nothing a b c d e) = of-none 0 0 (omega arith) (omega arith)
 
 pub chosen-small : {st : Station} → StationOk st → EachByte (selectedBytes (chosenOf st .origin) (chosenOf st .frame))

@@ -35,14 +35,14 @@ use Rattle.answer.specs.Bytes.{permittedBytes}
 use Rattle.answer.proofs.Bytes.{packed-bytes}
 use Rattle.rpr.specs.Shape.{answerOf, afterOf, Bears}
 use Rattle.rpr.specs.Calls.{summarizeRows, summarizeAnswer, summarizeAfter, joinRows, joinAnswer, joinAfter, settleRows, outcomeAnswer, settleAnswer, Joined, EndsAt}
-use Rattle.rpr.proofs.Shape.{wrong-length, first-most, number-alone, carried, refused-leaves}
+use Rattle.rpr.proofs.Shape.{mostNumber, wrong-length, first-most, number-alone, carried, refused-leaves}
 use Rattle.rpr.proofs.Rows.{summarize-room, summarize-rows, summarize-whole, settle-whole}
 use Rattle.rpr.proofs.Numbers.{AnswerNumbered, record-numbered, answer-most}
 use Rattle.rpr.proofs.Credit.{end-most}
 
 -- ---- rpr_summarize
 
-summarize-most : (xs room : List ℕ) → firstOf (summarizeRows xs room) ≤ 11
+summarize-most : (xs room : List ℕ) → firstOf (summarizeRows xs room) ≤ mostNumber
 summarize-most xs room =
     ⊎-elim
     (λ e. let h = summarize-rows xs room e in let k = answer-most (summarizeOf xs) (record-numbered xs) in omega arith)

@@ -4,6 +4,7 @@ use Prim.Native.Nat.{ℕ}
 use mathlib.Core.List.{List, [], _∷_}
 use mathlib.Core.Path.{_≡_, sym, ap, _∙_}
 use lib.ListN.{length}
+use Rattle.queue.specs.declared.Bounds.{Bounds}
 use Rattle.queue.specs.declared.Queue.{Queue}
 use Rattle.queue.specs.Range.{QueueOk}
 use Rattle.queue.proofs.Laws.{held-sums, count-frames}
@@ -12,7 +13,7 @@ use Rattle.station.specs.declared.Reading.{Reading}
 use Rattle.station.specs.declared.Station.{Station}
 use Rattle.station.proofs.Hear.{held-none, held-one}
 use Rattle.slots.specs.Slots.{wordsAt}
-use Rattle.layout.specs.Layout.{creditsWords, fourWords, receivedWords}
+use Rattle.layout.specs.Layout.{creditsWords, fourWords}
 use Rattle.layout.specs.Reading.{readingLength, heldWords}
 use Rattle.layout.proofs.Round.{by-words}
 use Rattle.rpr.specs.Station.{showAfter}
@@ -20,7 +21,7 @@ use Rattle.rpr.specs.Reading.{framesHeld, ShowsWords}
 use Rattle.rpr.specs.Says.{Keeps}
 use Rattle.rpr.proofs.Rooms.{show-done}
 
-counted : {mtu capacity : ℕ} {q : Queue} → QueueOk mtu capacity q → q .count ∷ q .held ∷ [] ≡ framesHeld q
+counted : {bounds : Bounds} {capacity : ℕ} {q : Queue} → QueueOk bounds capacity q → q .count ∷ q .held ∷ [] ≡ framesHeld q
 counted ok = λ i. count-frames ok i ∷ held-sums ok i ∷ []
 
 -- The room holds the reading, word by word.
@@ -36,9 +37,9 @@ show-words {xs} {st} k room h =
       secondary = ap (λ (r : Reading). heldWords (r .secondary)) reads ∙ counted (ok .queues Secondary);
       empty-stage = λ e. ap (λ (r : Reading). heldWords (r .stage)) reads ∙ ap heldWords (held-none (st .flow .stage) e);
       stage = λ n. ap (λ (r : Reading). heldWords (r .stage)) reads ∙ ap heldWords (held-one (st .flow .stage) n);
-      counters = ap (λ (r : Reading). fourWords (r .fair .counters)) reads;
-      smoothed = ap (λ (r : Reading). fourWords (r .fair .smoothed)) reads;
-      decided = ap (λ (r : Reading). r .fair .local ∷ r .fair .allowed ∷ r .fair .allowedc ∷ r .fair .own ∷ []) reads;
-      congested = ap (λ (r : Reading). r .fair .congested ∷ r .fair .downstream ∷ []) reads;
-      received = ap (λ (r : Reading). receivedWords (r .fair)) reads;
+      counters = ap (λ (r : Reading). fourWords (r .counters)) reads;
+      smoothed = ap (λ (r : Reading). fourWords (r .smoothed)) reads;
+      decided = ap (λ (r : Reading). r .decided .local ∷ r .decided .allowed ∷ r .decided .allowedc ∷ r .decided .own ∷ []) reads;
+      congested = ap (λ (r : Reading). r .decided .congested ∷ r .received .downstream ∷ []) reads;
+      received = ap (λ (r : Reading). r .received .ttl ∷ r .received .high ∷ r .received .low ∷ r .received .rate ∷ []) reads;
     }

@@ -1,6 +1,6 @@
 -- The laws of every call, whatever its rows: a slice of another length is 2 before all else; a refusal is its number alone, and leaves the lent bytes.
 -- Assumes nothing.
-use Prim.Native.Nat.{ℕ, suc, _%_, _≤_, _<_}
+use Prim.Native.Nat.{ℕ, suc, _%_, _≤_, _<_, max}
 use mathlib.Core.Bool.{Bool, true, false, cond, not, _&&_}
 use mathlib.Core.List.{List, [], _∷_}
 use mathlib.Core.Logic.{⊎-elim}
@@ -10,7 +10,7 @@ use borrow.Author.Tests.{eq-eqb, ne-eqb, le-leb, leb-true}
 use lib.Dec.{leb}
 use lib.ListN.{length}
 use Rattle.decide.specs.Test.{both}
-use Rattle.decide.specs.Refusal.{Fault, First, nothing, row, earlier, first, numberOf, firstOf, refusedOr, Among}
+use Rattle.decide.specs.Refusal.{Fault, order, First, nothing, row, earlier, first, numberOf, firstOf, refusedOr, Among}
 use Rattle.decide.proofs.Cases.{true-or-false, of-each}
 use Rattle.decide.proofs.Refusal.{carried-out}
 use Rattle.decide.proofs.Refused.{of-answer, carried-by, refused-by, number-by}
@@ -40,31 +40,39 @@ module _ (n : ℕ) (xs : List ℕ) (fs : List Fault) where
 
 -- ---- numbers
 
--- each row bears a number of the table, 1 to 11
+-- the largest number of the table
+abbrev largest : List ℕ → ℕ
+largest [] = 0
+largest (n ∷ ns) = max n (largest ns)
+
+abbrev pub mostNumber : ℕ
+mostNumber = largest order
+
+-- each row bears a number of the table
 abbrev pub numbered : List Fault → Bool
 numbered [] = true
-numbered (f ∷ fs) = (leb 1 (f .number) && leb (f .number) 11) && numbered fs
+numbered (f ∷ fs) = (leb 1 (f .number) && leb (f .number) mostNumber) && numbered fs
 
-earlier-most : (f : Fault) (x : First) → f .number ≤ 11 → numberOf x ≤ 11 → numberOf (earlier f x) ≤ 11
+earlier-most : (f : Fault) (x : First) → f .number ≤ mostNumber → numberOf x ≤ mostNumber → numberOf (earlier f x) ≤ mostNumber
 earlier-most f nothing h k = h
-earlier-most f (row g) h k = of-each (λ (x : First). numberOf x ≤ 11) (leb (f .rank) (g .rank)) (row f) (row g) (λ e. h) (λ e. k)
+earlier-most f (row g) h k = of-each (λ (x : First). numberOf x ≤ mostNumber) (leb (f .rank) (g .rank)) (row f) (row g) (λ e. h) (λ e. k)
 
--- so the number that is given is at most 11
-pub first-most : (fs : List Fault) → numbered fs ≡ true → firstOf fs ≤ 11
+-- so the number that is given is at most the largest
+pub first-most : (fs : List Fault) → numbered fs ≡ true → firstOf fs ≤ mostNumber
 unfolding firstOf first
 first-most [] e = omega arith
 first-most (f ∷ fs) e =
-    let p = both (leb 1 (f .number) && leb (f .number) 11) (numbered fs) e in
-    let h = leb-true (f .number) 11 (both (leb 1 (f .number)) (leb (f .number) 11) (p .0) .1) in
+    let p = both (leb 1 (f .number) && leb (f .number) mostNumber) (numbered fs) e in
+    let h = leb-true (f .number) mostNumber (both (leb 1 (f .number)) (leb (f .number) mostNumber) (p .0) .1) in
     let k = first-most fs (p .1) in
-    of-each (λ (x : First). numberOf x ≤ 11) (f .applies) (earlier f (first fs)) (first fs) (λ a. earlier-most f (first fs) h k) (λ a. k)
+    of-each (λ (x : First). numberOf x ≤ mostNumber) (f .applies) (earlier f (first fs)) (first fs) (λ a. earlier-most f (first fs) h k) (λ a. k)
 
 among-numbered : (f : Fault) (fs : List Fault) → numbered fs ≡ true → Among f fs → 0 < f .number
 among-numbered f [] e m = absurd m
 among-numbered f (g ∷ gs) e m =
-    let p = both (leb 1 (g .number) && leb (g .number) 11) (numbered gs) e in
+    let p = both (leb 1 (g .number) && leb (g .number) mostNumber) (numbered gs) e in
     ⊎-elim
-    (λ q. let h = leb-true 1 (g .number) (both (leb 1 (g .number)) (leb (g .number) 11) (p .0) .0) in
+    (λ q. let h = leb-true 1 (g .number) (both (leb 1 (g .number)) (leb (g .number) mostNumber) (p .0) .0) in
     let s : f .number ≡ g .number = ap (λ (x : Fault). x .number) q in
     omega arith)
     (λ k. among-numbered f gs (p .1) k)
@@ -85,7 +93,7 @@ carried rows h e = free rows h (number-alone (firstOf rows) ∙ e)
 
 -- ---- bytes
 
-pub digits-alone : (n : ℕ) → n ≤ 11 → digits 8 n ≡ alone n
+pub digits-alone : (n : ℕ) → n ≤ mostNumber → digits 8 n ≡ alone n
 unfolding digits
 digits-alone n h = ap (λ (v : ℕ). digits 8 v) (omega arith) ∙ packed-bytes (alone n) (omega arith)
 
@@ -104,14 +112,14 @@ turned-down n said old new h = let p : 0 < n = omega (arith, h) in (sym (refused
 pub taken-on : (n said : ℕ) (old new : List ℕ) → n ≡ 0 → (said ≡ refusedOr (λ m. m) n said) × (new ≡ refusedOr (λ m. old) n new)
 taken-on n said old new e = (sym (carried-by _ _ n e), sym (carried-by _ _ n e))
 
-bears : (n said : ℕ) → n ≤ 11 → said % 256 ≡ 0 → Bears n (refusedOr (λ m. m) n said)
+bears : (n said : ℕ) → n ≤ mostNumber → said % 256 ≡ 0 → Bears n (refusedOr (λ m. m) n said)
 bears n said h b =
     of-answer _ _ (Bears n) n
     (λ z. record { byte-0 = b ∙ sym z; others = λ p. absurd (omega arith) })
     (λ p. record { byte-0 = omega arith; others = λ q. digits-alone n h })
 
 -- Each refusal returns its number alone and leaves all lent bytes untouched.
-pub refused-leaves : (rows : List Fault) (said : ℕ) (old new : List ℕ) → firstOf rows ≤ 11 → said % 256 ≡ 0 →
+pub refused-leaves : (rows : List Fault) (said : ℕ) (old new : List ℕ) → firstOf rows ≤ mostNumber → said % 256 ≡ 0 →
     Bears (firstOf rows) (answerOf rows said) × (0 < firstOf rows → afterOf rows old new ≡ old)
 unfolding answerOf afterOf
 refused-leaves rows said old new h b = (bears (firstOf rows) said h b, refused-by _ _ _)

@@ -19,11 +19,11 @@ use Rattle.answer.specs.Bytes.{bitOf, chosenBytes, movedBytes}
 use Rattle.answer.proofs.Bytes.{packed-bytes, bit-most}
 use Rattle.rpr.specs.Ways.{choiceAnswer, chooseAnswer, movedAnswer, pathAnswer}
 use Rattle.rpr.specs.Shape.{Bears}
-use Rattle.rpr.proofs.Shape.{first-most, digits-alone}
+use Rattle.rpr.proofs.Shape.{mostNumber, first-most, digits-alone}
 
 -- ---- rpr_choose
 
-choice-bears : (c : Choice) (n : ℕ) → choiceNumber c ≡ n → n ≤ 11 → Bears n (choiceAnswer c)
+choice-bears : (c : Choice) (n : ℕ) → choiceNumber c ≡ n → n ≤ mostNumber → Bears n (choiceAnswer c)
 choice-bears (Choice.Chosen side distance ttl mark) n e h = record { byte-0 = omega arith; others = λ p. absurd (omega arith) }
 choice-bears (Choice.Refused m) n e h = record { byte-0 = omega arith; others = λ p. ap (λ k. digits 8 k) e ∙ digits-alone n h }
 
@@ -53,7 +53,7 @@ module _ (stations own target links side protection ring : ℕ) where
 
 -- ---- rpr_path
 
-moved-bears : (o : Outcome) (n : ℕ) → pathNumber o ≡ n → n ≤ 11 → Bears n (movedAnswer o)
+moved-bears : (o : Outcome) (n : ℕ) → pathNumber o ≡ n → n ≤ mostNumber → Bears n (movedAnswer o)
 moved-bears (Outcome.Moved delivered hops) n e h = record { byte-0 = omega arith; others = λ p. absurd (omega arith) }
 moved-bears (Outcome.Refused m) n e h = record { byte-0 = omega arith; others = λ p. ap (λ k. digits 8 k) e ∙ digits-alone n h }
 

@@ -5,7 +5,7 @@ use mathlib.Core.Bool.{Bool}
 use mathlib.Core.List.{List, _∷_}
 use mathlib.Core.Logic.{inl, inr}
 use mathlib.Core.Path.{_≡_, refl, sym, ap, _∙_}
-use borrow.Author.Tests.{eq-eqb, ne-eqb, ltb-false}
+use borrow.Author.Tests.{ltb-false}
 use lib.ListN.{length, length-set}
 use Rattle.decide.specs.Refusal.{Fault, firstOf, refusedOr}
 use Rattle.decide.proofs.Refused.{of-answer, unrefused}
@@ -21,7 +21,7 @@ use Rattle.flow.specs.declared.Line.{Line}
 use Rattle.flow.specs.declared.Line.the-variants.{Control, Primary, Secondary}
 use Rattle.flow.specs.Parts.{queueOf, capacityOf, withCredits, withStage, withQueue}
 use Rattle.flow.specs.Tick.{tickOf}
-use Rattle.flow.specs.Offer.{enterOf, queueFor}
+use Rattle.flow.specs.Offer.{enterOf}
 use Rattle.flow.proofs.Offer.{enter-taken}
 use Rattle.flow.proofs.Select.{Goes, control, primary, pressed, staged, secondary, nothing, goes}
 use Rattle.fair.specs.declared.Fair.{Fair}
@@ -35,7 +35,7 @@ use Rattle.station.specs.Answers.{withFlow, withFair, refusedOf, doneOf, chosen
 use Rattle.station.specs.Calls.{tickedOf}
 use Rattle.station.specs.Offers.{offerFaults, staging, turnedOf}
 use Rattle.slots.specs.Slots.{wordsBytes, queueBytes, queueAt}
-use Rattle.layout.specs.Layout.{stationLength, creditsWords, fourWords, fairWords, stationAt, stationBytes, placeOf, pushedAt, takenAt, takenFrom}
+use Rattle.layout.specs.Layout.{placeOf, stagePlace, fairPlace, stationLength, creditsWords, fourWords, fairBytes, stationAt, stationBytes, pushedAt, takenAt, takenFrom}
 use Rattle.layout.proofs.Round.{Slotted, fits-slotted, station-fits, bytes-of-state}
 use Rattle.layout.proofs.Anew.{credits-put, queue-put, stage-put, fair-put, counters-put, queue-slotted}
 use Rattle.answer.specs.Bytes.{packed, markBytes}
@@ -81,13 +81,13 @@ abbrev pub creditsIn : List ℕ → Flow → List ℕ
 creditsIn xs f = put xs 0 (wordsBytes (creditsWords (f .credits)))
 
 abbrev pub stageIn : List ℕ → Flow → List ℕ
-stageIn xs f = put xs 1574 (digits 4 (f .stage))
+stageIn xs f = put xs stagePlace (digits 4 (f .stage))
 
 abbrev pub fairIn : List ℕ → Fair → List ℕ
-fairIn xs f = put xs 1578 (wordsBytes (fairWords f))
+fairIn xs f = put xs fairPlace (fairBytes f)
 
 abbrev pub countersIn : List ℕ → Four → List ℕ
-countersIn xs c = put xs 1578 (wordsBytes (fourWords c))
+countersIn xs c = put xs fairPlace (wordsBytes (fourWords c))
 
 -- what selection writes
 abbrev pub selectedIn : List ℕ → Selected → List ℕ
@@ -96,12 +96,12 @@ selectedIn xs r = countersIn (stageIn (creditsIn (takenFrom (r .origin) xs) (r .
 -- in the bytes of a station: the credits and the stage's word, and the counters too
 module _ (ys : List ℕ) (st : Station) (s : Slotted st) (y : ys ≡ stationBytes st) (c : Credits) (w : ℕ) where
   abbrev two : List ℕ
-  two = put (put ys 0 (wordsBytes (creditsWords c))) 1574 (digits 4 w)
+  two = put (put ys 0 (wordsBytes (creditsWords c))) stagePlace (digits 4 w)
 
   two-written : two ≡ stationBytes (withFlow st (withStage (withCredits (st .flow) c) w))
   two-written =
-      ap (λ (l : List ℕ). put (put l 0 (wordsBytes (creditsWords c))) 1574 (digits 4 w)) y
-      ∙ ap (λ (l : List ℕ). put l 1574 (digits 4 w)) (credits-put st s c)
+      ap (λ (l : List ℕ). put (put l 0 (wordsBytes (creditsWords c))) stagePlace (digits 4 w)) y
+      ∙ ap (λ (l : List ℕ). put l stagePlace (digits 4 w)) (credits-put st s c)
       ∙ stage-put (withFlow st (withCredits (st .flow) c)) s w
 
   three-written : (n : Four) → countersIn two n
@@ -117,15 +117,6 @@ entered : (st : Station) (l : Line) (x : Frame) → firstOf (offerFaults st l x)
 entered st l x z =
     let fits : x .size ≤ spaceOf (queueOf (st .flow) l) (capacityOf (st .settings) l) = ltb-false _ _ (free (offerFaults st l x) refl z _ (inr (inr (inl refl)))) in
     rw (enter-taken (st .settings) (st .flow) l x fits)
-
--- Transit A goes to the primary queue, B and C to the secondary.
-pub to-primary : (class : ℕ) → class ≡ 0 → Primary ≡ queueFor class
-unfolding queueFor
-to-primary class e = rw (eq-eqb class 0 e)
-
-pub to-secondary : (class : ℕ) → (class ≡ 0 → ⊥) → Secondary ≡ queueFor class
-unfolding queueFor
-to-secondary class h = rw (ne-eqb class 0 h)
 
 module _ (xs : List ℕ) (b : Bytes xs) (e : length xs ≡ stationLength) where
   -- bytes of a station's length are those of the station that they hold
@@ -185,7 +176,7 @@ module _ (xs : List ℕ) (b : Bytes xs) (e : length xs ≡ stationLength) where
       (queue-written l (pushed (queueOf (stationAt xs .flow) l) x) (pushed-slots l x))
 
   from-queue : (l : Line) (c : Credits) (w : ℕ) (n : Four) →
-      countersIn (put (put (takenAt xs l) 0 (wordsBytes (creditsWords c))) 1574 (digits 4 w)) n
+      countersIn (put (put (takenAt xs l) 0 (wordsBytes (creditsWords c))) stagePlace (digits 4 w)) n
       ≡ stationBytes (
       record {
         settings = stationAt xs .settings;

@@ -33,8 +33,8 @@ pub record ShowsWords (bytes : List ℕ) (st : Station) : Type 0 where
   -- 17 to 20: the smoothed rates, in the same order
   pub smoothed : wordsFrom bytes 17 4 ≡ st .fair .smoothed .add ∷ st .fair .smoothed .fw ∷ st .fair .smoothed .addc ∷ st .fair .smoothed .fwc ∷ []
   -- 21 to 24: localFairRate, allowedRate, allowedRateCongested, own rate
-  pub decided : wordsFrom bytes 21 4 ≡ st .fair .local ∷ st .fair .allowed ∷ st .fair .allowedc ∷ st .fair .own ∷ []
+  pub decided : wordsFrom bytes 21 4 ≡ st .fair .decided .local ∷ st .fair .decided .allowed ∷ st .fair .decided .allowedc ∷ st .fair .decided .own ∷ []
   -- 25 26: locally congested, downstream congested
-  pub congested : wordsFrom bytes 25 2 ≡ st .fair .congested ∷ st .fair .downstream ∷ []
+  pub congested : wordsFrom bytes 25 2 ≡ st .fair .decided .congested ∷ st .fair .received .downstream ∷ []
   -- 27: received ttl; 28 29 30: received address (high 16, low 32 bits), received rate
-  pub received : wordsFrom bytes 27 4 ≡ st .fair .ttl ∷ st .fair .high ∷ st .fair .low ∷ st .fair .rate ∷ []
+  pub received : wordsFrom bytes 27 4 ≡ st .fair .received .ttl ∷ st .fair .received .high ∷ st .fair .received .low ∷ st .fair .received .rate ∷ []

@@ -75,10 +75,10 @@ offerAfter xs l x =
 
 -- Transit A goes to the primary queue, B and C to the secondary.
 unfoldable pub offerTransitAnswer : List ℕ → ℕ → ℕ → ℕ → ℕ → ℕ
-offerTransitAnswer xs class size hops eligible = offerAnswer xs (queueFor class) (givenFrame class size hops eligible)
+offerTransitAnswer xs class size hops eligible = offerAnswer xs (queueFor (stationAt xs .settings) class) (givenFrame class size hops eligible)
 
 unfoldable pub offerTransitAfter : List ℕ → ℕ → ℕ → ℕ → ℕ → List ℕ
-offerTransitAfter xs class size hops eligible = offerAfter xs (queueFor class) (givenFrame class size hops eligible)
+offerTransitAfter xs class size hops eligible = offerAfter xs (queueFor (stationAt xs .settings) class) (givenFrame class size hops eligible)
 
 -- Control frames, given by size alone (class A, 1 hop), go to the control queue.
 unfoldable pub offerControlAnswer : List ℕ → ℕ → ℕ

@@ -96,15 +96,14 @@ pub extern "C" fn rpr_offer_transit(
     if station.len() != layout::LENGTH {
         return NOT_WHOLE;
     }
-    let out = layout::read(station).offer_transit(class, size, hops, eligible);
+    let held = layout::read(station);
+    let settings = held.settings;
+    let out = held.offer_transit(class, size, hops, eligible);
     if out.number != 0 {
         return out.number as u64;
     }
-    if class == 0 {
-        layout::push_frame(Line::Primary, class, size, hops, eligible, station);
-        return 0;
-    }
-    layout::push_frame(Line::Secondary, class, size, hops, eligible, station);
+    let line = Line::queue_for(settings, class);
+    layout::push_frame(line, class, size, hops, eligible, station);
     0
 }
 

@@ -10,14 +10,11 @@ pub enum Value {
 
 // The numbers of a text: their values, how many there are (ROOM where there are more), the largest, and whether a word among them was none.
 pub struct Row {
-    pub values: [u64; 32],
+    pub values: [u64; Row::ROOM],
     pub count: usize,
     pub largest: u64,
     pub wrong: bool,
 }
-
-// How many numbers of a text are kept.
-const ROOM: usize = 32;
 
 // What a character is worth that is no hex digit.
 pub const NO_DIGIT: u8 = 16;
@@ -51,6 +48,9 @@ pub fn number(word: &[u8]) -> Value {
 }
 
 impl Row {
+    // How many numbers of a text are kept.
+    pub const ROOM: usize = 40;
+
     // Whether they are so many, and each is one.
     pub fn are(self, count: usize) -> bool {
         !self.wrong & (self.count == count)
@@ -70,7 +70,7 @@ impl Row {
 
     // No numbers yet.
     fn none() -> Row {
-        let values = [0u64; 32];
+        let values = [0u64; Row::ROOM];
         Row {
             values: values,
             count: 0,
@@ -90,7 +90,7 @@ impl Row {
     fn longer(self, n: u64) -> Row {
         let count = self.count;
         let mut next = self;
-        if count < ROOM {
+        if count < Row::ROOM {
             next.values[count] = n;
             next.count = count + 1;
             next.largest = decide::larger(self.largest, n);

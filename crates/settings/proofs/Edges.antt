@@ -1,76 +1,114 @@
--- Each range of the paper at its ends and just past them, computed.
+-- Each range of the paper at its ends and just past them, computed over the words that a host gives.
 -- Assumes nothing.
 use Prim.Native.Nat.{ℕ}
-use mathlib.Core.Bool.{Bool, true, false}
+use mathlib.Core.Bool.{Bool, true, false, _||_}
+use mathlib.Core.List.{List, [], _∷_, _++_}
 use mathlib.Core.Path.{_≡_, refl}
+use lib.ListN.{getD, set}
 use Rattle.decide.specs.Test.{test}
-use Rattle.settings.specs.declared.Bucket.{Bucket}
 use Rattle.settings.specs.Range.{settingsOk}
+use Rattle.settings.proofs.Words.{settingsOf}
 
--- Whether these settings are in range: the address's high bits, ringlet, mtu; loLimit, hiLimit and amount of every shaper; control and
--- primary queue, secondary, low threshold; weight, rate unit, ticks, unreservedRate, ageCoef, lpCoef, rampUp.
-unfoldable pub ok : (high ringlet mtu lo hi amount queue secondary threshold weight unit ticks unreserved age lp ramp : ℕ) → Bool
-ok high ringlet mtu lo hi amount queue secondary threshold weight unit ticks unreserved age lp ramp =
-    let b : Bucket = record { lo = lo; hi = hi; amount = amount } in
-    test
-    (settingsOk
-    record {
-      address = record { high = high; low = 0 };
-      ringlet = ringlet;
-      mtu = mtu;
-      shapers = record { m = b; a = b; b = b; c = b; d = b };
-      queues = record { control = queue; primary = queue; secondary = secondary; threshold = threshold };
-      fairness = record { weight = weight; unit = unit; ticks = ticks; unreserved = unreserved; age = age; lp = lp; ramp = ramp };
-    })
+-- whether the settings of these words are in range
+unfoldable pub ok : List ℕ → Bool
+ok ws = test (settingsOk (settingsOf (λ k. getD ws k 0)))
+
+-- a shaper's three words, for each of the five
+abbrev five : List ℕ → List ℕ
+five ws = ws ++ ws ++ ws ++ ws ++ ws
+
+-- The words of settings in range: own address, own ringlet, mtu; loLimit, hiLimit and amount of each shaper; control, primary and secondary queue, low
+-- threshold; weight, rate unit, ticks, unreservedRate; ageCoef, lpCoef, rampUp. Each at its least,
+abbrev pub least : List ℕ
+least =
+    (0 ∷ 0 ∷ 0 ∷ 64 ∷ [])
+    ++ five (64 ∷ 65 ∷ 0 ∷ [])
+    ++ (64 ∷ 64 ∷ 128 ∷ 0 ∷ [])
+    ++ (1 ∷ 1 ∷ 1 ∷ 1 ∷ 1 ∷ 16 ∷ 16 ∷ [])
+
+-- each at its most,
+abbrev pub most : List ℕ
+most =
+    (65535 ∷ 4294967295 ∷ 1 ∷ 9216 ∷ [])
+    ++ five (65536 ∷ 1048576 ∷ 65535 ∷ [])
+    ++ (1048576 ∷ 1048576 ∷ 1048576 ∷ 1048576 ∷ [])
+    ++ (255 ∷ 1024 ∷ 10000 ∷ 2147483647 ∷ 16 ∷ 512 ∷ 512 ∷ [])
+
+-- and between, with the default coefficients
+abbrev pub usual : List ℕ
+usual =
+    (0 ∷ 0 ∷ 1 ∷ 1500 ∷ [])
+    ++ five (2000 ∷ 9000 ∷ 300 ∷ [])
+    ++ (100000 ∷ 100000 ∷ 200000 ∷ 50000 ∷ [])
+    ++ (1 ∷ 4 ∷ 100 ∷ 1000000 ∷ 4 ∷ 64 ∷ 64 ∷ [])
+
+-- the words of what each shaper has of its own, and of control and primary queue, which have one range
+abbrev pub lo : List ℕ
+lo = 4 ∷ 7 ∷ 10 ∷ 13 ∷ 16 ∷ []
+
+abbrev pub hi : List ℕ
+hi = 5 ∷ 8 ∷ 11 ∷ 14 ∷ 17 ∷ []
+
+abbrev pub amount : List ℕ
+amount = 6 ∷ 9 ∷ 12 ∷ 15 ∷ 18 ∷ []
+
+abbrev pub queue : List ℕ
+queue = 19 ∷ 20 ∷ []
+
+-- whether the settings are in range with any one of these words, alone, set to v
+abbrev pub anyAt : List ℕ → List ℕ → ℕ → Bool
+anyAt ws [] v = false
+anyAt ws (k ∷ ks) v = ok (set ws k v) || anyAt ws ks v
+
+-- each of these words, alone, takes the settings out of range at v
+abbrev pub Outside : List ℕ → List ℕ → ℕ → Type 0
+Outside ws ks v = anyAt ws ks v ≡ false
 
 pub record Edges : Type 0 where
-  -- every setting at its least
-  pub least : ok 0 0 64 64 65 0 64 128 0 1 1 1 1 1 16 16 ≡ true
-  -- every setting at its most
-  pub most : ok 65535 1 9216 65536 1048576 65535 1048576 1048576 1048576 255 1024 10000 2147483647 16 512 512 ≡ true
-  -- the default coefficients
-  pub usual : ok 0 1 1500 2000 9000 300 100000 200000 50000 1 4 100 1000000 4 64 64 ≡ true
+  pub at-least : ok least ≡ true
+  pub at-most : ok most ≡ true
+  pub at-usual : ok usual ≡ true
   -- an address of more than 48 bits
-  pub high-65536 : ok 65536 0 64 64 65 0 64 128 0 1 1 1 1 1 16 16 ≡ false
-  pub ringlet-2 : ok 0 2 64 64 65 0 64 128 0 1 1 1 1 1 16 16 ≡ false
-  pub mtu-63 : ok 0 0 63 64 65 0 64 128 0 1 1 1 1 1 16 16 ≡ false
-  pub mtu-9217 : ok 65535 1 9217 65536 1048576 65535 1048576 1048576 1048576 255 1024 10000 2147483647 16 512 512 ≡ false
-  pub lo-below-mtu : ok 0 0 64 63 65 0 64 128 0 1 1 1 1 1 16 16 ≡ false
-  pub lo-65537 : ok 65535 1 9216 65537 1048576 65535 1048576 1048576 1048576 255 1024 10000 2147483647 16 512 512 ≡ false
-  pub hi-at-lo : ok 0 0 64 64 64 0 64 128 0 1 1 1 1 1 16 16 ≡ false
-  pub hi-1048577 : ok 65535 1 9216 65536 1048577 65535 1048576 1048576 1048576 255 1024 10000 2147483647 16 512 512 ≡ false
-  pub amount-65536 : ok 65535 1 9216 65536 1048576 65536 1048576 1048576 1048576 255 1024 10000 2147483647 16 512 512 ≡ false
-  pub queue-below-mtu : ok 0 0 64 64 65 0 63 128 0 1 1 1 1 1 16 16 ≡ false
-  pub queue-1048577 : ok 65535 1 9216 65536 1048576 65535 1048577 1048576 1048576 255 1024 10000 2147483647 16 512 512 ≡ false
-  pub secondary-below-2-mtu : ok 0 0 64 64 65 0 64 127 0 1 1 1 1 1 16 16 ≡ false
-  pub secondary-1048577 : ok 65535 1 9216 65536 1048576 65535 1048576 1048577 1048576 255 1024 10000 2147483647 16 512 512 ≡ false
-  pub threshold-above : ok 0 0 64 64 65 0 64 128 129 1 1 1 1 1 16 16 ≡ false
-  pub weight-0 : ok 0 0 64 64 65 0 64 128 0 0 1 1 1 1 16 16 ≡ false
-  pub weight-256 : ok 65535 1 9216 65536 1048576 65535 1048576 1048576 1048576 256 1024 10000 2147483647 16 512 512 ≡ false
-  pub unit-0 : ok 0 0 64 64 65 0 64 128 0 1 0 1 1 1 16 16 ≡ false
-  pub unit-1025 : ok 65535 1 9216 65536 1048576 65535 1048576 1048576 1048576 255 1025 10000 2147483647 16 512 512 ≡ false
-  pub ticks-0 : ok 0 0 64 64 65 0 64 128 0 1 1 0 1 1 16 16 ≡ false
-  pub ticks-10001 : ok 65535 1 9216 65536 1048576 65535 1048576 1048576 1048576 255 1024 10001 2147483647 16 512 512 ≡ false
-  pub unreserved-0 : ok 0 0 64 64 65 0 64 128 0 1 1 1 0 1 16 16 ≡ false
-  pub unreserved-2147483648 : ok 65535 1 9216 65536 1048576 65535 1048576 1048576 1048576 255 1024 10000 2147483648 16 512 512 ≡ false
+  pub high-65536 : Outside least (0 ∷ []) 65536
+  pub ringlet-2 : Outside least (2 ∷ []) 2
+  pub mtu-63 : Outside least (3 ∷ []) 63
+  pub mtu-9217 : Outside most (3 ∷ []) 9217
+  pub lo-below-mtu : Outside least lo 63
+  pub lo-65537 : Outside most lo 65537
+  pub hi-at-lo : Outside least hi 64
+  pub hi-1048577 : Outside most hi 1048577
+  pub amount-65536 : Outside most amount 65536
+  pub queue-below-mtu : Outside least queue 63
+  pub queue-1048577 : Outside most queue 1048577
+  pub secondary-below-2-mtu : Outside least (21 ∷ []) 127
+  pub secondary-1048577 : Outside most (21 ∷ []) 1048577
+  pub threshold-above : Outside least (22 ∷ []) 129
+  pub weight-0 : Outside least (23 ∷ []) 0
+  pub weight-256 : Outside most (23 ∷ []) 256
+  pub unit-0 : Outside least (24 ∷ []) 0
+  pub unit-1025 : Outside most (24 ∷ []) 1025
+  pub ticks-0 : Outside least (25 ∷ []) 0
+  pub ticks-10001 : Outside most (25 ∷ []) 10001
+  pub unreserved-0 : Outside least (26 ∷ []) 0
+  pub unreserved-2147483648 : Outside most (26 ∷ []) 2147483648
   -- 0 is no default
-  pub age-0 : ok 0 0 64 64 65 0 64 128 0 1 1 1 1 0 16 16 ≡ false
-  pub age-3 : ok 0 0 64 64 65 0 64 128 0 1 1 1 1 3 16 16 ≡ false
-  pub age-32 : ok 65535 1 9216 65536 1048576 65535 1048576 1048576 1048576 255 1024 10000 2147483647 32 512 512 ≡ false
-  pub lp-0 : ok 0 0 64 64 65 0 64 128 0 1 1 1 1 1 0 16 ≡ false
-  pub lp-8 : ok 0 0 64 64 65 0 64 128 0 1 1 1 1 1 8 16 ≡ false
-  pub lp-1024 : ok 65535 1 9216 65536 1048576 65535 1048576 1048576 1048576 255 1024 10000 2147483647 16 1024 512 ≡ false
-  pub ramp-8 : ok 0 0 64 64 65 0 64 128 0 1 1 1 1 1 16 8 ≡ false
-  pub ramp-100 : ok 0 1 1500 2000 9000 300 100000 200000 50000 1 4 100 1000000 4 64 100 ≡ false
-  pub ramp-1024 : ok 65535 1 9216 65536 1048576 65535 1048576 1048576 1048576 255 1024 10000 2147483647 16 512 1024 ≡ false
+  pub age-0 : Outside least (27 ∷ []) 0
+  pub age-3 : Outside least (27 ∷ []) 3
+  pub age-32 : Outside most (27 ∷ []) 32
+  pub lp-0 : Outside least (28 ∷ []) 0
+  pub lp-8 : Outside least (28 ∷ []) 8
+  pub lp-1024 : Outside most (28 ∷ []) 1024
+  pub ramp-8 : Outside least (29 ∷ []) 8
+  pub ramp-100 : Outside usual (29 ∷ []) 100
+  pub ramp-1024 : Outside most (29 ∷ []) 1024
 
 pub edges : Edges
 unfolding ok test settingsOk
 edges =
     record {
-      least = refl;
-      most = refl;
-      usual = refl;
+      at-least = refl;
+      at-most = refl;
+      at-usual = refl;
       high-65536 = refl;
       ringlet-2 = refl;
       mtu-63 = refl;

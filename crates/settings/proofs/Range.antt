@@ -12,9 +12,10 @@ use Rattle.settings.specs.declared.Address.{Address}
 use Rattle.settings.specs.declared.Bucket.{Bucket}
 use Rattle.settings.specs.declared.Queues.{Queues}
 use Rattle.settings.specs.declared.Fairness.{Fairness}
+use Rattle.settings.specs.declared.Site.{Site}
 use Rattle.settings.specs.declared.Settings.{Settings}
-use Rattle.settings.specs.Range.{limitsOf, bucketOk, queuesOk, oneOf, fairnessOk, settingsOk, usualOf, addressOf}
-use Rattle.settings.specs.Range.{BucketOk, QueuesOk, AgeCoef, Coef, FairnessOk, SettingsOk}
+use Rattle.settings.specs.Range.{limitsOf, bucketOk, queuesOk, oneOf, fairnessOk, siteOk, settingsOk, usualOf, addressOf}
+use Rattle.settings.specs.Range.{BucketOk, QueuesOk, AgeCoef, Coef, FairnessOk, SiteOk, SettingsOk}
 
 -- ---- one shaper
 
@@ -29,7 +30,7 @@ module _ (mtu : ℕ) (s : Bucket) where
   bucket-holds : 64 ≤ mtu → mtu ≤ 9216 → BucketOk mtu s → Holds (bucketOk mtu s)
   bucket-holds l m ok = (limits-hold l m ok, ok .amount-most)
 
--- ---- queues and fairness
+-- ---- queues, fairness and site
 
 module _ (mtu : ℕ) (q : Queues) where
   queues-facts : Holds (queuesOk mtu q) → QueuesOk mtu q
@@ -85,6 +86,13 @@ module _ (f : Fairness) where
     ),
   )
 
+module _ (s : Site) where
+  site-facts : Holds (siteOk s) → SiteOk s
+  site-facts h = tt
+
+  site-hold : SiteOk s → Holds (siteOk s)
+  site-hold ok = omega arith
+
 -- ---- the settings
 
 module _ (s : Settings) where
@@ -92,7 +100,7 @@ module _ (s : Settings) where
   pub in-range-facts : test (settingsOk s) ≡ true → SettingsOk s
   unfolding settingsOk
   in-range-facts e =
-      let (h, (r, (l, (m, ((sm, (sa, (sb, (sc, sd)))), (q, f)))))) = facts (settingsOk s) e in
+      let (h, (r, (l, (m, ((sm, (sa, (sb, (sc, sd)))), (q, (f, o))))))) = facts (settingsOk s) e in
       record {
         high-most = h;
         ringlet-most = r;
@@ -105,6 +113,7 @@ module _ (s : Settings) where
         of-d = bucket-facts (s .mtu) (s .shapers .d) sd;
         of-queues = queues-facts (s .mtu) (s .queues) q;
         of-fairness = fairness-facts (s .fairness) f;
+        of-site = site-facts (s .site) o;
       }
 
   -- the facts: settings in range
@@ -123,7 +132,10 @@ module _ (s : Settings) where
               ok .mtu-most,
               (
                 (b (s .shapers .m) (ok .of-m), (b (s .shapers .a) (ok .of-a), (b (s .shapers .b) (ok .of-b), (b (s .shapers .c) (ok .of-c), b (s .shapers .d) (ok .of-d))))),
-                (queues-hold (s .mtu) (s .queues) (ok .of-queues), fairness-hold (s .fairness) (ok .of-fairness)),
+                (
+                  queues-hold (s .mtu) (s .queues) (ok .of-queues),
+                  (fairness-hold (s .fairness) (ok .of-fairness), site-hold (s .site) (ok .of-site)),
+                ),
               ),
             ),
           ),

@@ -1,4 +1,4 @@
--- Settings and their 120 bytes say the same. Each group of words is read back where it stands, and stands where it was read; the settings
+-- Settings and their bytes say the same. Each group of words is read back where it stands, and stands where it was read; the settings
 -- follow from their groups.
 -- Assumes nothing.
 use Prim.Native.Nat.{ℕ, _+_, _*_, _≤_, _<_}
@@ -20,12 +20,15 @@ use Rattle.settings.specs.declared.Bucket.{Bucket}
 use Rattle.settings.specs.declared.Shapers.{Shapers}
 use Rattle.settings.specs.declared.Queues.{Queues}
 use Rattle.settings.specs.declared.Fairness.{Fairness}
+use Rattle.settings.specs.declared.Site.{Site}
 use Rattle.settings.specs.declared.Settings.{Settings}
 use Rattle.settings.specs.Range.{BucketOk, QueuesOk, FairnessOk, SettingsOk}
-use Rattle.settings.specs.Words.{addressParts, bucketParts, shapersParts, queuesParts, fairnessParts, settingsParts}
-use Rattle.settings.specs.Words.{addressBytes, bucketBytes, shapersBytes, queuesBytes, fairnessBytes, settingsBytes, settings-length}
-use Rattle.settings.specs.Words.{settingsLength, addressAt, bucketAt, shapersAt, queuesAt, fairnessAt, settingsAt}
-use Rattle.settings.specs.Words.{AddressFits, BucketFits, ShapersFit, QueuesFit, FairnessFits, SettingsFit}
+use Rattle.settings.specs.Words.{addressLength, bucketLength, shapersLength, queuesLength, fairnessLength, siteLength, settingsLength}
+use Rattle.settings.specs.Words.{ringletPlace, mtuPlace, shapersPlace, queuesPlace, fairnessPlace, sitePlace}
+use Rattle.settings.specs.Words.{addressParts, bucketParts, shapersParts, queuesParts, fairnessParts, siteParts, settingsParts}
+use Rattle.settings.specs.Words.{addressBytes, bucketBytes, shapersBytes, queuesBytes, fairnessBytes, siteBytes, settingsBytes, settings-length}
+use Rattle.settings.specs.Words.{addressAt, bucketAt, shapersAt, queuesAt, fairnessAt, siteAt, settingsAt}
+use Rattle.settings.specs.Words.{AddressFits, BucketFits, ShapersFit, QueuesFit, FairnessFits, SiteFits, SettingsFit}
 
 -- ---- read where they stand
 
@@ -71,6 +74,9 @@ module _ (xs : List ℕ) (at : ℕ) where
         w 6 (v .ramp) refl (f .6),
       )
 
+site-back : (xs : List ℕ) (at : ℕ) (v : Site) → SiteFits v → Stands xs at (siteBytes v) → siteAt xs at ≡ v
+site-back xs at v f s = refl
+
 shapers-back : (xs : List ℕ) (at : ℕ) (v : Shapers) → ShapersFit v → Stands xs at (shapersBytes v) → shapersAt xs at ≡ v
 shapers-back xs at v f s =
     let ps : List Part = shapersParts v in
@@ -93,9 +99,10 @@ settings-back xs at v f s =
       address-back xs at (v .address) (f .of-address) (first-stands ps xs at s refl),
       word-back ps xs at s 1 (v .ringlet) refl (f .of-ringlet),
       word-back ps xs at s 2 (v .mtu) refl (f .of-mtu),
-      shapers-back xs (at + 16) (v .shapers) (f .of-shapers) (p 3),
-      queues-back xs (at + 76) (v .queues) (f .of-queues) (p 4),
-      fairness-back xs (at + 92) (v .fairness) (f .of-fairness) (p 5),
+      shapers-back xs (at + shapersPlace) (v .shapers) (f .of-shapers) (p 3),
+      queues-back xs (at + queuesPlace) (v .queues) (f .of-queues) (p 4),
+      fairness-back xs (at + fairnessPlace) (v .fairness) (f .of-fairness) (p 5),
+      site-back xs (at + sitePlace) (v .site) (f .of-site) (p 6),
     )
 
 -- ---- standing where they are read
@@ -105,13 +112,13 @@ module _ (xs : List ℕ) (b : Bytes xs) where
   w : (at : ℕ) → Stands xs at (digits 4 (le 4 xs at))
   w at = digits-stand 4 xs at b
 
-  address-stands : (at : ℕ) → at + 8 ≤ length xs → Stands xs at (addressBytes (addressAt xs at))
+  address-stands : (at : ℕ) → at + addressLength ≤ length xs → Stands xs at (addressBytes (addressAt xs at))
   address-stands at h = placed-stand (addressParts (addressAt xs at)) xs at h (w at, (w (at + 4), tt))
 
-  bucket-stands : (at : ℕ) → at + 12 ≤ length xs → Stands xs at (bucketBytes (bucketAt xs at))
+  bucket-stands : (at : ℕ) → at + bucketLength ≤ length xs → Stands xs at (bucketBytes (bucketAt xs at))
   bucket-stands at h = placed-stand (bucketParts (bucketAt xs at)) xs at h (w at, (w (at + 4), (w (at + 8), tt)))
 
-  shapers-stand : (at : ℕ) → at + 60 ≤ length xs → Stands xs at (shapersBytes (shapersAt xs at))
+  shapers-stand : (at : ℕ) → at + shapersLength ≤ length xs → Stands xs at (shapersBytes (shapersAt xs at))
   shapers-stand at h =
       placed-stand (shapersParts (shapersAt xs at)) xs at h (
         bucket-stands at (omega arith),
@@ -124,13 +131,16 @@ module _ (xs : List ℕ) (b : Bytes xs) where
         ),
       )
 
-  queues-stand : (at : ℕ) → at + 16 ≤ length xs → Stands xs at (queuesBytes (queuesAt xs at))
+  queues-stand : (at : ℕ) → at + queuesLength ≤ length xs → Stands xs at (queuesBytes (queuesAt xs at))
   queues-stand at h = placed-stand (queuesParts (queuesAt xs at)) xs at h (w at, (w (at + 4), (w (at + 8), (w (at + 12), tt))))
 
-  fairness-stands : (at : ℕ) → at + 28 ≤ length xs → Stands xs at (fairnessBytes (fairnessAt xs at))
+  fairness-stands : (at : ℕ) → at + fairnessLength ≤ length xs → Stands xs at (fairnessBytes (fairnessAt xs at))
   fairness-stands at h =
       placed-stand (fairnessParts (fairnessAt xs at)) xs at h
       (w at, (w (at + 4), (w (at + 8), (w (at + 12), (w (at + 16), (w (at + 20), (w (at + 24), tt)))))))
+
+  site-stands : (at : ℕ) → at + siteLength ≤ length xs → Stands xs at (siteBytes (siteAt xs at))
+  site-stands at h = placed-stand (siteParts (siteAt xs at)) xs at h tt
 
   -- the bytes of the settings that are read at a place stand there
   pub settings-stand : (at : ℕ) → at + settingsLength ≤ length xs → Stands xs at (settingsBytes (settingsAt xs at))
@@ -139,12 +149,15 @@ module _ (xs : List ℕ) (b : Bytes xs) where
       placed-stand (settingsParts (settingsAt xs at)) xs at h (
         address-stands at (omega arith),
         (
-          w (at + 8),
+          w (at + ringletPlace),
           (
-            w (at + 12),
+            w (at + mtuPlace),
             (
-              shapers-stand (at + 16) (omega arith),
-              (queues-stand (at + 76) (omega arith), (fairness-stands (at + 92) (omega arith), tt)),
+              shapers-stand (at + shapersPlace) (omega arith),
+              (
+                queues-stand (at + queuesPlace) (omega arith),
+                (fairness-stands (at + fairnessPlace) (omega arith), (site-stands (at + sitePlace) (omega arith), tt)),
+              ),
             ),
           ),
         ),
@@ -175,7 +188,7 @@ settings-bytes v =
               (
                 laidOut-bytes (fairnessParts f)
                     (d (f .weight), (d (f .unit), (d (f .ticks), (d (f .unreserved), (d (f .age), (d (f .lp), (d (f .ramp), tt))))))),
-                tt,
+                (laidOut-bytes (siteParts (v .site)) tt, tt),
               ),
             ),
           ),
@@ -191,12 +204,12 @@ settings-fit xs at b =
     let t : (k : ℕ) → BucketFits (bucketAt xs k) = λ k. (l k, l (k + 4), l (k + 8)) in
     record {
       of-address = (l at, l (at + 4));
-      of-ringlet = l (at + 8);
-      of-mtu = l (at + 12);
-      of-shapers = (t (at + 16), t (at + 16 + 12), t (at + 16 + 24), t (at + 16 + 36), t (at + 16 + 48));
-      of-queues = (l (at + 76), l (at + 76 + 4), l (at + 76 + 8), l (at + 76 + 12));
-      of-fairness =
-          (l (at + 92), l (at + 92 + 4), l (at + 92 + 8), l (at + 92 + 12), l (at + 92 + 16), l (at + 92 + 20), l (at + 92 + 24));
+      of-ringlet = l (at + ringletPlace);
+      of-mtu = l (at + mtuPlace);
+      of-shapers = let s : ℕ = at + shapersPlace in (t s, t (s + 12), t (s + 24), t (s + 36), t (s + 48));
+      of-queues = let q : ℕ = at + queuesPlace in (l q, l (q + 4), l (q + 8), l (q + 12));
+      of-fairness = let f : ℕ = at + fairnessPlace in (l f, l (f + 4), l (f + 8), l (f + 12), l (f + 16), l (f + 20), l (f + 24));
+      of-site = tt;
     }
 
 -- and so are settings in range, with an address of 48 bits
@@ -213,6 +226,7 @@ in-range-fit v ok l =
       of-queues = omega arith;
       of-fairness =
           omega (arith, age-bounds (v .fairness .age) (f .age-one-of), coef-bounds (v .fairness .lp) (f .lp-one-of), coef-bounds (v .fairness .ramp) (f .ramp-one-of));
+      of-site = tt;
     }
   where
     bucket-fits : {mtu : ℕ} {b : Bucket} → BucketOk mtu b → BucketFits b
@@ -224,7 +238,7 @@ in-range-fit v ok l =
 pub settings-of-bytes : (v : Settings) → SettingsFit v → settingsAt (settingsBytes v) 0 ≡ v
 settings-of-bytes v f = settings-back (settingsBytes v) 0 v f (stands-whole (settingsBytes v))
 
--- 120 bytes, read and written, are the bytes
+-- bytes of that length, read and written, are the bytes
 pub bytes-of-settings : (xs : List ℕ) → Bytes xs → length xs ≡ settingsLength → settingsBytes (settingsAt xs 0) ≡ xs
 bytes-of-settings xs b e =
     let n : length (settingsBytes (settingsAt xs 0)) ≡ settingsLength = settings-length (settingsAt xs 0) in
@@ -237,27 +251,24 @@ bytes-of-settings xs b e =
 abbrev pub wordAt : List ℕ → ℕ → ℕ
 wordAt xs k = le 4 xs (4 * k)
 
-abbrev shaperAt : List ℕ → ℕ → Bucket
-shaperAt xs k = record { lo = wordAt xs k; hi = wordAt xs (k + 1); amount = wordAt xs (k + 2) }
+abbrev shaperOf : (ℕ → ℕ) → ℕ → Bucket
+shaperOf w k = record { lo = w k; hi = w (k + 1); amount = w (k + 2) }
 
 -- Words 0 and 1 are own address (high 16 bits, low 32 bits), 2 own ringlet, 3 mtu; 4, 7, 10, 13 and 16 begin shaper M, A, B, C and D
 -- (loLimit, hiLimit, amount); 19 control queue, 20 primary, 21 secondary, 22 low threshold; 23 weight, 24 rate unit, 25 ticks per interval,
 -- 26 unreservedRate; 27, 28, 29 ageCoef, lpCoef, rampUp.
-pub by-words : (xs : List ℕ) → settingsAt xs 0 ≡ record {
-  address = record { high = wordAt xs 0; low = wordAt xs 1 };
-  ringlet = wordAt xs 2;
-  mtu = wordAt xs 3;
-  shapers = record { m = shaperAt xs 4; a = shaperAt xs 7; b = shaperAt xs 10; c = shaperAt xs 13; d = shaperAt xs 16 };
-  queues = record { control = wordAt xs 19; primary = wordAt xs 20; secondary = wordAt xs 21; threshold = wordAt xs 22 };
-  fairness = record {
-    weight = wordAt xs 23;
-    unit = wordAt xs 24;
-    ticks = wordAt xs 25;
-    unreserved = wordAt xs 26;
-    age = wordAt xs 27;
-    lp = wordAt xs 28;
-    ramp = wordAt xs 29;
-  };
-}
+abbrev pub settingsOf : (ℕ → ℕ) → Settings
+settingsOf w =
+    record {
+      address = record { high = w 0; low = w 1 };
+      ringlet = w 2;
+      mtu = w 3;
+      shapers = record { m = shaperOf w 4; a = shaperOf w 7; b = shaperOf w 10; c = shaperOf w 13; d = shaperOf w 16 };
+      queues = record { control = w 19; primary = w 20; secondary = w 21; threshold = w 22 };
+      fairness = record { weight = w 23; unit = w 24; ticks = w 25; unreserved = w 26; age = w 27; lp = w 28; ramp = w 29 };
+      site = record {};
+    }
+
+pub by-words : (xs : List ℕ) → settingsAt xs 0 ≡ settingsOf (wordAt xs)
 unfolding settingsAt
 by-words xs = refl

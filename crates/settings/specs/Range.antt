@@ -11,6 +11,7 @@ use Rattle.settings.specs.declared.Bucket.{Bucket}
 use Rattle.settings.specs.declared.Shapers.{Shapers}
 use Rattle.settings.specs.declared.Queues.{Queues}
 use Rattle.settings.specs.declared.Fairness.{Fairness}
+use Rattle.settings.specs.declared.Site.{Site}
 use Rattle.settings.specs.declared.Address.{Address}
 use Rattle.settings.specs.declared.Settings.{Settings}
 
@@ -58,12 +59,16 @@ fairnessOk f =
     ∧? 1 ≤? f .unreserved ∧? f .unreserved ≤? 2147483647
     ∧? ageOk (f .age) ∧? coefOk (f .lp) ∧? coefOk (f .ramp)
 
+-- no setting, and so none out of range
+abbrev pub siteOk : Site → Test
+siteOk s = 0 ≤? 0
+
 -- Own address of 48 bits, own ringlet 0 or 1, mtu 64 to 9,216, and the settings of the parts.
 unfoldable pub settingsOk : Settings → Test
 settingsOk s =
     s .address .high ≤? 65535 ∧? s .ringlet ≤? 1
     ∧? 64 ≤? s .mtu ∧? s .mtu ≤? 9216
-    ∧? shapersOk (s .mtu) (s .shapers) ∧? queuesOk (s .mtu) (s .queues) ∧? fairnessOk (s .fairness)
+    ∧? shapersOk (s .mtu) (s .shapers) ∧? queuesOk (s .mtu) (s .queues) ∧? fairnessOk (s .fairness) ∧? siteOk (s .site)
 
 -- ageCoef default 4; lpCoef and rampUp default 64
 abbrev pub usualOf : ℕ → ℕ → ℕ → ℕ → Fairness
@@ -111,6 +116,9 @@ pub record FairnessOk (f : Fairness) : Type 0 where
   pub lp-one-of : Coef (f .lp)
   pub ramp-one-of : Coef (f .ramp)
 
+abbrev pub SiteOk : Site → Type 0
+SiteOk s = Unit {0}
+
 pub record SettingsOk (s : Settings) : Type 0 where
   pub high-most : s .address .high ≤ 65535
   pub ringlet-most : s .ringlet ≤ 1
@@ -123,3 +131,4 @@ pub record SettingsOk (s : Settings) : Type 0 where
   pub of-d : BucketOk (s .mtu) (s .shapers .d)
   pub of-queues : QueuesOk (s .mtu) (s .queues)
   pub of-fairness : FairnessOk (s .fairness)
+  pub of-site : SiteOk (s .site)

@@ -1,6 +1,6 @@
--- The settings as 30 words of 4 bytes, least byte first.
+-- The settings as words of 4 bytes, least byte first.
 -- Assumes nothing.
-use Prim.Native.Nat.{ℕ, _+_, _<_}
+use Prim.Native.Nat.{ℕ, _+_, _*_, _<_}
 use mathlib.Core.List.{List, [], _∷_}
 use mathlib.Core.Path.{_≡_}
 use lib.ListN.{length}
@@ -11,15 +11,56 @@ use Rattle.settings.specs.declared.Bucket.{Bucket}
 use Rattle.settings.specs.declared.Shapers.{Shapers}
 use Rattle.settings.specs.declared.Queues.{Queues}
 use Rattle.settings.specs.declared.Fairness.{Fairness}
+use Rattle.settings.specs.declared.Site.{Site}
 use Rattle.settings.specs.declared.Settings.{Settings}
-
--- how many bytes they are
-abbrev pub settingsLength : ℕ
-settingsLength = 120
 
 -- one number of the settings
 abbrev pub word : ℕ → Part
 word v = number 4 v
+
+-- ---- how many bytes each group of words is
+
+abbrev pub addressLength : ℕ
+addressLength = 2 * 4
+
+abbrev pub bucketLength : ℕ
+bucketLength = 3 * 4
+
+abbrev pub shapersLength : ℕ
+shapersLength = 5 * bucketLength
+
+abbrev pub queuesLength : ℕ
+queuesLength = 4 * 4
+
+abbrev pub fairnessLength : ℕ
+fairnessLength = 7 * 4
+
+abbrev pub siteLength : ℕ
+siteLength = 0
+
+-- ---- where each part of the settings stands: behind the one before it
+
+abbrev pub ringletPlace : ℕ
+ringletPlace = addressLength
+
+abbrev pub mtuPlace : ℕ
+mtuPlace = ringletPlace + 4
+
+abbrev pub shapersPlace : ℕ
+shapersPlace = mtuPlace + 4
+
+abbrev pub queuesPlace : ℕ
+queuesPlace = shapersPlace + shapersLength
+
+abbrev pub fairnessPlace : ℕ
+fairnessPlace = queuesPlace + queuesLength
+
+abbrev pub sitePlace : ℕ
+sitePlace = fairnessPlace + fairnessLength
+
+-- how many bytes the settings are
+abbrev pub settingsLength : ℕ
+settingsLength = sitePlace + siteLength
 
 -- ---- what is written: the words, one after another
 
@@ -52,6 +93,9 @@ fairnessParts f =
     ∷ word (f .ramp)
     ∷ []
 
+abbrev pub siteParts : Site → List Part
+siteParts s = []
+
 abbrev pub settingsParts : Settings → List Part
 settingsParts s =
     group (addressParts (s .address))
@@ -60,6 +104,7 @@ settingsParts s =
     ∷ group (shapersParts (s .shapers))
     ∷ group (queuesParts (s .queues))
     ∷ group (fairnessParts (s .fairness))
+    ∷ group (siteParts (s .site))
     ∷ []
 
 abbrev pub addressBytes : Address → List ℕ
@@ -76,6 +121,9 @@ queuesBytes q = laidOut (queuesParts q)
 
 abbrev pub fairnessBytes : Fairness → List ℕ
 fairnessBytes f = laidOut (fairnessParts f)
+
+abbrev pub siteBytes : Site → List ℕ
+siteBytes s = laidOut (siteParts s)
 
 unfoldable pub settingsBytes : Settings → List ℕ
 settingsBytes s = laidOut (settingsParts s)
@@ -122,15 +170,19 @@ fairnessAt xs at =
       ramp = le 4 xs (at + 24);
     }
 
+abbrev pub siteAt : List ℕ → ℕ → Site
+siteAt xs at = record {}
+
 unfoldable pub settingsAt : List ℕ → ℕ → Settings
 settingsAt xs at =
     record {
       address = addressAt xs at;
-      ringlet = le 4 xs (at + 8);
-      mtu = le 4 xs (at + 12);
-      shapers = shapersAt xs (at + 16);
-      queues = queuesAt xs (at + 76);
-      fairness = fairnessAt xs (at + 92);
+      ringlet = le 4 xs (at + ringletPlace);
+      mtu = le 4 xs (at + mtuPlace);
+      shapers = shapersAt xs (at + shapersPlace);
+      queues = queuesAt xs (at + queuesPlace);
+      fairness = fairnessAt xs (at + fairnessPlace);
+      site = siteAt xs (at + sitePlace);
     }
 
 -- ---- numbers of 32 bits
@@ -155,6 +207,9 @@ FairnessFits f =
     Fits32 (f .weight) × Fits32 (f .unit) × Fits32 (f .ticks) × Fits32 (f .unreserved)
     × Fits32 (f .age) × Fits32 (f .lp) × Fits32 (f .ramp)
 
+abbrev pub SiteFits : Site → Type 0
+SiteFits s = Unit {0}
+
 pub record SettingsFit (s : Settings) : Type 0 where
   pub of-address : AddressFits (s .address)
   pub of-ringlet : Fits32 (s .ringlet)
@@ -162,3 +217,4 @@ pub record SettingsFit (s : Settings) : Type 0 where
   pub of-shapers : ShapersFit (s .shapers)
   pub of-queues : QueuesFit (s .queues)
   pub of-fairness : FairnessFits (s .fairness)
+  pub of-site : SiteFits (s .site)

@@ -1,15 +1,13 @@
-// The settings of a station: their ranges, their defaults, and their 30 words of 4 bytes. Each is a number, so that settings and words are
+// The settings of a station: their ranges, their defaults, and their words of 4 bytes. Each is a number, so that settings and words are
 // the same thing twice, and whether they are in range is asked of the numbers.
 ghost use mathlib.Core.Path.{_≡_};
-ghost use Prim.Native.Nat.{_+_, _*_, _≤_};
-ghost use lib.ListN.{length};
+ghost use Prim.Native.Nat.{_*_, _≤_};
 ghost use Rattle.decide.specs.Test.{test};
-ghost use Rattle.wire.specs.Wire.{put};
-ghost use Rattle.settings.specs.Range.{limitsOf, bucketOk, shapersOk, capacityOk, queuesOk, ageOk, coefOk, fairnessOk, settingsOk};
+ghost use Rattle.settings.specs.Range.{limitsOf, bucketOk, shapersOk, capacityOk, queuesOk, ageOk, coefOk, fairnessOk, siteOk, settingsOk};
 ghost use Rattle.settings.specs.Range.{usualOf, addressOf};
-ghost use Rattle.settings.specs.Words.{addressAt, addressBytes, bucketAt, bucketBytes, shapersAt, shapersBytes, queuesAt, queuesBytes};
-ghost use Rattle.settings.specs.Words.{fairnessAt, fairnessBytes, settingsLength, settingsAt, settingsBytes};
 use shaper::Limits;
+
+mod places;
 
 // The settings of one shaper: loLimit, hiLimit, and the amount per tick.
 pub struct Bucket {
@@ -46,6 +44,9 @@ pub struct Fairness {
     pub ramp: u32,
 }
 
+// The settings whose words stand behind those of all other parts. There are none.
+pub struct Site {}
+
 // An address of 48 bits: its high 16 and its low 32.
 pub struct Address {
     pub high: u32,
@@ -60,13 +61,10 @@ pub struct Settings {
     pub shapers: Shapers,
     pub queues: Queues,
     pub fairness: Fairness,
+    pub site: Site,
 }
 
 impl Settings {
-    pub const WORDS: usize = 30;
-
-    pub const LENGTH: usize = 120;
-
     pub const MAX_RINGLET: u32 = 1;
 
     // Whether each setting is in its range.
@@ -81,34 +79,7 @@ impl Settings {
             & self.shapers.in_range(mtu)
             & self.queues.in_range(mtu)
             & self.fairness.in_range()
-    }
-
-    // The settings whose words stand in `s` from `at` on.
-    pub fn read(s: &[u8], at: usize) -> Settings
-        requires { ⌜ at + settingsLength ≤ length (now s) ⌝ }
-        ensures { λ r. ⌜ r ≡ settingsAt (now (s .entry)) at ⌝ }
-    {
-        Settings {
-            address: Address::read(s, at),
-            ringlet: wire::get32(s, at + 8),
-            mtu: wire::get32(s, at + 12),
-            shapers: Shapers::read(s, at + 16),
-            queues: Queues::read(s, at + 76),
-            fairness: Fairness::read(s, at + 92),
-        }
-    }
-
-    // Writes the words of the settings to `s` from `at` on.
-    pub fn write(self, s: &mut [u8], at: usize)
-        requires { ⌜ at + settingsLength ≤ length (now s) ⌝ }
-        ensures { λ _. ⌜ now (s .exit) ≡ put (now (s .entry)) at (settingsBytes self) ⌝ }
-    {
-        self.address.write(s, at);
-        wire::put32(s, at + 8, self.ringlet);
-        wire::put32(s, at + 12, self.mtu);
-        self.shapers.write(s, at + 16);
-        self.queues.write(s, at + 76);
-        self.fairness.write(s, at + 92);
+            & self.site.in_range()
     }
 }
 
@@ -120,26 +91,6 @@ impl Address {
         ensures { λ r. ⌜ r ≡ addressOf self ⌝ }
     {
         wide(self.high) * 4294967296 + wide(self.low)
-    }
-
-    // The address whose words stand in `s` from `at` on.
-    fn read(s: &[u8], at: usize) -> Address
-        requires { ⌜ at + 8 ≤ length (now s) ⌝ }
-        ensures { λ r. ⌜ r ≡ addressAt (now (s .entry)) at ⌝ }
-    {
-        Address {
-            high: wire::get32(s, at),
-            low: wire::get32(s, at + 4),
-        }
-    }
-
-    // Writes the words of an address to `s` from `at` on.
-    fn write(self, s: &mut [u8], at: usize)
-        requires { ⌜ at + 8 ≤ length (now s) ⌝ }
-        ensures { λ _. ⌜ now (s .exit) ≡ put (now (s .entry)) at (addressBytes self) ⌝ }
-    {
-        wire::put32(s, at, self.high);
-        wire::put32(s, at + 4, self.low);
     }
 }
 
@@ -163,28 +114,6 @@ impl Bucket {
             hi: self.hi,
         }
     }
-
-    // The shaper's settings whose words stand in `s` from `at` on.
-    fn read(s: &[u8], at: usize) -> Bucket
-        requires { ⌜ at + 12 ≤ length (now s) ⌝ }
-        ensures { λ r. ⌜ r ≡ bucketAt (now (s .entry)) at ⌝ }
-    {
-        Bucket {
-            lo: wire::get32(s, at),
-            hi: wire::get32(s, at + 4),
-            amount: wire::get32(s, at + 8),
-        }
-    }
-
-    // Writes the words of a shaper's settings to `s` from `at` on.
-    fn write(self, s: &mut [u8], at: usize)
-        requires { ⌜ at + 12 ≤ length (now s) ⌝ }
-        ensures { λ _. ⌜ now (s .exit) ≡ put (now (s .entry)) at (bucketBytes self) ⌝ }
-    {
-        wire::put32(s, at, self.lo);
-        wire::put32(s, at + 4, self.hi);
-        wire::put32(s, at + 8, self.amount);
-    }
 }
 
 impl Shapers {
@@ -197,32 +126,6 @@ impl Shapers {
             & self.b.in_range(mtu)
             & self.c.in_range(mtu)
             & self.d.in_range(mtu)
-    }
-
-    // The shapers' settings whose words stand in `s` from `at` on.
-    fn read(s: &[u8], at: usize) -> Shapers
-        requires { ⌜ at + 60 ≤ length (now s) ⌝ }
-        ensures { λ r. ⌜ r ≡ shapersAt (now (s .entry)) at ⌝ }
-    {
-        Shapers {
-            m: Bucket::read(s, at),
-            a: Bucket::read(s, at + 12),
-            b: Bucket::read(s, at + 24),
-            c: Bucket::read(s, at + 36),
-            d: Bucket::read(s, at + 48),
-        }
-    }
-
-    // Writes the words of the shapers' settings to `s` from `at` on.
-    fn write(self, s: &mut [u8], at: usize)
-        requires { ⌜ at + 60 ≤ length (now s) ⌝ }
-        ensures { λ _. ⌜ now (s .exit) ≡ put (now (s .entry)) at (shapersBytes self) ⌝ }
-    {
-        self.m.write(s, at);
-        self.a.write(s, at + 12);
-        self.b.write(s, at + 24);
-        self.c.write(s, at + 36);
-        self.d.write(s, at + 48);
     }
 }
 
@@ -238,30 +141,6 @@ impl Queues {
             & capacity_ok(least, self.control)
             & capacity_ok(2 * least, self.secondary)
             & (self.threshold <= self.secondary)
-    }
-
-    // The queues' settings whose words stand in `s` from `at` on.
-    fn read(s: &[u8], at: usize) -> Queues
-        requires { ⌜ at + 16 ≤ length (now s) ⌝ }
-        ensures { λ r. ⌜ r ≡ queuesAt (now (s .entry)) at ⌝ }
-    {
-        Queues {
-            control: wire::get32(s, at),
-            primary: wire::get32(s, at + 4),
-            secondary: wire::get32(s, at + 8),
-            threshold: wire::get32(s, at + 12),
-        }
-    }
-
-    // Writes the words of the queues' settings to `s` from `at` on.
-    fn write(self, s: &mut [u8], at: usize)
-        requires { ⌜ at + 16 ≤ length (now s) ⌝ }
-        ensures { λ _. ⌜ now (s .exit) ≡ put (now (s .entry)) at (queuesBytes self) ⌝ }
-    {
-        wire::put32(s, at, self.control);
-        wire::put32(s, at + 4, self.primary);
-        wire::put32(s, at + 8, self.secondary);
-        wire::put32(s, at + 12, self.threshold);
     }
 }
 
@@ -311,35 +190,14 @@ impl Fairness {
             & coef_ok(self.lp)
             & coef_ok(self.ramp)
     }
+}
 
-    // The fairness settings whose words stand in `s` from `at` on.
-    fn read(s: &[u8], at: usize) -> Fairness
-        requires { ⌜ at + 28 ≤ length (now s) ⌝ }
-        ensures { λ r. ⌜ r ≡ fairnessAt (now (s .entry)) at ⌝ }
+impl Site {
+    // Whether each of its settings is in its range.
+    fn in_range(self) -> bool
+        ensures { λ r. ⌜ r ≡ test (siteOk self) ⌝ }
     {
-        Fairness {
-            weight: wire::get32(s, at),
-            unit: wire::get32(s, at + 4),
-            ticks: wire::get32(s, at + 8),
-            unreserved: wire::get32(s, at + 12),
-            age: wire::get32(s, at + 16),
-            lp: wire::get32(s, at + 20),
-            ramp: wire::get32(s, at + 24),
-        }
-    }
-
-    // Writes the words of the fairness settings to `s` from `at` on.
-    fn write(self, s: &mut [u8], at: usize)
-        requires { ⌜ at + 28 ≤ length (now s) ⌝ }
-        ensures { λ _. ⌜ now (s .exit) ≡ put (now (s .entry)) at (fairnessBytes self) ⌝ }
-    {
-        wire::put32(s, at, self.weight);
-        wire::put32(s, at + 4, self.unit);
-        wire::put32(s, at + 8, self.ticks);
-        wire::put32(s, at + 12, self.unreserved);
-        wire::put32(s, at + 16, self.age);
-        wire::put32(s, at + 20, self.lp);
-        wire::put32(s, at + 24, self.ramp);
+        true
     }
 }
 

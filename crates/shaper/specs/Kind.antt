@@ -18,6 +18,6 @@ numberOf (Waiting x) = x
 numberOf (Idle x) = x
 numberOf (Send z) = z
 
--- the event of a kind, of which there are no others, and a number
+-- the event of a kind from 1 to 3 and a number
 unfoldable pub eventOf : ℕ → ℕ → Event
 eventOf k n = cond (eqb k 1) (Waiting n) (cond (eqb k 2) (Idle n) (Send n))

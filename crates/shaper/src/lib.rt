@@ -41,7 +41,7 @@ pub struct Shaper {
 // says more.
 pub struct Charged {
     pub number: u8,
-    pub detail: u32,
+    pub detail: u64,
     pub shaper: Shaper,
 }
 

@@ -15,6 +15,7 @@ use Rattle.wire.proofs.Places.{Stands, stands-whole, put-stands, bytes-append}
 use Rattle.wire.proofs.Numbers.{digits-stand, digits-bytes, le-bound}
 use Rattle.wire.proofs.Laid.{le-part, part-stands}
 use Rattle.wire.proofs.Placed.{placed-stand, laidOut-bytes}
+use Rattle.queue.specs.declared.Bounds.{Bounds}
 use Rattle.queue.specs.declared.Queue.{Queue}
 use Rattle.queue.specs.Queue.{framesOf}
 use Rattle.queue.specs.Range.{QueueOk}
@@ -117,9 +118,9 @@ each-fits [] h = tt
 each-fits (w ∷ ws) h = (h 0 (omega arith), each-fits ws (λ j l. h (suc j) (omega arith)))
 
 -- and so does a queue in range: the word of a frame has 23 bits, and that of an empty slot is 0
-pub queue-in-range-fits : (mtu capacity : ℕ) (q : Queue) → capacity ≤ 1048576 → QueueOk mtu capacity q → QueueFits q
+pub queue-in-range-fits : {bounds : Bounds} {capacity : ℕ} {q : Queue} → capacity ≤ 1048576 → QueueOk bounds capacity q → QueueFits q
 unfolding framesOf
-queue-in-range-fits mtu capacity q m ok =
+queue-in-range-fits {bounds} {capacity} {q} m ok =
     record {
       many = ok .slots;
       slots = each-fits (q .slots) each;
@@ -131,7 +132,7 @@ queue-in-range-fits mtu capacity q m ok =
     turn : (k : ℕ) → k < 128 → getD (q .slots) ((q .head + k) % 128) 0 < 256 ^ 4
     turn k l =
         ⊎-elim
-        (λ (h : k < q .count). omega (arith, in-all mtu (q .slots) (q .head) (q .count) (ok .frames) k h .mark))
+        (λ (h : k < q .count). omega (arith, in-all bounds (q .slots) (q .head) (q .count) (ok .frames) k h .mark))
         (λ h. omega (arith, ok .rest k (omega arith) l))
         (split (k <? q .count))
 

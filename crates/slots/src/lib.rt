@@ -10,6 +10,9 @@ use queue::Frame;
 use queue::Front;
 use queue::Queue;
 
+// How many bytes a queue takes.
+pub const LENGTH: usize = 518;
+
 // The queue whose bytes stand in `s` from `at` on, in range or not.
 pub fn read(s: &[u8], at: usize) -> Queue
     requires { ⌜ at + queueLength ≤ length (now s) ⌝ }

@@ -8,7 +8,7 @@ use Rattle.wire.specs.Wire.{be}
 use Rattle.rates.specs.Rates.{partOf, smoothedOf, shownOf, agedOf, rampedOf, allowanceOf, ownRateOf, countedOf, shareOf}
 use Rattle.queue.specs.Queue.{emptyQueue, framesFrom, sizes, spaceOf}
 use Rattle.queue.specs.Queue as queue
-use Rattle.queue.specs.Range.{occupied, slotOk, slotsOk, queueOk}
+use Rattle.queue.specs.Range.{occupied, slotOk, eachFrom, queueOk}
 use Rattle.settings.specs.declared.Bucket.{Bucket}
 use Rattle.settings.specs.declared.Settings.{Settings}
 use Rattle.settings.specs.Range.{settingsOk}
@@ -21,7 +21,7 @@ use Rattle.flow.specs.Select as selection
 use Rattle.fair.specs.Range.{fairOk}
 use Rattle.fair.specs.Count.{raisedOf}
 use Rattle.fair.specs.Age.{adjustOf, allowedOf, allowedcOf}
-use Rattle.fair.specs.Advertise.{heardOf, toldOf}
+use Rattle.fair.specs.Advertise.{receivedOf, toldOf}
 use Rattle.station.specs.declared.Station.{Station}
 use Rattle.station.specs.Range.{stationOk}
 use Rattle.station.specs.Calls.{freshOf}
@@ -39,6 +39,7 @@ settings =
       shapers = record { m = b; a = b; b = b; c = b; d = b };
       queues = record { control = 100; primary = 100; secondary = 128; threshold = 64 };
       fairness = record { weight = 1; unit = 1; ticks = 10; unreserved = 1999; age = 4; lp = 64; ramp = 64 };
+      site = record {};
     }
 
 -- C traffic waits, a client gives a frame of class C of 64 bytes with so many hops to go, and a frame goes
@@ -74,14 +75,14 @@ pub record Examples : Type 0 where
   pub size-61 : step (offerClient 2 61 7) (after (choked 250) busy) .answer .number ≡ 0
   pub size-62 : step (offerClient 2 62 7) (after (choked 250) busy) .answer .number ≡ 7
   -- Low threshold 64: 80 bytes of class B, in the secondary queue, make the station locally congested; as many of class A, in the primary queue, do not.
-  pub loaded-b : after (freshOf settings) (loaded 1) .fair .congested ≡ 1
-  pub loaded-a : after (freshOf settings) (loaded 0) .fair .congested ≡ 0
+  pub loaded-b : after (freshOf settings) (loaded 1) .fair .decided .congested ≡ 1
+  pub loaded-a : after (freshOf settings) (loaded 0) .fair .decided .congested ≡ 0
   -- A received frame is passed on with its ttl less 1, but for ttl 193: then FULL_RATE, with own address and ttl 255.
   pub told-194 : tellOf (choked 194) .advert ≡ record { ringlet = 1; ttl = 193; high = 3; low = 4; rate = 125 }
   pub told-193 : tellOf (choked 193) .advert ≡ record { ringlet = 1; ttl = 255; high = 1; low = 2; rate = 65535 }
 
 pub examples : Examples
-unfolding test stationOk settingsOk flowOk fairOk queueOk slotsOk slotOk occupied framesFrom sizes firstOf first refusedOr flow.startOf flow.tickOf queueFor wayOf selection.selectOf emptyQueue spaceOf queue.firstFrame queue.pushed queue.taken ownRateOf shareOf countedOf raisedOf be heardOf toldOf adjustOf allowedOf allowedcOf partOf smoothedOf shownOf agedOf rampedOf allowanceOf
+unfolding test stationOk settingsOk flowOk fairOk queueOk eachFrom slotOk occupied framesFrom sizes firstOf first refusedOr flow.startOf flow.tickOf queueFor wayOf selection.selectOf emptyQueue spaceOf queue.firstFrame queue.pushed queue.taken ownRateOf shareOf countedOf raisedOf be receivedOf toldOf adjustOf allowedOf allowedcOf partOf smoothedOf shownOf agedOf rampedOf allowanceOf
 examples =
     record {
       sent-credits = refl;

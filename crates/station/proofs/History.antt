@@ -79,8 +79,8 @@ module _ {st : Station} (ok : StationOk st) where
       (record { feeds = idle; settings = refl })
   step-goes (offerTransit class size hops eligible) =
       let x = givenFrame class size hops eligible in
-      offer-cases ok (λ (r : Done). Goes (offerTransit class size hops eligible) (ofDone r)) (queueFor class) x
-      (λ h. record { feeds = enter-feeds (st .settings) (st .flow) (queueFor class) x; settings = refl })
+      offer-cases ok (λ (r : Done). Goes (offerTransit class size hops eligible) (ofDone r)) (queueFor (st .settings) class) x
+      (λ h. record { feeds = enter-feeds (st .settings) (st .flow) (queueFor (st .settings) class) x; settings = refl })
       (record { feeds = idle; settings = refl })
   step-goes (offerControl size) =
       offer-cases ok (λ (r : Done). Goes (offerControl size) (ofDone r)) Control (controlFrame size)

@@ -7,7 +7,6 @@ use Rattle.queue.specs.Queue.{framesOf, sizes}
 use Rattle.flow.specs.declared.Line.the-variants.{Secondary}
 use Rattle.fair.specs.declared.Fair.{Fair}
 use Rattle.fair.specs.Age as interval
-use Rattle.fair.proofs.Heard.{heard-holds}
 use Rattle.station.specs.declared.Station.{Station}
 use Rattle.station.specs.declared.Done.{Done}
 use Rattle.station.specs.declared.Client.{Client}
@@ -29,7 +28,7 @@ age-ages {st} ok =
 
 -- the two that hold
 abbrev Steady : Fair → Fair → Type 0
-Steady f g = (g .congested ≡ f .congested) × (g .own ≡ f .own)
+Steady f g = (g .decided .congested ≡ f .decided .congested) × (g .decided .own ≡ f .decided .own)
 
 -- Local congestion and own rate hold till the next interval: no other call changes them.
 pub holds-till-interval : (st : Station) (c : Call) → (c ≡ age → ⊥) → Steady (st .fair) (step c st .station .fair)
@@ -44,7 +43,6 @@ holds-till-interval st select n =
     of-answer (notChosenOf st) _ (λ (r : Selected). Steady (st .fair) (r .station .fair)) _ (λ z. (refl, refl)) (λ h. (refl, refl))
 holds-till-interval st age n = absurd (n refl)
 holds-till-interval st (hear frame bytes) n =
-    of-answer (refusedOf st) _ (λ (r : Done). Steady (st .fair) (r .station .fair)) _
-    (λ z. let h = heard-holds (st .fair) _ in (h .0, h .1)) (λ h. (refl, refl))
+    of-answer (refusedOf st) _ (λ (r : Done). Steady (st .fair) (r .station .fair)) _ (λ z. (refl, refl)) (λ h. (refl, refl))
 holds-till-interval st tell n = (refl, refl)
 holds-till-interval st show n = (refl, refl)

@@ -19,6 +19,7 @@ use Rattle.advert.specs.Frame.{whole, advertIn}
 use Rattle.advert.proofs.ReadBack.{parsed-fits}
 use Rattle.flow.specs.declared.Line.{Line}
 use Rattle.flow.specs.declared.Line.the-variants.{Control}
+use Rattle.flow.specs.Parts.{boundsOf}
 use Rattle.flow.specs.Offer.{queueFor, controlFrame, enterOf}
 use Rattle.flow.specs.Select.{selectOf}
 use Rattle.flow.specs.Range.{FlowOk}
@@ -56,18 +57,18 @@ module _ {st : Station} (ok : StationOk st) where
       (λ f. subst P (sym (tick-done st a b c in-range f)) does)
       (λ f. subst P (sym (tick-coded st a b c in-range f)) turns)
 
-  pub offer-cases : (P : Done → Type 0) (l : Line) (x : Frame) → (FrameOk (st .settings .mtu) x → P (broughtOf st (enterOf (st .settings) (st .flow) l x))) → P (refusedOf st 3) → P (offerOf st l x)
+  pub offer-cases : (P : Done → Type 0) (l : Line) (x : Frame) → (FrameOk (boundsOf (st .settings)) x → P (broughtOf st (enterOf (st .settings) (st .flow) l x))) → P (refusedOf st 3) → P (offerOf st l x)
   offer-cases P l x does turns =
-      by-cases (true-or-false (test (frameOk (st .settings .mtu) x)))
-      (λ f. subst P (sym (offer-brought st l x in-range f)) (does (frame-facts (st .settings .mtu) x (facts (frameOk (st .settings .mtu) x) f))))
+      by-cases (true-or-false (test (frameOk (boundsOf (st .settings)) x)))
+      (λ f. subst P (sym (offer-brought st l x in-range f)) (does (frame-facts (boundsOf (st .settings)) x (facts (frameOk (boundsOf (st .settings)) x) f))))
       (λ f. subst P (sym (offer-coded st l x in-range f)) turns)
 
-  pub client-cases : (P : Client → Type 0) (class size hops : ℕ) → (FrameOk (st .settings .mtu) (givenFrame class size hops 0) → P (stagedOf st (staging st class size hops)))
+  pub client-cases : (P : Client → Type 0) (class size hops : ℕ) → (FrameOk (boundsOf (st .settings)) (givenFrame class size hops 0) → P (stagedOf st (staging st class size hops)))
       → P (turnedOf st 3) → P (offerClientOf st class size hops)
   client-cases P class size hops does turns =
       let x = givenFrame class size hops 0 in
-      by-cases (true-or-false (test (frameOk (st .settings .mtu) x)))
-      (λ f. subst P (sym (client-staged st class size hops in-range f)) (does (frame-facts (st .settings .mtu) x (facts (frameOk (st .settings .mtu) x) f))))
+      by-cases (true-or-false (test (frameOk (boundsOf (st .settings)) x)))
+      (λ f. subst P (sym (client-staged st class size hops in-range f)) (does (frame-facts (boundsOf (st .settings)) x (facts (frameOk (boundsOf (st .settings)) x) f))))
       (λ f. subst P (sym (client-coded st class size hops in-range f)) turns)
 
   pub select-case : (P : Selected → Type 0) → P (chosenOf st) → P (calls.selectOf st)
@@ -115,7 +116,7 @@ module _ {st : Station} (ok : StationOk st) where
       ok
   range-kept (offerTransit class size hops eligible) =
       let x = givenFrame class size hops eligible in
-      offer-cases (λ (r : Done). StationOk (r .station)) (queueFor class) x (λ h. frames-kept (queueFor class) x (transit-kept (ok .settings) x (ok .flow) h)) ok
+      offer-cases (λ (r : Done). StationOk (r .station)) (queueFor (st .settings) class) x (λ h. frames-kept (queueFor (st .settings) class) x (transit-kept (ok .settings) x (ok .flow) h)) ok
   range-kept (offerControl size) =
       offer-cases (λ (r : Done). StationOk (r .station)) Control (controlFrame size) (λ h. frames-kept Control (controlFrame size) (control-kept (ok .settings) size (ok .flow) h)) ok
   range-kept select =

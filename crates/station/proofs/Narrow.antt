@@ -15,8 +15,8 @@ use Rattle.advert.specs.Frame.{advertBytes, advertIn}
 use Rattle.advert.proofs.ReadBack.{parsed-fits}
 use Rattle.settings.specs.declared.Settings.{Settings}
 use Rattle.settings.specs.Range.{SettingsOk}
-use Rattle.fair.specs.declared.Fair.{Fair}
-use Rattle.fair.specs.Advertise.{heardOf, ownAddress}
+use Rattle.fair.specs.declared.Received.{Received}
+use Rattle.fair.specs.Advertise.{receivedOf, ownAddress}
 use Rattle.fair.specs.ReadBack.{ReadBack}
 use Rattle.fair.proofs.ReadBack.{frame-read-back}
 use Rattle.station.specs.declared.Station.{Station}
@@ -40,12 +40,12 @@ done-narrow old new n = of-answer _ _ (λ (r : Done). Narrow (r .station)) n (λ
 
 -- what a frame's bytes say of an address has four of them for the low word
 heard-narrow : {st : Station} (xs : List ℕ) → Bytes xs → Narrow st → Narrow (changedOf st (advertIn xs))
-unfolding heardOf
+unfolding receivedOf
 heard-narrow {st} xs bytes old =
     record {
       own-low = old .own-low;
       low =
-          of-each (λ (f : Fair). f .low < 4294967296) (test (advertIn xs .rate ≡? 65535)) _ _
+          of-each (λ (r : Received). r .low < 4294967296) (test (advertIn xs .rate ≡? 65535)) _ _
           (λ e. omega arith)
           (λ e. parsed-fits xs bytes .low-fits);
     }

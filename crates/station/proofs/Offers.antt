@@ -10,8 +10,9 @@ use Rattle.decide.specs.Test.{test, facts}
 use Rattle.decide.specs.Refusal.{Fault, firstOf, refusedOr}
 use Rattle.decide.proofs.Refusal.{in-order}
 use Rattle.decide.proofs.Refused.{of-answer, carried-by, refused-by}
+use Rattle.queue.specs.declared.Bounds.{Bounds}
 use Rattle.queue.specs.declared.Frame.{Frame}
-use Rattle.queue.specs.Frame.{frameOk, FrameOk, wordOf}
+use Rattle.queue.specs.Frame.{frameOk, FrameOk, BoundsOk, wordOf}
 use Rattle.queue.specs.Queue.{pushed, spaceOf}
 use Rattle.decide.proofs.Tests.{same-test}
 use Rattle.queue.proofs.Word.{frame-facts}
@@ -19,8 +20,9 @@ use Rattle.flow.specs.declared.Client as flow
 use Rattle.flow.specs.declared.Entered.{Entered}
 use Rattle.flow.specs.declared.Line.{Line}
 use Rattle.flow.specs.Which.{permitsAll, sends, fed}
-use Rattle.flow.specs.Parts.{queueOf, capacityOf, stageHolds, withCredits, withStage, withQueue}
+use Rattle.flow.specs.Parts.{queueOf, capacityOf, boundsOf, stageHolds, withCredits, withStage, withQueue}
 use Rattle.flow.specs.Offer.{Offered, enterFaults, enterOf, needsOf, markOf, clientFaults, clientFrame}
+use Rattle.flow.proofs.Range.{bounds-ok}
 use Rattle.flow.proofs.Offer.{enter-refused, enter-taken, client-full, client-barred, client-over, client-taken}
 use Rattle.station.specs.declared.Station.{Station}
 use Rattle.station.specs.declared.Done.{Done}
@@ -36,18 +38,18 @@ use Rattle.station.proofs.Range.{in-range-facts}
 cut-small : (x : ℕ) → x ≤ 9216 → cutOf x ≡ x
 cut-small x h = omega arith
 
-module _ (mtu : ℕ) (small : mtu ≤ 9216) (class size hops mark : ℕ) where
+module _ (bounds : Bounds) (small : BoundsOk bounds) (class size hops mark : ℕ) where
   -- a frame with a number that is cut is out of range before and after
-  cut-test : test (frameOk mtu (cutFrame class size hops mark)) ≡ test (frameOk mtu (givenFrame class size hops mark))
+  cut-test : test (frameOk bounds (cutFrame class size hops mark)) ≡ test (frameOk bounds (givenFrame class size hops mark))
   cut-test =
-      same-test (frameOk mtu (cutFrame class size hops mark)) (frameOk mtu (givenFrame class size hops mark))
-      (λ h. ((omega arith, omega arith), ((omega arith, omega arith), (omega arith, (omega arith, omega arith)))))
-      (λ h. ((omega arith, omega arith), ((omega arith, omega arith), (omega arith, (omega arith, omega arith)))))
+      same-test (frameOk bounds (cutFrame class size hops mark)) (frameOk bounds (givenFrame class size hops mark))
+      (λ h. ((omega arith, omega (arith, small .mtu-most)), ((omega arith, omega arith), (omega arith, (omega arith, omega arith)))))
+      (λ h. ((omega arith, omega (arith, small .mtu-most)), ((omega arith, omega arith), (omega arith, (omega arith, omega arith)))))
 
-  cut-is : FrameOk mtu (givenFrame class size hops mark) → cutFrame class size hops mark ≡ givenFrame class size hops mark
+  cut-is : FrameOk bounds (givenFrame class size hops mark) → cutFrame class size hops mark ≡ givenFrame class size hops mark
   cut-is ok =
       rw
-      (cut-small size (omega (arith, ok .most)), cut-small hops (omega (arith, ok .hops)), cut-small class (omega (arith, ok .class)), cut-small mark (omega (arith, ok .mark)))
+      (cut-small size (omega (arith, ok .most, small .mtu-most)), cut-small hops (omega (arith, ok .hops)), cut-small class (omega (arith, ok .class)), cut-small mark (omega (arith, ok .mark)))
 
 -- the frame of the numbers, each cut, in a station in range
 module _ (st : Station) (e : test (stationOk st) ≡ true) (class size hops mark : ℕ) (x : Frame) (q : x ≡ cutFrame class size hops mark) where
@@ -55,17 +57,17 @@ module _ (st : Station) (e : test (stationOk st) ≡ true) (class size hops mark
   ok = in-range-facts st e
 
   -- its test is that of the given frame,
-  pub cut-tested : (b : Bool) → test (frameOk (st .settings .mtu) x) ≡ b → test (frameOk (st .settings .mtu) (givenFrame class size hops mark)) ≡ b
+  pub cut-tested : (b : Bool) → test (frameOk (boundsOf (st .settings)) x) ≡ b → test (frameOk (boundsOf (st .settings)) (givenFrame class size hops mark)) ≡ b
   cut-tested b t =
-      sym (cut-test (st .settings .mtu) (ok .settings .mtu-most) class size hops mark) ∙ sym (ap (λ (f : Frame). test (frameOk (st .settings .mtu) f)) q) ∙ t
+      sym (cut-test (boundsOf (st .settings)) (bounds-ok (ok .settings)) class size hops mark) ∙ sym (ap (λ (f : Frame). test (frameOk (boundsOf (st .settings)) f)) q) ∙ t
 
-  module _ (t : test (frameOk (st .settings .mtu) x) ≡ true) where
-    given-ok : FrameOk (st .settings .mtu) (givenFrame class size hops mark)
-    given-ok = let f = givenFrame class size hops mark in frame-facts (st .settings .mtu) f (facts (frameOk (st .settings .mtu) f) (cut-tested true t))
+  module _ (t : test (frameOk (boundsOf (st .settings)) x) ≡ true) where
+    given-ok : FrameOk (boundsOf (st .settings)) (givenFrame class size hops mark)
+    given-ok = let f = givenFrame class size hops mark in frame-facts (boundsOf (st .settings)) f (facts (frameOk (boundsOf (st .settings)) f) (cut-tested true t))
 
     -- which it is where it passes,
     pub cut-given : x ≡ givenFrame class size hops mark
-    cut-given = q ∙ cut-is (st .settings .mtu) (ok .settings .mtu-most) class size hops mark given-ok
+    cut-given = q ∙ cut-is (boundsOf (st .settings)) (bounds-ok (ok .settings)) class size hops mark given-ok
 
     -- and which may be offered then
     pub cut-offered : Offered (st .settings) (st .flow) (givenFrame class size hops mark)
@@ -80,11 +82,11 @@ module _ (st : Station) (l : Line) (x : Frame) where
   offer-lost e = rw (in-order (offerFaults st l x) refl, e)
 
   -- else 3 where the frame is
-  pub offer-coded : test (stationOk st) ≡ true → test (frameOk (st .settings .mtu) x) ≡ false → offerOf st l x ≡ refusedOf st 3
+  pub offer-coded : test (stationOk st) ≡ true → test (frameOk (boundsOf (st .settings)) x) ≡ false → offerOf st l x ≡ refusedOf st 3
   unfolding refusedOr
   offer-coded e f = rw (in-order (offerFaults st l x) refl, e, f)
 
-  module _ (e : test (stationOk st) ≡ true) (f : test (frameOk (st .settings .mtu) x) ≡ true) where
+  module _ (e : test (stationOk st) ≡ true) (f : test (frameOk (boundsOf (st .settings)) x) ≡ true) where
     -- else what the queue says:
     pub offer-brought : offerOf st l x ≡ broughtOf st (enterOf (st .settings) (st .flow) l x)
     offer-brought =
@@ -119,11 +121,11 @@ module _ (st : Station) (class size hops : ℕ) where
   client-lost e = rw (in-order (offerClientFaults st class size hops) refl, e)
 
   -- else 3 where the frame is
-  pub client-coded : test (stationOk st) ≡ true → test (frameOk (st .settings .mtu) (givenFrame class size hops 0)) ≡ false → offerClientOf st class size hops ≡ turnedOf st 3
+  pub client-coded : test (stationOk st) ≡ true → test (frameOk (boundsOf (st .settings)) (givenFrame class size hops 0)) ≡ false → offerClientOf st class size hops ≡ turnedOf st 3
   unfolding refusedOr
   client-coded e f = rw (in-order (offerClientFaults st class size hops) refl, e, f)
 
-  module _ (e : test (stationOk st) ≡ true) (f : test (frameOk (st .settings .mtu) (givenFrame class size hops 0)) ≡ true) where
+  module _ (e : test (stationOk st) ≡ true) (f : test (frameOk (boundsOf (st .settings)) (givenFrame class size hops 0)) ≡ true) where
     -- else what the stage says:
     pub client-staged : offerClientOf st class size hops ≡ stagedOf st (staging st class size hops)
     client-staged =

@@ -18,7 +18,7 @@ use Rattle.station.proofs.Range.{facts-in-range}
 use Rattle.station.proofs.Hear.{frame-found, hear-whole, listen-done, tell-done}
 
 -- stations in range; the low 32 bits of an address are a 32-bit number
-module _ {st : Station} (ok : StationOk st) (own-low : st .settings .address .low < 4294967296) (low : st .fair .low < 4294967296) {t : Station} (good : StationOk t) where
+module _ {st : Station} (ok : StationOk st) (own-low : st .settings .address .low < 4294967296) (low : st .fair .received .low < 4294967296) {t : Station} (good : StationOk t) where
   -- Reading a written frame, with the same ringlet but an address it doesn't bear, is not refused, and takes what was told.
   pub told-heard : t .settings .ringlet ≡ st .settings .ringlet → test (ownAddress (t .settings) (tellOf st .advert)) ≡ false
       → hearOf t (advertBytes (tellOf st .advert)) ≡ doneOf (changedOf t (tellOf st .advert))

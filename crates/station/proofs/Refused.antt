@@ -35,7 +35,7 @@ use Rattle.station.proofs.Range.{facts-in-range}
 abbrev pub rowsOf : Call → Station → List Fault
 rowsOf (tick a b c) st = tickFaults st a b c
 rowsOf (offerClient class size hops) st = offerClientFaults st class size hops
-rowsOf (offerTransit class size hops eligible) st = offerFaults st (queueFor class) (givenFrame class size hops eligible)
+rowsOf (offerTransit class size hops eligible) st = offerFaults st (queueFor (st .settings) class) (givenFrame class size hops eligible)
 rowsOf (offerControl size) st = offerFaults st Control (controlFrame size)
 rowsOf select st = selectFaults st
 rowsOf age st = ageFaults st

@@ -12,6 +12,7 @@ use Rattle.flow.specs.declared.Pick as picks
 use Rattle.flow.specs.Pick.{sightOf, leftOf}
 use Rattle.flow.proofs.Select.{nothing-exactly}
 use Rattle.flow.proofs.Picking as flow
+use Rattle.settings.specs.declared.Settings.{Settings}
 use Rattle.fair.specs.declared.Fair.{Fair}
 use Rattle.fair.specs.Count.{beyond, raisedOf, countOf}
 use Rattle.fair.proofs.Count.{other-origin}
@@ -43,13 +44,13 @@ pub pick-leaves : (st : Station) → chosenOf st ≡ leaving st (pickOf st)
 pick-leaves st = ap (givenOf st) (flow.pick-leaves (st .settings) (st .flow))
 
 -- what is picked of the frames and credits, and counted
-abbrev pub counting : Fair → picks.Pick → Pick
-counting f p =
-    record { origin = p .origin; frame = p .frame; credits = p .credits; stage = p .stage; fair = countOf f (p .origin) (p .frame .mark) (p .frame .hops) (p .frame .size) }
+abbrev pub counting : Settings → Fair → picks.Pick → Pick
+counting s f p =
+    record { origin = p .origin; frame = p .frame; credits = p .credits; stage = p .stage; fair = countOf s f (p .origin) (p .frame .mark) (p .frame .hops) (p .frame .size) }
 
 -- A station that looks like this one picks the same.
 pub sight-picks : (st : Station) → pickOf (seenAs (st .settings) (sightOf (st .flow)) (st .fair)) ≡ pickOf st
-sight-picks st = ap (counting (st .fair)) (flow.sight-picks (st .settings) (st .flow))
+sight-picks st = ap (counting (st .settings) (st .fair)) (flow.sight-picks (st .settings) (st .flow))
 
 -- ---- nothing
 
@@ -66,7 +67,7 @@ module _ (st : Station) where
       (λ lost. ap (λ (r : Selected). r .station) (select-lost st lost))
     where
       uncounted : givenOf st (nothingOf (st .flow)) .station ≡ st
-      uncounted = rw (other-origin (st .fair) 0 0 0 0 (λ e. omega arith) (λ e. omega arith))
+      uncounted = rw (other-origin (st .fair) (st .settings) 0 0 0 0 (λ e. omega arith) (λ e. omega arith))
 
 -- ---- counting
 
@@ -74,11 +75,11 @@ module _ {st : Station} (ok : StationOk st) where
   -- The state and the hops are those of the selection.
   pub select-counts :
       let r = selectOf st in
-      r .station .fair ≡ countOf (st .fair) (r .origin) (r .frame .mark) (r .frame .hops) (r .frame .size)
-  select-counts = subst (λ (r : Selected). r .station .fair ≡ countOf (st .fair) (r .origin) (r .frame .mark) (r .frame .hops) (r .frame .size)) (sym (select-done st (facts-in-range st ok))) refl
+      r .station .fair ≡ countOf (st .settings) (st .fair) (r .origin) (r .frame .mark) (r .frame .hops) (r .frame .size)
+  select-counts = subst (λ (r : Selected). r .station .fair ≡ countOf (st .settings) (st .fair) (r .origin) (r .frame .mark) (r .frame .hops) (r .frame .size)) (sym (select-done st (facts-in-range st ok))) refl
 
   module _ (marked : selectOf st .frame .mark ≡ 1) where
-    counted : (origin : ℕ) → selectOf st .origin ≡ origin → selectOf st .station .fair ≡ countOf (st .fair) origin 1 (selectOf st .frame .hops) (selectOf st .frame .size)
+    counted : (origin : ℕ) → selectOf st .origin ≡ origin → selectOf st .station .fair ≡ countOf (st .settings) (st .fair) origin 1 (selectOf st .frame .hops) (selectOf st .frame .size)
     counted origin e = select-counts ∙ rw (e, marked)
 
     -- An eligible stage frame adds its size to addRate, which stops at 2,147,483,647;

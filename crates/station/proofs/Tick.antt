@@ -21,7 +21,7 @@ use Rattle.station.proofs.Calls.{tick-done}
 
 -- C's amount is the smaller of its setting and floor(allowedRate / (ageCoef × ticks per interval)).
 pub c-amount : (st : Station)
-    → amountFor st C ≡ min (st .settings .shapers .c .amount) (st .fair .allowed / (st .settings .fairness .age * st .settings .fairness .ticks))
+    → amountFor st C ≡ min (st .settings .shapers .c .amount) (st .fair .decided .allowed / (st .settings .fairness .age * st .settings .fairness .ticks))
 unfolding shareOf
 c-amount st = refl
 

@@ -38,7 +38,7 @@ countedOf st r =
     record {
       settings = st .settings;
       flow = r .flow;
-      fair = countOf (st .fair) (r .origin) (r .frame .mark) (r .frame .hops) (r .frame .size);
+      fair = countOf (st .settings) (st .fair) (r .origin) (r .frame .mark) (r .frame .hops) (r .frame .size);
     }
 
 -- the chosen frame

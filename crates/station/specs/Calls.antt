@@ -53,7 +53,7 @@ tickFaults st a b c = rangeFault st ∷ fault 3 (not (test (flagsOk a b c))) ∷
 
 -- what one tick has of the allowed rate: floor(allowedRate / (ageCoef × ticks per interval))
 abbrev pub shareFor : Station → ℕ
-shareFor st = shareOf (st .fair .allowed) (st .settings .fairness .age) (st .settings .fairness .ticks)
+shareFor st = shareOf (st .fair .decided .allowed) (st .settings .fairness .age) (st .settings .fairness .ticks)
 
 -- what a shaper is given by a tick of this station
 abbrev pub amountFor : Station → Which → ℕ

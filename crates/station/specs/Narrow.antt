@@ -11,4 +11,4 @@ NarrowOwn s = s .address .low < 4294967296
 -- own and received address: their low words
 pub record Narrow (st : Station) : Type 0 where
   pub own-low : NarrowOwn (st .settings)
-  pub low : st .fair .low < 4294967296
+  pub low : st .fair .received .low < 4294967296

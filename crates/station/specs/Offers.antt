@@ -12,6 +12,7 @@ use Rattle.flow.specs.declared.Entered.{Entered}
 use Rattle.flow.specs.declared.Line.{Line}
 use Rattle.flow.specs.declared.Line.the-variants.{Control}
 use Rattle.flow.specs.declared.Way.{Way}
+use Rattle.flow.specs.Parts.{boundsOf}
 use Rattle.flow.specs.Offer.{enterFaults, enterOf, queueFor, controlFrame, wayOf, clientFaults, clientOf}
 use Rattle.fair.specs.Count.{over}
 use Rattle.station.specs.declared.Station.{Station}
@@ -27,7 +28,7 @@ givenFrame class size hops mark = record { size = size; hops = hops; class = cla
 
 -- 3: a frame .. or coded choice (class .. yes or no and the like) is outside its range
 abbrev pub frameFault : Station → Frame → Fault
-frameFault st x = fault 3 (not (test (frameOk (st .settings .mtu) x)))
+frameFault st x = fault 3 (not (test (frameOk (boundsOf (st .settings)) x)))
 
 -- the same frame with each number cut to 32 bits at most
 abbrev pub cutOf : ℕ → ℕ
@@ -52,7 +53,7 @@ offerOf st l x = refusedOr (refusedOf st) (firstOf (offerFaults st l x)) (doneOf
 
 -- Transit A goes to the primary queue, B and C to the secondary.
 abbrev pub offerTransitOf : Station → ℕ → ℕ → ℕ → ℕ → Done
-offerTransitOf st class size hops eligible = offerOf st (queueFor class) (givenFrame class size hops eligible)
+offerTransitOf st class size hops eligible = offerOf st (queueFor (st .settings) class) (givenFrame class size hops eligible)
 
 -- Control frames, given by size alone (class A, 1 hop), go to the control queue.
 abbrev pub offerControlOf : Station → ℕ → Done

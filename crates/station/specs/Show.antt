@@ -22,7 +22,8 @@ heldIn q = record { frames = q .count; bytes = q .held }
 unfoldable pub heldOn : ℕ → Held
 heldOn w = cond (eqb w 0) (record { frames = 0; bytes = 0 }) (record { frames = 1; bytes = frameOf w .size })
 
--- the credits of M, A, B, C, D; what control, primary and secondary queue and the stage hold; the fairness state
+-- the credits of M, A, B, C, D; what control, primary and secondary queue and the stage hold; the counters, the smoothed rates, what intervals decide,
+-- and what was received
 abbrev pub readingOf : Station → Reading
 readingOf st =
     record {
@@ -31,7 +32,10 @@ readingOf st =
       primary = heldIn (st .flow .primary);
       secondary = heldIn (st .flow .secondary);
       stage = heldOn (st .flow .stage);
-      fair = st .fair;
+      counters = st .fair .counters;
+      smoothed = st .fair .smoothed;
+      decided = st .fair .decided;
+      received = st .fair .received;
     }
 
 abbrev pub showFaults : Station → List Fault
@@ -46,21 +50,10 @@ blankOf =
       primary = record { frames = 0; bytes = 0 };
       secondary = record { frames = 0; bytes = 0 };
       stage = record { frames = 0; bytes = 0 };
-      fair =
-          record {
-            counters = noneCounted;
-            smoothed = noneCounted;
-            local = 0;
-            allowed = 0;
-            allowedc = 0;
-            own = 0;
-            congested = 0;
-            downstream = 0;
-            ttl = 0;
-            high = 0;
-            low = 0;
-            rate = 0;
-          };
+      counters = noneCounted;
+      smoothed = noneCounted;
+      decided = record { local = 0; allowed = 0; allowedc = 0; own = 0; congested = 0 };
+      received = record { downstream = 0; ttl = 0; high = 0; low = 0; rate = 0 };
     }
 
 -- a refusal shows nothing

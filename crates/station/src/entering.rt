@@ -1,11 +1,15 @@
 // Frames in: what a client, the ring and the control protocol offer. Numbers come as they are given; one that no frame has is refused.
 ghost use mathlib.Core.Path.{_≡_};
+ghost use Rattle.decide.specs.Test.{test};
+ghost use Rattle.queue.specs.Frame.{frameOk};
+ghost use Rattle.flow.specs.Parts.{boundsOf};
 ghost use Rattle.station.specs.Offers.{cutOf, cutFrame, broughtOf, clientFor, turnedOf, offerClientOf, offerTransitOf, offerControlOf};
 use crate::Client;
 use crate::Done;
 use crate::Station;
 use flow::Entered;
 use queue::Frame;
+use settings::Settings;
 
 // The largest number of 32 bits. No frame has it: not as size, hops, class or mark.
 const MOST: u64 = 4294967295;
@@ -19,7 +23,7 @@ impl Station {
             return self.turned_down(1);
         }
         let frame = frame_of(class, size, hops, 0);
-        if !frame.in_range(self.settings.mtu) {
+        if !frame_ok(self.settings, frame) {
             return self.turned_down(3);
         }
         self.client(frame)
@@ -33,7 +37,7 @@ impl Station {
             return self.refused(1);
         }
         let frame = frame_of(class, size, hops, eligible);
-        if !frame.in_range(self.settings.mtu) {
+        if !frame_ok(self.settings, frame) {
             return self.refused(3);
         }
         let flow = self.flow;
@@ -49,7 +53,7 @@ impl Station {
             return self.refused(1);
         }
         let frame = frame_of(0, size, 1, 0);
-        if !frame.in_range(self.settings.mtu) {
+        if !frame_ok(self.settings, frame) {
             return self.refused(3);
         }
         let flow = self.flow;
@@ -113,6 +117,13 @@ fn frame_of(class: u64, size: u64, hops: u64, mark: u64) -> Frame
         class: cut(class),
         mark: cut(mark),
     }
+}
+
+// Whether a frame is in its range under these settings: else refusal 3.
+fn frame_ok(settings: Settings, frame: Frame) -> bool
+    ensures { λ r. ⌜ r ≡ test (frameOk (boundsOf settings) frame) ⌝ }
+{
+    frame.in_range(flow::bounds(settings))
 }
 
 // A number, or the largest of 32 bits where it is larger.

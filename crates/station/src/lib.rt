@@ -12,7 +12,10 @@ mod hearing;
 mod showing;
 
 use advert::Advert;
+use fair::Decided;
 use fair::Fair;
+use fair::Four;
+use fair::Received;
 use flow::Credits;
 use flow::Flow;
 use flow::Sight;
@@ -30,14 +33,14 @@ pub struct Station {
 // as none says more.
 pub struct Done {
     pub number: u8,
-    pub detail: u32,
+    pub detail: u64,
     pub station: Station,
 }
 
 // What a client's offer answers: 0 or the number of the refusal, the mark that its frame was given, and the station afterwards.
 pub struct Client {
     pub number: u8,
-    pub detail: u32,
+    pub detail: u64,
     pub mark: u32,
     pub station: Station,
 }
@@ -55,7 +58,7 @@ pub struct Pick {
 // What goes next: where it comes from, the frame, and the whole station afterwards.
 pub struct Selected {
     pub number: u8,
-    pub detail: u32,
+    pub detail: u64,
     pub origin: u32,
     pub frame: Frame,
     pub station: Station,
@@ -64,7 +67,7 @@ pub struct Selected {
 // What telling answers: 0 or the number of the refusal, and the frame that is advertised.
 pub struct Told {
     pub number: u8,
-    pub detail: u32,
+    pub detail: u64,
     pub advert: Advert,
 }
 
@@ -74,20 +77,24 @@ pub struct Held {
     pub bytes: u32,
 }
 
-// A reading of a station: its 31 words are these numbers in this order, 5 credits, 8 of what is held, and the 18 of the fairness state.
+// A reading of a station: its 31 words are these numbers in this order, 5 credits, 8 of what is held, 8 of the counters and the smoothed rates, and 5 each
+// of what intervals decide and of what was received.
 pub struct Reading {
     pub credits: Credits,
     pub control: Held,
     pub primary: Held,
     pub secondary: Held,
     pub stage: Held,
-    pub fair: Fair,
+    pub counters: Four,
+    pub smoothed: Four,
+    pub decided: Decided,
+    pub received: Received,
 }
 
 // What showing answers: 0 or the number of the refusal, and the reading.
 pub struct Shown {
     pub number: u8,
-    pub detail: u32,
+    pub detail: u64,
     pub reading: Reading,
 }
 
@@ -271,7 +278,7 @@ pub fn picked(settings: Settings, sight: Sight, fair: Fair) -> Pick
     let out = sight.pick(settings);
     let chosen = out.frame;
     let credits = out.credits;
-    let counted = fair.count(out.origin, chosen.mark, chosen.hops, chosen.size);
+    let counted = fair.count(settings, out.origin, chosen.mark, chosen.hops, chosen.size);
     Pick {
         origin: out.origin,
         frame: chosen,

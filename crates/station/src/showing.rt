@@ -5,8 +5,9 @@ use crate::Held;
 use crate::Reading;
 use crate::Shown;
 use crate::Station;
-use fair::Fair;
+use fair::Decided;
 use fair::Four;
+use fair::Received;
 use flow::Credits;
 use queue::Frame;
 use queue::Queue;
@@ -39,13 +40,20 @@ impl Station {
         let flow = self.flow;
         let credits = flow.credits;
         let fair = self.fair;
+        let counters = fair.counters;
+        let smoothed = fair.smoothed;
+        let decided = fair.decided;
+        let received = fair.received;
         Reading {
             credits: credits,
             control: Held::in_queue(flow.control),
             primary: Held::in_queue(flow.primary),
             secondary: Held::in_queue(flow.secondary),
             stage: Held::on_stage(flow.stage),
-            fair: fair,
+            counters: counters,
+            smoothed: smoothed,
+            decided: decided,
+            received: received,
         }
     }
 }
@@ -80,6 +88,9 @@ impl Held {
 }
 
 impl Reading {
+    // How many words a reading has.
+    pub const WORDS: usize = 31;
+
     // A reading that says nothing: each word is 0.
     fn blank() -> Reading
         ensures { λ r. ⌜ r ≡ blankOf ⌝ }
@@ -101,27 +112,41 @@ impl Reading {
             addc: 0,
             fwc: 0,
         };
-        let fair = Fair {
-            counters: zeros,
-            smoothed: zeros,
-            local: 0,
-            allowed: 0,
-            allowedc: 0,
-            own: 0,
-            congested: 0,
-            downstream: 0,
-            ttl: 0,
-            high: 0,
-            low: 0,
-            rate: 0,
-        };
         Reading {
             credits: credits,
             control: none,
             primary: none,
             secondary: none,
             stage: none,
-            fair: fair,
+            counters: zeros,
+            smoothed: zeros,
+            decided: no_decision(),
+            received: no_frame(),
         }
+    }
+}
+
+// What intervals decide, and what was received, where a reading says nothing.
+fn no_decision() -> Decided
+    ensures { λ r. ⌜ r ≡ blankOf .decided ⌝ }
+{
+    Decided {
+        local: 0,
+        allowed: 0,
+        allowedc: 0,
+        own: 0,
+        congested: 0,
+    }
+}
+
+fn no_frame() -> Received
+    ensures { λ r. ⌜ r ≡ blankOf .received ⌝ }
+{
+    Received {
+        downstream: 0,
+        ttl: 0,
+        high: 0,
+        low: 0,
+        rate: 0,
     }
 }

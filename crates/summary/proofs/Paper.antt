@@ -1,6 +1,6 @@
 -- The paper's signed formulas are those by natural numbers: the join, the end credit, the range.
 -- Assumes nothing.
-use Prim.Native.Nat.{ℕ, _+_, _-_, _*_, _≤_, _<_, max}
+use Prim.Native.Nat.{ℕ, _+_, _-_, _*_, _≤_, max}
 use mathlib.Core.Bool.{Bool, true, false, true≢false}
 use mathlib.Core.Logic.{_⊎_, inl, inr, ⊎-elim}
 use mathlib.Core.Path.{_≡_, refl, sym, ap, _∙_}
@@ -15,7 +15,7 @@ use Rattle.shaper.proofs.Ranges.{limits-facts, facts-limits}
 use Rattle.plain.specs.declared.Plain.{Plain}
 use Rattle.plain.specs.Plain.{plainNeed, plainDepth, plainJoined, plainEnd}
 use Rattle.plain.specs.Range.{plainRange, Sound, Same, Small}
-use Rattle.plain.proofs.Laws.{in-range-sound, depth-least, depth-is, need-is, plain-eq, Ends, ends}
+use Rattle.plain.proofs.Laws.{in-range-sound, depth-least, depth-is, need-is, plain-eq, ends}
 use Rattle.plain.proofs.Ceiling.{depth-ceiling, ceiling-depth}
 use Rattle.summary.specs.declared.Summary.{Summary}
 use Rattle.summary.specs.Summary.{gain, ceilingOf, needℤ, joined, endℤ}

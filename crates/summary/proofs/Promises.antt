@@ -15,7 +15,6 @@ use Rattle.shaper.specs.declared.Event.the-variants.{Waiting, Idle, Send}
 use Rattle.shaper.specs.Limits.{limitsOk, sameLimits, mostEvents}
 use Rattle.shaper.specs.Credit.{AllValid, Permitted, endCredit, accruedOf, sentOf}
 use Rattle.shaper.proofs.Ranges.{same-exactly}
-use Rattle.plain.specs.declared.Plain.{Plain}
 use Rattle.plain.specs.Plain.{plainEmpty, plainSingle, plainJoined, plainOf, plainEnd}
 use Rattle.plain.specs.Range.{Same}
 use Rattle.plain.proofs.Laws.{in-range-sound, sound-in-range, joined-sound, joined-assoc, empty-left, empty-right}

@@ -4,7 +4,6 @@ ghost use Prim.Native.Nat.{_≤_};
 ghost use lib.IntN.{pos};
 ghost use lib.Signed.{ltZ};
 ghost use Rattle.shaper.specs.declared.Event.{Event};
-ghost use Rattle.plain.specs.Range.{Small};
 ghost use Rattle.summary.specs.Summary.{oneTick};
 ghost use Rattle.summary.specs.Range.{inRange};
 ghost use Rattle.summary.specs.Answer.{emptyAnswer, singleAnswer, joinOf, settleOf};

@@ -9,6 +9,7 @@ use settings::Fairness;
 use settings::Queues;
 use settings::Settings;
 use settings::Shapers;
+use settings::Site;
 use shaper::Limits;
 use shaper::Shaper;
 use station::Station;
@@ -49,7 +50,8 @@ fn charged(s: Shaper, size: u32) -> Shaper {
     next
 }
 
-// A fresh station: every shaper 100 300 50, queues of 256 bytes, low threshold 128, weight 2, unit 4, 10 ticks, unreservedRate 10,000.
+// A fresh station: every shaper 100 300 50, queues of 256 bytes, low threshold 128, weight 2, unit 4, 10 ticks, unreservedRate 10,000, default
+// coefficients.
 fn started() -> Station {
     let bucket = Bucket {
         lo: 100,
@@ -73,15 +75,7 @@ fn started() -> Station {
         secondary: 256,
         threshold: 128,
     };
-    let fairness = Fairness {
-        weight: 2,
-        unit: 4,
-        ticks: 10,
-        unreserved: 10000,
-        age: 4,
-        lp: 64,
-        ramp: 64,
-    };
+    let fairness = Fairness::usual(2, 4, 10, 10000);
     Station::fresh(Settings {
         address: address,
         ringlet: 0,
@@ -89,6 +83,7 @@ fn started() -> Station {
         shapers: shapers,
         queues: queues,
         fairness: fairness,
+        site: Site {},
     })
 }
 
@@ -176,7 +171,7 @@ fn after(call: &[u8], said: u8, s: Station) -> Station {
     number(b" held ", control.held as u64);
     number(b" ", primary.held as u64);
     number(b" ", secondary.held as u64);
-    number(b" received ", fair.rate as u64);
+    number(b" received ", fair.received.rate as u64);
     text(b"\n");
     s
 }

@@ -2,6 +2,7 @@
 // `refused N`. An empty line, and one that begins with #, is skipped.
 ghost use Prim.Native.Nat.{_≤_};
 ghost use lib.ListN.{length};
+use reader::Place;
 use record::Step;
 use script::Input;
 use script::print::number;
@@ -43,17 +44,23 @@ fn spelt(line: &[u8], room: &mut [u8]) -> usize
 
 // Prints what a reader finds from the first event on.
 fn walk(bytes: &[u8]) {
-    let mut at = reader::START;
+    let mut place = Place {
+        at: reader::START,
+        done: 0,
+    };
     loop {
-        match reader::read_at(bytes, at) {
+        match reader::read_at(bytes, place) {
             Step::Stands {
                 kind,
                 number,
-                count: _,
+                count,
                 next,
             } => {
                 event(kind, number);
-                at = next;
+                place = Place {
+                    at: next,
+                    done: place.done + count as u64,
+                };
             }
             Step::End => {
                 text(b"end\n");

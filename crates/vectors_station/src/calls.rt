@@ -6,12 +6,13 @@ use script::Row;
 use script::Value;
 use settings::Settings;
 use station::Done;
+use station::Reading;
 use station::Station;
 
-// How many bytes a fairness frame takes, and a reading, which has 31 words.
+// How many bytes a fairness frame takes, and a reading.
 const FRAME: u64 = advert::LENGTH as u64;
 
-const READING: u64 = 124;
+const READING: u64 = 4 * Reading::WORDS as u64;
 
 // The largest number of 32 bits.
 const MOST: u64 = u32::MAX as u64;
@@ -55,7 +56,7 @@ fn numbered(station: Station, name: &[u8], row: Row) -> Station {
     wrong(station, name, b"it is no call")
 }
 
-// The 30 words of the settings, each of 4 bytes; another number of words is another length.
+// The words of the settings, each of 4 bytes; another number of words is another length.
 fn start(station: Station, row: Row) -> Station {
     let words = row.values;
     if row.wrong | (MOST < row.largest) {
@@ -176,8 +177,8 @@ fn wrong(station: Station, name: &[u8], what: &[u8]) -> Station {
     station
 }
 
-// The settings of these words, the first 30 of them.
-pub fn settings_of(words: [u64; 32]) -> Settings {
+// The settings of these words, as many of them as settings have.
+pub fn settings_of(words: [u64; Row::ROOM]) -> Settings {
     let mut bytes = [0u8; Settings::LENGTH];
     let mut i = 0;
     while i < Settings::WORDS {

@@ -5,12 +5,13 @@ mod print;
 mod reading;
 
 use script::Input;
+use script::Row;
 use script::Value;
 use station::Station;
 
 // A station that was never started.
 fn unset() -> Station {
-    let zeros = [0u64; 32];
+    let zeros = [0u64; Row::ROOM];
     Station::fresh(calls::settings_of(zeros))
 }
 

@@ -1,8 +1,9 @@
 // What is printed of a reading: its 31 words, each behind its name.
 use crate::print;
 use crate::print::number;
-use fair::Fair;
+use fair::Decided;
 use fair::Four;
+use fair::Received;
 use flow::Credits;
 use script::print::text;
 use station::Reading;
@@ -16,13 +17,12 @@ pub fn shown(shown: Shown) {
         return print::refused(refusal);
     }
     let reading = shown.reading;
-    let fair = reading.fair;
     credits(reading.credits);
     held(reading);
-    counted(fair.counters);
-    smoothed(fair.smoothed);
-    rates(fair);
-    congestion(fair);
+    counted(reading.counters);
+    smoothed(reading.smoothed);
+    decided(reading.decided);
+    received(reading.received);
     text(b"\n");
 }
 
@@ -59,18 +59,18 @@ fn smoothed(f: Four) {
     number(b" lpFwRateCongested ", f.fwc);
 }
 
-fn rates(f: Fair) {
-    number(b" localFairRate ", f.local);
-    number(b" allowedRate ", f.allowed);
-    number(b" allowedRateCongested ", f.allowedc);
-    number(b" ownRate ", f.own);
+fn decided(d: Decided) {
+    number(b" localFairRate ", d.local);
+    number(b" allowedRate ", d.allowed);
+    number(b" allowedRateCongested ", d.allowedc);
+    number(b" ownRate ", d.own);
+    number(b" locallyCongested ", d.congested);
 }
 
-fn congestion(f: Fair) {
-    number(b" locallyCongested ", f.congested);
-    number(b" downstreamCongested ", f.downstream);
-    number(b" receivedTtl ", f.ttl);
-    number(b" receivedAddressHigh ", f.high);
-    number(b" receivedAddressLow ", f.low);
-    number(b" receivedRate ", f.rate);
+fn received(r: Received) {
+    number(b" downstreamCongested ", r.downstream);
+    number(b" receivedTtl ", r.ttl);
+    number(b" receivedAddressHigh ", r.high);
+    number(b" receivedAddressLow ", r.low);
+    number(b" receivedRate ", r.rate);
 }

@@ -1,6 +1,6 @@
 -- Where bytes stand: the same bytes at two places (`Same`), and given bytes at a place (`Stands`). Each law serves both orders,
 -- since a number is read from the bytes at its place alone. Assumes nothing.
-use mathlib.Core.Path.{_≡_, refl, sym, ap, _∙_}
+use mathlib.Core.Path.{_≡_, sym, ap, _∙_}
 use mathlib.Core.List.{List, [], _∷_, _++_, append-assoc, reverse, reverse-cons}
 use Prim.Native.Nat.{ℕ, zero, suc, _+_, _≤_, _<_}
 use native.Mathlib.Omega.{arith}

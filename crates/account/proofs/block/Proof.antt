@@ -21,7 +21,7 @@ use Rattle.account.proofs.block.Tie as tie
 abbrev Inv-loop : tie.InvT-loop
 Inv-loop s from n mtu rise i₀ at₀ bad₀ t₀ i at bad t =
     (i ≤ 64) × (at ≡ from + 6 * i) × (bad ≤ i) × Within (n + i) t
-    × ((l : Limits) → l .mtu ≡ mtu → l .hi - l .lo ≡ rise → Ready l n t₀ → bad ≡ 0 → Passed l s from n t₀ i t)
+    × ((l : Limits) → l .mtu ≡ mtu → l .hi - l .lo ≡ rise → Ready l n t₀ → bad ≡ 0 → Passed l s from n t₀ i at t)
 
 abbrev μ-loop : tie.MeasureT-loop
 μ-loop s from n mtu rise i₀ at₀ bad₀ t₀ i at bad t = 64 - i
@@ -97,12 +97,11 @@ loop-again c =
     let v = c .before .before .before .before .wide2 in
     let x = c .before .before .wide3 in
     let e = c .step .ensures in
-    let there = L .inv .1 in
-    let ex : x .result ≡ le 2 (a .s .now) (a .from + 6 * L .i) = cc in
-    let ek : k .result ≡ le 2 (a .s .now) (a .from + 6 * L .i + 2) = cc in
-    let ev : v .result ≡ le 2 (a .s .now) (a .from + 6 * L .i + 4) = cc in
+    let ex : x .result ≡ le 2 (a .s .now) (L .at) = cc in
+    let ek : k .result ≡ le 2 (a .s .now) (L .at + 2) = cc in
+    let ev : v .result ≡ le 2 (a .s .now) (L .at + 4) = cc in
     let few : a .n + L .i < mostEvents = omega arith in
-    let room : a .from + 6 * L .i + 6 ≤ length (a .s .now) = omega arith in (
+    let room : L .at + 6 ≤ length (a .s .now) = omega arith in (
       omega arith,
       omega arith,
       omega arith,
@@ -110,11 +109,11 @@ loop-again c =
       λ l em er q z.
           let none : w .result ≡ 0 = omega arith in
           let was : L .bad ≡ 0 = omega arith in
-          let g : GoodAt (l .mtu) (a .s .now) (a .from + 6 * L .i) =
+          let g : GoodAt (l .mtu) (a .s .now) (L .at) =
           rw (em, ← ex, ← ek, ← ev) (flaw-none (a .limits .mtu) (x .result) (k .result) (v .result) (sym (w .ensures .0) ∙ none)) in
           let p = L .inv .4 l em er q was in
-          let one = passed-one l (a .s .now) (a .from + 6 * L .i) (a .n + L .i) (L .t) (p .ready) few (λ j. bytes j .fits) room g in
-          rw (e, ek, ev, ← er) (passed-then l (a .s .now) (a .from) (a .n) (a .start) (L .i) (L .t) 1 _ p one),
+          let one = passed-one l (a .s .now) (L .at) (a .n + L .i) (L .t) (p .ready) few (λ j. bytes j .fits) room g in
+          rw (e, ek, ev, ← er) (passed-then l (a .s .now) (a .from) (a .n) (a .start) (L .i) (L .at) (L .t) 1 (L .at + 6) _ p one),
     )
 
 returns : tie.Need-returns Inv-loop μ-loop
@@ -123,7 +122,8 @@ returns c =
     let a = c .before .before .before .before .before .before .args in
     let p = c .before .before .before .before .before .before .pre in
     let full : L .i ≡ 64 = omega arith in
-    λ z. rw full at (L .inv .4 (a .limits) refl refl (p .1) z)
+    let there : L .at ≡ a .from + 384 = omega arith in
+    λ z. rw (full, there) at (L .inv .4 (a .limits) refl refl (p .1) z)
 
 pub block-spec : {M : Type 1} → statement M
 block-spec =

@@ -1,23 +1,36 @@
 -- Each block without a fault goes over to the tally; what is left keeps its answer, which a walk gives.
 -- Assumes nothing.
-use Prim.Native.Nat.{_-_, _+_, _*_, _≤_}
+use Prim.Native.Nat.{ℕ, _-_, _+_, _*_, _≤_}
 use mathlib.Core.Path.{_≡_, sym, _∙_}
 use native.Mathlib.Omega.{arith}
 use borrow.Author.Needs.{needs}
 use lib.ListN.{length, drop}
+use Rattle.shaper.specs.Limits.{mostEvents}
 use Rattle.tally.specs.Tally.{startOf, Ready}
 use Rattle.tally.proofs.Laws.{start-ready}
-use Rattle.account.specs.Rest.{restOf, Passed}
+use Rattle.account.specs.Rest.{restOf}
 use Rattle.account.proofs.events.Statement.{statement}
 use Rattle.account.proofs.events.Tie as tie
 
 abbrev Inv-loop : tie.InvT-loop
 Inv-loop s limits count b₀ at₀ n₀ t₀ b at n t =
     (b ≤ count) × (count ≤ 15625) × (14 + 384 * count ≤ length s) × (at ≡ 14 + 384 * b) × (n ≡ 64 * b) × Ready limits n t
-    × (restOf limits n t (drop at s) ≡ restOf limits 0 (startOf (limits .lo)) (drop 14 s))
+    × (restOf 9 limits (mostEvents - n) n t (drop at s) ≡ restOf 9 limits mostEvents 0 (startOf (limits .lo)) (drop 14 s))
 
 abbrev μ-loop : tie.MeasureT-loop
 μ-loop s limits count b₀ at₀ n₀ t₀ b at n t = count - b
+
+-- n events and those that may still come are no more than the most
+budget : (n : ℕ) → n ≤ mostEvents → n + (mostEvents - n) ≤ mostEvents
+budget n h = omega arith
+
+-- 64 events take 64 off what may come
+less : (n : ℕ) → n + 64 ≤ mostEvents → mostEvents - (n + 64) + 64 ≡ mostEvents - n
+less n h = omega arith
+
+-- a block more is 64 events more
+counts : (n b : ℕ) → n ≡ 64 * b → n + 64 ≡ 64 * (b + 1)
+counts n b e = omega arith
 
 sub-lesser : tie.Need-sub-lesser Inv-loop μ-loop
 sub-lesser c = search needs
@@ -38,8 +51,11 @@ loop-holds c =
 block-requires : tie.Need-block-requires Inv-loop μ-loop
 block-requires c κs = (omega arith, c .before .loop .inv .5, omega arith)
 
+sub-walk : tie.Need-sub-walk Inv-loop μ-loop
+sub-walk c = search needs
+
 walk-requires : tie.Need-walk-requires Inv-loop μ-loop
-walk-requires c κs = c .before .before .before .loop .inv .5
+walk-requires c κs = let L = c .before .before .before .loop in (L .inv .5, budget (L .n) (L .inv .5 .few))
 
 returns : tie.Need-returns Inv-loop μ-loop
 returns c = c .walk .ensures ∙ c .before .before .before .before .loop .inv .6
@@ -61,10 +77,13 @@ loop-again c =
     let L = c .before .before .before .before .loop in
     let h = c .before .before .before .loop-test .taken in
     let p = c .before .before .block .ensures (c .before .if1 .left) in
-    (omega arith, L .inv .1, L .inv .2, omega arith, omega arith, p .ready, sym (p .same) ∙ L .inv .6)
+    (omega arith, L .inv .1, L .inv .2, omega arith, counts (L .n) (L .b) (L .inv .4), p .ready, sym (rw (less (L .n) (p .ready .few)) at (p .same 9 (mostEvents - (L .n + 64)))) ∙ L .inv .6)
+
+sub-walk-2 : tie.Need-sub-walk-2 Inv-loop μ-loop
+sub-walk-2 c = search needs
 
 walk-requires-2 : tie.Need-walk-requires-2 Inv-loop μ-loop
-walk-requires-2 c κs = c .before .loop .inv .5
+walk-requires-2 c κs = let L = c .before .loop in (L .inv .5, budget (L .n) (L .inv .5 .few))
 
 returns-2 : tie.Need-returns-2 Inv-loop μ-loop
 returns-2 c = c .walk2 .ensures ∙ c .before .before .loop .inv .6
@@ -80,6 +99,7 @@ events-spec =
     start-requires
     loop-holds
     block-requires
+    sub-walk
     walk-requires
     returns
     add-at
@@ -87,5 +107,6 @@ events-spec =
     add-b
     loop-less
     loop-again
+    sub-walk-2
     walk-requires-2
     returns-2)

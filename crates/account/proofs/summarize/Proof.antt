@@ -4,7 +4,7 @@ use mathlib.Core.Path.{_≡_, sym, _∙_}
 use borrow.Author.Needs.{needs}
 use Rattle.record.specs.declared.Header.the-variants.{Settings, Unreadable}
 use Rattle.record.specs.Step.{headerOf}
-use Rattle.record.proofs.Steps.{Headed, header-stands}
+use Rattle.record.proofs.Steps.{header-stands}
 use Rattle.account.proofs.Rest.{rest-start, rest-unreadable}
 use Rattle.account.proofs.summarize.Statement.{statement}
 use Rattle.account.proofs.summarize.Tie as tie

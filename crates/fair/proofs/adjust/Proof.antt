@@ -16,12 +16,12 @@ returns : tie.Need-returns
 returns c = let asked = c .before .before in
     let a = asked .before .args in
     rw (c .shown .ensures)
-    (sym (adjust-congested (a .settings) (a .smoothed) (a .held) (sym (asked .local-test .ensures) ∙ c .before .if1 .taken)))
+    (sym (adjust-congested (a .settings) (a .old) (a .smoothed) (a .held) (sym (asked .local-test .ensures) ∙ c .before .if1 .taken)))
 
 returns-2 : tie.Need-returns-2
 returns-2 c = let asked = c .before in
     let a = asked .before .args in
-    sym (adjust-free (a .settings) (a .smoothed) (a .held) (sym (asked .local-test .ensures) ∙ c .if1 .left))
+    sym (adjust-free (a .settings) (a .old) (a .smoothed) (a .held) (sym (asked .local-test .ensures) ∙ c .if1 .left))
 
 pub adjust-spec : {M : Type 1} → statement M
 adjust-spec = tie.close (tie.spec local-test-requires shown-requires returns returns-2)

@@ -1,30 +1,50 @@
--- The one event is joined where its own summary was made, and its refusal counts otherwise.
+-- After i turns the summary has i events more. The loop does not read the summary itself, so that this is said of any that it started with.
 -- Assumes nothing.
-use mathlib.Core.Path.{sym, _∙_}
-use Rattle.feed.proofs.Rows.{counted-joins, counted-refused}
-use borrow.Author.Needs.{needs}
+use Prim.Native.Nat.{_-_, _≤_}
+use mathlib.Core.Path.{_≡_, refl, sym, ap, _∙_}
+use native.Mathlib.Omega.{arith}
+use Rattle.shaper.specs.Kind.{eventOf}
+use Rattle.summary.specs.declared.Summary.{Summary}
+use Rattle.summary.specs.declared.Answer.{Answer}
+use Rattle.summary.specs.Answer.{andThen}
+use Rattle.feed.specs.Feed.{oneMore, countedOf}
+use Rattle.feed.proofs.Rows.{counted-none, counted-next}
 use Rattle.feed.proofs.counted.Statement.{statement}
 use Rattle.feed.proofs.counted.Tie as tie
 
-single-requires : tie.Need-single-requires
-single-requires c κs = search needs
+abbrev Inv-loop : tie.InvT-loop
+Inv-loop kind number count all₀ i₀ all i = (i ≤ count) × ((s : Summary) → all₀ ≡ Answer.Summed s → all ≡ countedOf i s (eventOf kind number))
 
-enum-known-one : tie.Need-enum-known-one
-enum-known-one c = search needs
+abbrev μ-loop : tie.MeasureT-loop
+μ-loop kind number count all₀ i₀ all i = count - i
 
-join-requires : tie.Need-join-requires
-join-requires c κs = search needs
+loop-holds : tie.Need-loop-holds Inv-loop μ-loop
+loop-holds c = (omega arith, λ s e. e ∙ sym (counted-none s _))
 
-enum-known-one-2 : tie.Need-enum-known-one-2
-enum-known-one-2 c = search needs
+onto-requires : tie.Need-onto-requires Inv-loop μ-loop
+onto-requires c κs = tt
 
-returns : tie.Need-returns
-returns c = c .join .ensures ∙ sym (counted-joins _ _ _ (sym (c .before .before .before .before .single .ensures) ∙ c .before .before .one .given .1))
+add-i : tie.Need-add-i Inv-loop μ-loop
+add-i c = omega arith
 
-returns-2 : tie.Need-returns-2
-returns-2 c = sym (counted-refused _ _ _ (sym (c .before .before .before .single .ensures) ∙ c .before .one2 .given .1))
+loop-less : tie.Need-loop-less Inv-loop μ-loop
+loop-less c = omega arith
+
+loop-again : tie.Need-loop-again Inv-loop μ-loop
+loop-again c =
+    let L = c .before .before .loop in
+    let a = c .before .before .before .args in
+    let more = eventOf (a .kind) (a .number) in
+    (omega arith, λ s e. c .onto .ensures ∙ ap (λ (all : Answer). andThen all (λ t. oneMore t more)) (L .inv .1 s e) ∙ sym (counted-next s more (L .i)))
+
+returns : tie.Need-returns Inv-loop μ-loop
+returns c =
+    let L = c .before .loop in
+    let a = c .before .before .args in
+    let full : L .i ≡ a .count = omega arith in
+    rw full at (L .inv .1 (a .sum) refl)
 
 pub counted-spec : {M : Type 1} → statement M
 counted-spec =
     tie.close
-    (tie.spec single-requires enum-known-one join-requires enum-known-one-2 returns returns-2)
+    (tie.spec Inv-loop μ-loop loop-holds onto-requires add-i loop-less loop-again returns)

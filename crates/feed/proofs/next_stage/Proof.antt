@@ -31,17 +31,23 @@ enum-known-n c = search needs
 enum-known-stage : tie.Need-enum-known-stage
 enum-known-stage c = search needs
 
-sub-event-at : tie.Need-sub-event-at
-sub-event-at c = search needs
+sub-event-within : tie.Need-sub-event-within
+sub-event-within c = search needs
 
-part-event-at-start : tie.Need-part-event-at-start
-part-event-at-start c = search needs
+part-event-within-start : tie.Need-part-event-within-start
+part-event-within-start c = search needs
 
-part-event-at-end : tie.Need-part-event-at-end
-part-event-at-end c = search needs
+part-event-within-end : tie.Need-part-event-within-end
+part-event-within-end c = search needs
 
-event-at-requires : tie.Need-event-at-requires
-event-at-requires c κs = search needs
+cast-may-come : tie.Need-cast-may-come
+cast-may-come c = search needs
+
+may-come-requires : tie.Need-may-come-requires
+may-come-requires c κs = search needs
+
+event-within-requires : tie.Need-event-within-requires
+event-within-requires c κs = search needs
 
 enum-known-kind : tie.Need-enum-known-kind
 enum-known-kind c = search needs
@@ -73,16 +79,23 @@ returns-2 c = sym (next-unreadable _ _ _ (c .before .before .before .before .bef
 
 returns-3 : tie.Need-returns-3
 returns-3 c =
-    let read = sym (c .before .before .before .before .before .event-at .ensures) ∙ c .before .before .before .kind .given .1 in
+    let read = sym (c .before .before .before .before .before .event-within .ensures) ∙ c .before .before .before .kind .given .1 in
+    let left = c .before .before .before .before .before .before .may-come .ensures in
     c .stage-of2 .ensures
     ∙ ap stageOf (c .before .counted .ensures)
-    ∙ sym (next-stands _ _ _ _ _ _ _ (c .before .before .before .before .before .before .before .before .before .stage .given .1) read)
+    ∙ sym (next-stands _ _ _ _ _ _ _ (c .before .before .before .before .before .before .before .before .before .before .before .stage .given .1) (rw left at read))
 
 returns-4 : tie.Need-returns-4
-returns-4 c = sym (next-end _ _ _ (c .before .before .before .before .before .before .stage .given .1) (sym (c .before .before .event-at .ensures) ∙ c .enum-told2 .given .1))
+returns-4 c =
+    let read = sym (c .before .before .event-within .ensures) ∙ c .enum-told2 .given .1 in
+    let left = c .before .before .before .may-come .ensures in
+    sym (next-end _ _ _ (c .before .before .before .before .before .before .before .before .stage .given .1) (rw left at read))
 
 returns-5 : tie.Need-returns-5
-returns-5 c = sym (next-faulty _ _ _ _ (c .before .before .before .before .before .before .before .stage .given .1) (sym (c .before .before .before .event-at .ensures) ∙ c .before .n2 .given .1))
+returns-5 c =
+    let read = sym (c .before .before .before .event-within .ensures) ∙ c .before .n2 .given .1 in
+    let left = c .before .before .before .before .may-come .ensures in
+    sym (next-faulty _ _ _ _ (c .before .before .before .before .before .before .before .before .before .stage .given .1) (rw left at read))
 
 returns-6 : tie.Need-returns-6
 returns-6 c = sym (next-stopped _ _ _ (c .before .stage2 .given .1))
@@ -99,10 +112,12 @@ next-stage-spec =
     stage-of-requires
     enum-known-n
     enum-known-stage
-    sub-event-at
-    part-event-at-start
-    part-event-at-end
-    event-at-requires
+    sub-event-within
+    part-event-within-start
+    part-event-within-end
+    cast-may-come
+    may-come-requires
+    event-within-requires
     enum-known-kind
     counted-requires
     stage-of-requires-2

@@ -12,16 +12,19 @@ header-of-requires c κs = search needs
 enum-known-limits : tie.Need-enum-known-limits
 enum-known-limits c = search needs
 
-limited-at-requires : tie.Need-limited-at-requires
-limited-at-requires c κs = search needs
+may-come-requires : tie.Need-may-come-requires
+may-come-requires c κs = search needs
+
+event-within-requires : tie.Need-event-within-requires
+event-within-requires c κs = search needs
 
 enum-known-fault : tie.Need-enum-known-fault
 enum-known-fault c = search needs
 
 returns : tie.Need-returns
 returns c =
-    c .limited-at .ensures
-    ∙ sym (next-settings _ _ _ (sym (c .before .before .before .before .header-of .ensures) ∙ c .before .before .limits .given .1))
+    let read = sym (c .before .before .before .before .before .header-of .ensures) ∙ c .before .before .before .limits .given .1 in
+    (rw (c .before .may-come .ensures) at (c .event-within .ensures)) ∙ sym (next-settings _ _ _ read)
 
 returns-2 : tie.Need-returns-2
 returns-2 c = sym (next-unreadable _ _ _ (sym (c .before .before .before .header-of .ensures) ∙ c .before .fault .given .1))
@@ -32,7 +35,8 @@ next-at-spec =
     (tie.spec
     header-of-requires
     enum-known-limits
-    limited-at-requires
+    may-come-requires
+    event-within-requires
     enum-known-fault
     returns
     returns-2)

@@ -22,7 +22,8 @@ count-requires c κs = search needs
 returns : tie.Need-returns
 returns c =
     let out = c .before .before .before in
-    ap (given (out .pick .result)) (c .count .ensures) ∙ ap (counting (out .before .args .fair)) (out .pick .ensures)
+    let a = out .before .args in
+    ap (given (out .pick .result)) (c .count .ensures) ∙ ap (counting (a .settings) (a .fair)) (out .pick .ensures)
 
 pub picked-spec : {M : Type 1} → statement M
 picked-spec = tie.close (tie.spec pick-requires count-requires returns)

@@ -1,19 +1,22 @@
--- The place grows by an event's bytes and stays within the record, so what is left of the record falls.
+-- The place grows by an event's bytes and stays within the record, so what is left of the record falls; and no more than a million events are passed.
 -- Assumes nothing.
-use Prim.Native.Nat.{_-_}
+use Prim.Native.Nat.{_+_, _-_, _≤_}
 use mathlib.Core.Path.{sym, _∙_}
 use native.Mathlib.Omega.{arith}
 use borrow.Author.Needs.{needs}
 use lib.ListN.{length}
+use Rattle.shaper.specs.Limits.{mostEvents}
+use Rattle.record.specs.Read.{limitsAt}
+use Rattle.record.proofs.Steps.{Stood}
 use Rattle.reader.proofs.Rows.{next-stands}
 use Rattle.vectors_reader.proofs.walk.Statement.{statement}
 use Rattle.vectors_reader.proofs.walk.Tie as tie
 
 abbrev Inv-loop : tie.InvT-loop
-Inv-loop bytes at₀ t7 t8 at = Unit {0}
+Inv-loop bytes place₀ t8 t9 place = Unit {0}
 
 abbrev μ-loop : tie.MeasureT-loop
-μ-loop bytes at₀ t7 t8 at = length bytes - at
+μ-loop bytes place₀ t8 t9 place = length bytes - place .at
 
 loop-holds : tie.Need-loop-holds Inv-loop μ-loop
 loop-holds c = search needs
@@ -27,10 +30,22 @@ enum-known-kind c = search needs
 event-requires : tie.Need-event-requires Inv-loop μ-loop
 event-requires c κs = search needs
 
+-- the item that was read stands at its place
+found : (c : tie.After-struct-known Inv-loop μ-loop) →
+    let p = c .before .before .before .before .before .before .loop .place in
+    let xs = c .before .before .before .before .before .before .before .before .args .bytes .now in
+    let f = c .before .before .before .kind .given .0 in
+    Stood (limitsAt xs .mtu) xs (p .at) (f .0) (f .1 .0) (f .1 .1 .0) (f .1 .1 .1 .0) × (p .done + f .1 .1 .0 ≤ mostEvents)
+found c = next-stands _ _ _ _ _ _ (sym (c .before .before .before .before .before .read-at .ensures) ∙ c .before .before .before .kind .given .1)
+
+cast-t12 : tie.Need-cast-t12 Inv-loop μ-loop
+cast-t12 c = search needs
+
+add-t13 : tie.Need-add-t13 Inv-loop μ-loop
+add-t13 c = omega (arith, found c .1)
+
 loop-less : tie.Need-loop-less Inv-loop μ-loop
-loop-less c =
-    let s = next-stands _ _ _ _ _ _ (sym (c .before .before .before .before .read-at .ensures) ∙ c .before .before .kind .given .1) in
-    omega (arith, s .six, s .fits)
+loop-less c = omega (arith, found c .0 .six, found c .0 .fits)
 
 loop-again : tie.Need-loop-again Inv-loop μ-loop
 loop-again c = search needs
@@ -69,6 +84,8 @@ walk-spec =
     read-at-requires
     enum-known-kind
     event-requires
+    cast-t12
+    add-t13
     loop-less
     loop-again
     enum-told

@@ -3,9 +3,9 @@
 use borrow.Author.Needs.{needs}
 use mathlib.Core.Path.{sym, ap, _∙_}
 use native.Mathlib.Omega.{arith}
-use Rattle.wrap.specs.Walking.{atHome, opposite, packedOf}
+use Rattle.wrap.specs.Walking.{packedOf}
 use Rattle.wrap.proofs.Steps.{arrived, used, used-away, onward, moves, turned-away, caught-home, moves-away, turned-back, behind, caught-away}
-use Prim.Native.Nat.{ℕ, _+_, _-_, _*_, _<_}
+use Prim.Native.Nat.{ℕ, _+_, _*_, _<_}
 use borrow.Fn.Kinds.{In}
 use borrow.Fn.PlainCycle.{Measures, is, falls, and}
 use Rattle.wrap.proofs.home_walk.Reads as home-walk

@@ -1,4 +1,4 @@
--- `fair::Fair::age` meets its contract: smoothing, of the counters before they age, then local congestion and localFairRate, then the rest.
+-- `fair::Fair::age` meets its contract: smoothing, of the counters before they age, then local congestion and localFairRate, then what follows from them.
 -- Assumes nothing.
 use mathlib.Core.Path.{_≡_}
 use Rattle.fair.specs.Age.{newSmoothed}
@@ -15,8 +15,8 @@ smooth-requires c κs = search needs
 adjust-requires : tie.Need-adjust-requires
 adjust-requires c κs = search needs
 
-rest-requires : tie.Need-rest-requires
-rest-requires c κs = search needs
+new-decided-requires : tie.Need-new-decided-requires
+new-decided-requires c κs = search needs
 
 -- the smoothed rates are those of the counters before they age
 smooths : (c : tie.After-smooth) →
@@ -26,10 +26,10 @@ smooths c = c .smooth .ensures
 
 returns : tie.Need-returns
 returns c =
-    let adjusted = c .before in
+    let adjusted = c .before .before in
     let smoothed = adjusted .before in
-    rw (c .rest .ensures, adjusted .adjust .ensures, smooths smoothed, smoothed .before .lower .ensures)
+    rw (c .new-decided .ensures, adjusted .adjust .ensures, smooths smoothed, smoothed .before .lower .ensures)
 
 pub age-spec : {M : Type 1} → statement M
 age-spec =
-    tie.close (tie.spec lower-requires smooth-requires adjust-requires rest-requires returns)
+    tie.close (tie.spec lower-requires smooth-requires adjust-requires new-decided-requires returns)

@@ -13,11 +13,11 @@ ramped-requires : tie.Need-ramped-requires
 ramped-requires c κs = search needs
 
 returns : tie.Need-returns
-returns c = let a = c .before .before .before .args in
+returns c = let a = c .before .before .before .before .args in
     c .allowance .ensures ∙ sym (allowedc-congested (a .self) (a .fairness) (c .before .if1 .taken))
 
 returns-2 : tie.Need-returns-2
-returns-2 c = let a = c .before .before .before .args in
+returns-2 c = let a = c .before .before .before .before .args in
     c .ramped .ensures ∙ sym (allowedc-ramped (a .self) (a .fairness) (c .before .if1 .left))
 
 pub allowed-congested-spec : {M : Type 1} → statement M

@@ -1,4 +1,4 @@
--- `fair::Fair::start` meets its contract: own rate is its formula's, and each other field is the definition's.
+-- `fair::Fair::start` meets its contract: own rate is its formula's, nothing is received, and each other field is the definition's.
 -- Assumes nothing.
 use borrow.Author.Needs.{needs}
 use Rattle.fair.proofs.Fair.start.Statement.{statement}
@@ -10,8 +10,11 @@ own-rate-requires c κs = search needs
 cast-t7 : tie.Need-cast-t7
 cast-t7 c = search needs
 
+none-requires : tie.Need-none-requires
+none-requires c κs = search needs
+
 returns : tie.Need-returns
-returns c = rw (c .own-rate .ensures)
+returns c = rw (c .none .ensures, c .before .own-rate .ensures)
 
 pub start-spec : {M : Type 1} → statement M
-start-spec = tie.close (tie.spec own-rate-requires cast-t7 returns)
+start-spec = tie.close (tie.spec own-rate-requires cast-t7 none-requires returns)

@@ -45,39 +45,41 @@ own-frame-requires-3 c κs = search needs
 
 returns-3 : tie.Need-returns-3
 returns-3 c = let third = c .before .before in
-    let second = third .before .before in
+    let otherwise = third .before .before in
+    let second = otherwise .before in
     let first = second .before .before in
     let a = first .before .args in
     c .own-frame3 .ensures
     ∙ sym
     (told-last (a .self) (a .settings)
     (sym (first .is-uncongested .ensures) ∙ second .before .if1 .left)
-    (sym (second .own-counts .ensures) ∙ third .before .if2 .left)
+    (sym (second .own-counts .ensures) ∙ otherwise .if2 .left)
     (sym (third .last-hop .ensures) ∙ c .before .if3 .taken))
 
 other-ringlet-requires : tie.Need-other-ringlet-requires
 other-ringlet-requires c κs = search needs
 
-sub-t8 : tie.Need-sub-t8
-sub-t8 c = search needs
-
-cast-t9 : tie.Need-cast-t9
-cast-t9 c = search needs
+sub-t9 : tie.Need-sub-t9
+sub-t9 c = search needs
 
 cast-t10 : tie.Need-cast-t10
 cast-t10 c = search needs
 
+cast-t11 : tie.Need-cast-t11
+cast-t11 c = search needs
+
 returns-4 : tie.Need-returns-4
 returns-4 c = let last = c .before .before in
     let third = last .before .before in
-    let second = third .before .before in
+    let otherwise = third .before .before in
+    let second = otherwise .before in
     let first = second .before .before in
     let a = first .before .args in
     rw (last .other-ringlet .ensures)
     (sym
     (told-passed (a .self) (a .settings)
     (sym (first .is-uncongested .ensures) ∙ second .before .if1 .left)
-    (sym (second .own-counts .ensures) ∙ third .before .if2 .left)
+    (sym (second .own-counts .ensures) ∙ otherwise .if2 .left)
     (sym (third .last-hop .ensures) ∙ last .before .if3 .left)))
 
 pub told-spec : {M : Type 1} → statement M
@@ -95,7 +97,7 @@ told-spec =
     own-frame-requires-3
     returns-3
     other-ringlet-requires
-    sub-t8
-    cast-t9
+    sub-t9
     cast-t10
+    cast-t11
     returns-4)

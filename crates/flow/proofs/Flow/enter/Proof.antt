@@ -6,7 +6,7 @@ use Rattle.queue.specs.Queue.{spaceOf}
 use Rattle.queue.proofs.Laws.{push-needs}
 use Rattle.flow.specs.Parts.{queueOf, capacityOf}
 use Rattle.flow.proofs.Offer.{enter-refused, enter-taken}
-use Rattle.flow.proofs.Range.{capacity-most}
+use Rattle.flow.proofs.Range.{bounds-ok, capacity-most}
 use borrow.Author.Needs.{needs}
 use Rattle.flow.proofs.Flow.enter.Statement.{statement}
 use Rattle.flow.proofs.Flow.enter.Tie as tie
@@ -39,7 +39,7 @@ push-requires c κs =
     let o = x .pre in
     let fits : x .args .frame .size ≤ spaceOf (queueOf f l) (capacityOf s l) = rw e at (c .if1 .left) in
     rw (c .before .before .before .before .queue .ensures)
-    (push-needs (o .flow .queues l) (x .args .frame) (o .settings .mtu-most) (o .frame) fits (capacity-most (o .settings) l))
+    (push-needs (o .flow .queues l) (x .args .frame) (bounds-ok (o .settings)) (o .frame) fits (capacity-most (o .settings) l))
 
 with-queue-requires : tie.Need-with-queue-requires
 with-queue-requires c κs = search needs

@@ -3,10 +3,14 @@
 use mathlib.Core.List.{[], _∷_}
 use Rattle.queue.specs.Range.{queueOk}
 use Rattle.decide.proofs.Chain.{chain}
+use Rattle.flow.specs.Parts.{boundsOf}
 use Rattle.flow.specs.Range.{creditsOk, stageOk, flowOk}
 use borrow.Author.Needs.{needs}
 use Rattle.flow.proofs.Flow.in_range.Statement.{statement}
 use Rattle.flow.proofs.Flow.in_range.Tie as tie
+
+bounds-requires : tie.Need-bounds-requires
+bounds-requires c κs = search needs
 
 in-range-requires : tie.Need-in-range-requires
 in-range-requires c κs = search needs
@@ -26,22 +30,23 @@ stage-ok-requires c κs = search needs
 returns : tie.Need-returns
 unfolding flowOk
 returns c =
-    let x = c .before .before .before .before .before .before .before .before .before .before .args in
+    let x = c .before .before .before .before .before .before .before .before .before .before .before .args in
     let f = x .self in
     let s = x .settings in
     cc
     (chain
     (creditsOk s (f .credits))
-    (queueOk (s .mtu) (s .queues .control) (f .control)
-    ∷ queueOk (s .mtu) (s .queues .primary) (f .primary)
-    ∷ queueOk (s .mtu) (s .queues .secondary) (f .secondary)
-    ∷ stageOk (s .mtu) (f .stage)
+    (queueOk (boundsOf s) (s .queues .control) (f .control)
+    ∷ queueOk (boundsOf s) (s .queues .primary) (f .primary)
+    ∷ queueOk (boundsOf s) (s .queues .secondary) (f .secondary)
+    ∷ stageOk (boundsOf s) (f .stage)
     ∷ []))
 
 pub in-range-spec : {M : Type 1} → statement M
 in-range-spec =
     tie.close
     (tie.spec
+    bounds-requires
     in-range-requires
     in-range-requires-2
     in-range-requires-3

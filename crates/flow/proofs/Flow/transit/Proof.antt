@@ -4,6 +4,9 @@ use borrow.Author.Needs.{needs}
 use Rattle.flow.proofs.Flow.transit.Statement.{statement}
 use Rattle.flow.proofs.Flow.transit.Tie as tie
 
+cast-queue-for : tie.Need-cast-queue-for
+cast-queue-for c = search needs
+
 queue-for-requires : tie.Need-queue-for-requires
 queue-for-requires c κs = search needs
 
@@ -14,4 +17,4 @@ returns : tie.Need-returns
 returns c = rw (c .enter .ensures, c .before .queue-for .ensures)
 
 pub transit-spec : {M : Type 1} → statement M
-transit-spec = tie.close (tie.spec queue-for-requires enter-requires returns)
+transit-spec = tie.close (tie.spec cast-queue-for queue-for-requires enter-requires returns)

@@ -1,13 +1,9 @@
--- `layout::fairness::write` meets its contract. Puts of its groups of words one behind the other are one put: `laid-put`.
+-- `layout::fairness::write` meets its contract. Puts of its parts one behind the other are one put: `laid-put`.
 -- Assumes nothing.
-use mathlib.Core.List.{List, [], _∷_}
 use native.Mathlib.Nat.{add-assoc}
 use native.Mathlib.Omega.{arith}
-use Rattle.wire.specs.Parts.{Part}
 use Rattle.wire.proofs.Laid.{laid-put}
-use Rattle.fair.specs.declared.Fair.{Fair}
-use Rattle.layout.specs.Layout.{wordsPart, fourWords, decidedWords, receivedWords}
-use Rattle.layout.proofs.Words.{fair-groups}
+use Rattle.layout.specs.Layout.{fairParts}
 use borrow.Author.Needs.{needs}
 use Rattle.layout.proofs.fairness.write.Statement.{statement}
 use Rattle.layout.proofs.fairness.write.Tie as tie
@@ -43,10 +39,8 @@ returns c =
     let c2 : _ = c3 .before .before .before .before in
     let c1 : _ = c2 .before .before .before .before in
     let d : _ = c1 .before .before .before in
-    let f : Fair = d .args .f in
-    let ps : List Part = wordsPart (fourWords (f .counters)) ∷ wordsPart (fourWords (f .smoothed)) ∷ wordsPart (decidedWords f) ∷ wordsPart (receivedWords f) ∷ [] in
-    rw (c4 .write-received .ensures, c3 .write-decided .ensures, c2 .write-four2 .ensures, c1 .write-four .ensures, ← fair-groups f)
-    (simp add-assoc at (laid-put ps (d .args .s .now) (d .args .at) (omega (arith, d .pre))))
+    rw (c4 .write-received .ensures, c3 .write-decided .ensures, c2 .write-four2 .ensures, c1 .write-four .ensures)
+    (simp add-assoc at (laid-put (fairParts (d .args .f)) (d .args .s .now) (d .args .at) (omega (arith, d .pre))))
 
 pub write-spec : {M : Type 1} → statement M
 write-spec =

@@ -35,26 +35,19 @@ add-put32-4 c = search needs
 put32-requires-5 : tie.Need-put32-requires-5
 put32-requires-5 c κs = search needs
 
-add-put32-5 : tie.Need-add-put32-5
-add-put32-5 c = search needs
-
-put32-requires-6 : tie.Need-put32-requires-6
-put32-requires-6 c κs = search needs
-
 same-length : tie.Need-same-length
 same-length c = search needs
 
 returns : tie.Need-returns
 returns c =
-    let c6 : _ = c .before .before in
-    let c5 : _ = c6 .before .before .before .before in
+    let c5 : _ = c .before .before in
     let c4 : _ = c5 .before .before .before .before in
     let c3 : _ = c4 .before .before .before .before in
     let c2 : _ = c3 .before .before .before .before in
     let c1 : _ = c2 .before .before .before .before in
     let d : _ = c1 .before .before .before in
-    rw (c6 .put326 .ensures, c5 .put325 .ensures, c4 .put324 .ensures, c3 .put323 .ensures, c2 .put322 .ensures, c1 .put32 .ensures)
-    (simp add-assoc at (words-put (decidedWords (d .args .f)) (d .args .s .now) (d .args .at) (omega (arith, d .pre))))
+    rw (c5 .put325 .ensures, c4 .put324 .ensures, c3 .put323 .ensures, c2 .put322 .ensures, c1 .put32 .ensures)
+    (simp add-assoc at (words-put (decidedWords (d .args .d)) (d .args .s .now) (d .args .at) (omega (arith, d .pre))))
 
 pub write-decided-spec : {M : Type 1} → statement M
 write-decided-spec =
@@ -69,7 +62,5 @@ write-decided-spec =
     put32-requires-4
     add-put32-4
     put32-requires-5
-    add-put32-5
-    put32-requires-6
     same-length
     returns)

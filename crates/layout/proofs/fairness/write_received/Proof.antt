@@ -29,18 +29,25 @@ add-put32-3 c = search needs
 put32-requires-4 : tie.Need-put32-requires-4
 put32-requires-4 c κs = search needs
 
+add-put32-4 : tie.Need-add-put32-4
+add-put32-4 c = search needs
+
+put32-requires-5 : tie.Need-put32-requires-5
+put32-requires-5 c κs = search needs
+
 same-length : tie.Need-same-length
 same-length c = search needs
 
 returns : tie.Need-returns
 returns c =
-    let c4 : _ = c .before .before in
+    let c5 : _ = c .before .before in
+    let c4 : _ = c5 .before .before .before .before in
     let c3 : _ = c4 .before .before .before .before in
     let c2 : _ = c3 .before .before .before .before in
     let c1 : _ = c2 .before .before .before .before in
     let d : _ = c1 .before .before .before in
-    rw (c4 .put324 .ensures, c3 .put323 .ensures, c2 .put322 .ensures, c1 .put32 .ensures)
-    (simp add-assoc at (words-put (receivedWords (d .args .f)) (d .args .s .now) (d .args .at) (omega (arith, d .pre))))
+    rw (c5 .put325 .ensures, c4 .put324 .ensures, c3 .put323 .ensures, c2 .put322 .ensures, c1 .put32 .ensures)
+    (simp add-assoc at (words-put (receivedWords (d .args .r)) (d .args .s .now) (d .args .at) (omega (arith, d .pre))))
 
 pub write-received-spec : {M : Type 1} → statement M
 write-received-spec =
@@ -53,5 +60,7 @@ write-received-spec =
     put32-requires-3
     add-put32-3
     put32-requires-4
+    add-put32-4
+    put32-requires-5
     same-length
     returns)

@@ -1,7 +1,7 @@
 -- A queue that says to hold no frame takes the short way, by `vacant`; another is scanned.
 -- Assumes nothing.
 use mathlib.Core.Bool.{and-assoc}
-use mathlib.Core.Path.{_≡_, _∙_}
+use mathlib.Core.Path.{_≡_}
 use borrow.Author.Needs.{needs}
 use lib.ListN.{length}
 use Rattle.decide.specs.Test.{test}
@@ -19,7 +19,7 @@ returns c =
     let q = a .self in
     let n : length (q .slots) ≡ 128 = search needs in
     let z : q .count ≡ 0 = search needs in
-    rw (c .before .all-empty .ensures) (simp and-assoc (vacant (a .mtu) (a .capacity) q n z))
+    rw (c .before .all-empty .ensures) (simp and-assoc (vacant (a .bounds) (a .capacity) q n z))
 
 scan-requires : tie.Need-scan-requires
 scan-requires c κs = search needs

@@ -1,7 +1,7 @@
 -- The loop keeps: what it found so far, and the slots still to come, are in range exactly where all are; and the sum so far, with the bytes
 -- still to come, is the bytes in all slots. The turn of slot i is how far it stands behind the head.
 -- Assumes nothing.
-use Prim.Native.Nat.{ℕ, _+_, _*_, _-_, _%_, _≤_, _<_}
+use Prim.Native.Nat.{_+_, _*_, _-_, _%_, _≤_, _<_}
 use mathlib.Core.Path.{_≡_, refl}
 use mathlib.Core.Bool.{false, _&&_, and-assoc}
 use native.Mathlib.Nat.{zero-add}
@@ -12,24 +12,24 @@ use lib.ListN.{length}
 use Rattle.decide.specs.Test.{test, decided}
 use Rattle.queue.specs.Queue.{framesFrom, sizes}
 use Rattle.queue.specs.Range.{slotsOk, bytesIn, queueOk}
-use Rattle.queue.proofs.Range.{turned, bytes-more, slots-more, bytes-done, slots-done}
+use Rattle.queue.proofs.Range.{slotAt, turned, bytes-more, each-more, bytes-done, each-done}
 use Rattle.queue.proofs.Queue.scan.Statement.{statement}
 use Rattle.queue.proofs.Queue.scan.Tie as tie
 
 abbrev Inv-loop : tie.InvT-loop
-Inv-loop mtu capacity self head count held good₀ sum₀ turn₀ i₀ good sum turn i =
+Inv-loop bounds capacity self head count held good₀ sum₀ turn₀ i₀ good sum turn i =
     (i ≤ 128) × (turn ≡ (128 - head) % 128 + i) × (sum ≤ i * 16384)
-    × ((good && test (slotsOk mtu head count (self .slots) i (128 - i))) ≡ test (slotsOk mtu head count (self .slots) 0 128))
+    × ((good && test (slotsOk bounds head count (self .slots) i (128 - i))) ≡ test (slotsOk bounds head count (self .slots) 0 128))
     × (sum + sizes (framesFrom (self .slots) i (128 - i)) ≡ bytesIn (self .slots))
 
 abbrev μ-loop : tie.MeasureT-loop
-μ-loop mtu capacity self head count held good₀ sum₀ turn₀ i₀ good sum turn i = 128 - i
+μ-loop bounds capacity self head count held good₀ sum₀ turn₀ i₀ good sum turn i = 128 - i
 
 returns : tie.Need-returns Inv-loop μ-loop
 unfolding queueOk
 returns c =
     let a = c .before .args in
-    decided (queueOk (a .mtu) (a .capacity) (a .t1)) false (λ h. let k = h .1 .0 in omega arith)
+    decided (queueOk (a .bounds) (a .capacity) (a .t1)) false (λ h. let k = h .1 .0 in omega arith)
 
 sub-turn : tie.Need-sub-turn Inv-loop μ-loop
 sub-turn c = search needs
@@ -67,7 +67,7 @@ loop-again c =
       search needs,
       search needs,
       search needs,
-      rw (c .slot-ok .ensures, turned (q .head) (q .count) (l .i) (l .turn) (search needs) (l .inv .1)) (slots-more (q .slots) (l .i) p (a .mtu) (q .head) (q .count) (l .good) _ (l .inv .3)),
+      rw (c .slot-ok .ensures, turned (q .head) (q .count) (l .i) (l .turn) (search needs) (l .inv .1)) (each-more (q .slots) (l .i) p (slotAt (a .bounds) (q .head) (q .count) (q .slots)) (l .good) _ (l .inv .3)),
       omega (arith, bytes-more (q .slots) (l .i) p, l .inv .4),
     )
 
@@ -80,7 +80,7 @@ returns-2 c =
     let p : 128 ≤ l .i = search needs in
     let n : length (q .slots) ≡ 128 = search needs in
     let e : l .sum ≡ bytesIn (q .slots) = omega (arith, bytes-done (q .slots) (l .i) p, l .inv .4) in
-    rw (slots-done (q .slots) (l .i) p (a .mtu) (q .head) (q .count) (l .good) _ (l .inv .3), e, eq-eqb (length (q .slots)) 128 n, lt-ltb (q .head) 128 (search needs)) (simp and-assoc)
+    rw (each-done (q .slots) (l .i) p (slotAt (a .bounds) (q .head) (q .count) (q .slots)) (l .good) _ (l .inv .3), e, eq-eqb (length (q .slots)) 128 n, lt-ltb (q .head) 128 (search needs)) (simp and-assoc)
 
 pub scan-spec : {M : Type 1} → statement M
 scan-spec =

@@ -81,7 +81,7 @@ module _ {M : Type 1} (𝓤 : URA M) (H : Heap 𝓤) (A : Atoms 𝓤) (W : Given
         alloc1 ! (λ l₀. alloc1 ! (λ l₁. alloc1 ! (λ l₂. alloc1 ! (λ l₃. alloc0 ! $ params1 ! $ pass1 ! (init ! 4 refl wt) $ pass0 ! $
         assigns ! (of-opd ! (load ! (from ! (fld ! refl (stop !))) (look-in ! 4 (sub ! 0 refl (whole !))))) (from ! (stop !)) (init ! 2 refl (tt, wt .1 .0)) $
         assigns ! (of-opd ! (load ! (from ! (fld ! refl (stop !))) (look-in ! 4 (sub ! 1 refl (whole !))))) (from ! (stop !)) (init ! 0 refl (tt, wt .1 .1 .0)) $
-        move ! (8 ∷ []) $ use1 W (raw (NextAt 𝓤 H A mem run .pre to) ⊛ ‵ (Own κ d)) (apart 𝓤 H A W κ q d (wt .1 .1 .0 .fits)) $ split ! $
+        move ! (8 ∷ []) $ use1 W (raw (NextAt 𝓤 H A mem run .pre to) ⊛ ‵ (Own κ d)) (apart 𝓤 H A W κ q d) $ split ! $
         calls-at ! fm (NextAt 𝓤 H A mem run) known to (and-then ! (load ! (from ! (stop !)) (look ! 4 refl)) (and-then ! (load ! (from ! (stop !)) (look ! 2 refl)) (no-more !))) (λ u.
         use1 W (later (some (λ (r : Step). ((‵ (flft κ q) ⊛ ‵ ftrue) ⊛ ‵ (S.the-row .own r (u ∷ []))) ⊛ raw (ensured 𝓤 H A next-at.ended (next-at.clauses 𝓤 H A mem run) (κ, tt) (fields κ d) tt r)))) (id⊢ 𝓤 _) $ await ! tt $ pick ! (λ r.
         split ! $ move ! (1 ∷ []) $ use1 W (raw (fact 𝓤 (r ≡ nextOf d))) (said r) $ heard ! (r ≡ nextOf d) (λ e. split ! $ move ! (1 ∷ []) $

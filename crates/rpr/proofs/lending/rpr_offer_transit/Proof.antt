@@ -1,14 +1,14 @@
 -- A slice of another length is 2; else what the station said is handed back: a refusal alone, or the queue of the class written.
 -- Assumes nothing.
-use mathlib.Core.Path.{_≡_, ap, _∙_}
+use mathlib.Core.Path.{ap, _∙_}
 use Rattle.flow.specs.declared.Line.{Line}
 use Rattle.flow.specs.Offer.{queueFor}
 use Rattle.station.specs.declared.Station.{Station}
 use Rattle.station.specs.Offers.{givenFrame}
-use Rattle.layout.specs.Layout.{pushedAt}
+use Rattle.layout.specs.Layout.{stationAt, pushedAt}
 use Rattle.rpr.specs.Station.{offerTransitAnswer, offerTransitAfter}
 use Rattle.rpr.proofs.Given.{not-whole}
-use Rattle.rpr.proofs.Written.{done-refused, done-carried, to-primary, to-secondary, offer-written}
+use Rattle.rpr.proofs.Written.{done-refused, done-carried, offer-written}
 use borrow.Author.Needs.{needs}
 use Rattle.rpr.proofs.lending.rpr_offer_transit.Statement.{statement}
 use Rattle.rpr.proofs.lending.rpr_offer_transit.Tie as tie
@@ -33,9 +33,13 @@ returns-2 : tie.Need-returns-2
 unfolding offerTransitAnswer offerTransitAfter
 returns-2 c =
     let called : _ = c .before .before .before in
-    let tested : _ = called .before .before .before in
-    let said = rw (called .before .read .ensures) at (called .offer-transit .ensures) in
+    let read : _ = called .before .before in
+    let tested : _ = read .before .before in
+    let said = rw (read .read .ensures) at (called .offer-transit .ensures) in
     done-refused (tested .before .before .args .station .now) _ (tested .if1 .left) _ _ said (c .before .if2 .taken)
+
+queue-for-requires : tie.Need-queue-for-requires
+queue-for-requires c κs = search needs
 
 push-frame-requires : tie.Need-push-frame-requires
 push-frame-requires c κs = search needs
@@ -47,40 +51,19 @@ returns-3 : tie.Need-returns-3
 unfolding offerTransitAnswer offerTransitAfter
 returns-3 c =
     let pushed : _ = c .before .before in
-    let chosen : _ = pushed .before .before in
-    let left : _ = chosen .before in
+    let lined : _ = pushed .before .before in
+    let left : _ = lined .before in
     let called : _ = left .before .before in
-    let tested : _ = called .before .before .before in
+    let read : _ = called .before .before in
+    let tested : _ = read .before .before in
     let a : _ = tested .before .before .args in
     let xs : _ = a .station .now in
+    let l : _ = queueFor (stationAt xs .settings) (a .class) in
     let x : _ = givenFrame (a .class) (a .size) (a .hops) (a .eligible) in
-    let said = rw (called .before .read .ensures) at (called .offer-transit .ensures) in
-    let wrote : _ ≡ pushedAt xs Line.Primary x = pushed .push-frame .ensures in
-    let there = wrote ∙ ap (λ (l : Line). pushedAt xs l x) (to-primary (a .class) (chosen .if3 .taken)) in
-    done-carried xs _ (tested .if1 .left) _ _ said (left .if2 .left) (λ (st : Station). pushedAt xs (queueFor (a .class)) x)
-    (offer-written xs (λ j. tested .before .slice-known .given j .fits) (tested .if1 .left) (queueFor (a .class)) x) there
-
-push-frame-requires-2 : tie.Need-push-frame-requires-2
-push-frame-requires-2 c κs = search needs
-
-same-length-3 : tie.Need-same-length-3
-same-length-3 c = search needs
-
-returns-4 : tie.Need-returns-4
-unfolding offerTransitAnswer offerTransitAfter
-returns-4 c =
-    let pushed : _ = c .before .before in
-    let chosen : _ = pushed .before .before in
-    let left : _ = chosen .before in
-    let called : _ = left .before .before in
-    let tested : _ = called .before .before .before in
-    let a : _ = tested .before .before .args in
-    let xs : _ = a .station .now in
-    let x : _ = givenFrame (a .class) (a .size) (a .hops) (a .eligible) in
-    let said = rw (called .before .read .ensures) at (called .offer-transit .ensures) in
-    let there = pushed .push-frame2 .ensures ∙ ap (λ (l : Line). pushedAt xs l x) (to-secondary (a .class) (chosen .if3 .left)) in
-    done-carried xs _ (tested .if1 .left) _ _ said (left .if2 .left) (λ (st : Station). pushedAt xs (queueFor (a .class)) x)
-    (offer-written xs (λ j. tested .before .slice-known .given j .fits) (tested .if1 .left) (queueFor (a .class)) x) there
+    let said = rw (read .read .ensures) at (called .offer-transit .ensures) in
+    let there = pushed .push-frame .ensures ∙ ap (λ (m : Line). pushedAt xs m x) (rw (read .read .ensures) at (lined .queue-for .ensures)) in
+    done-carried xs _ (tested .if1 .left) _ _ said (left .if2 .left) (λ (st : Station). pushedAt xs l x)
+    (offer-written xs (λ j. tested .before .slice-known .given j .fits) (tested .if1 .left) l x) there
 
 pub rpr-offer-transit-spec : {M : Type 1} → statement M
 rpr-offer-transit-spec =
@@ -92,9 +75,7 @@ rpr-offer-transit-spec =
     cast-result
     same-length
     returns-2
+    queue-for-requires
     push-frame-requires
     same-length-2
-    returns-3
-    push-frame-requires-2
-    same-length-3
-    returns-4)
+    returns-3)

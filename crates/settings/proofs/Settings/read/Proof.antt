@@ -38,6 +38,12 @@ add-read-3 c = search needs
 read-requires-4 : tie.Need-read-requires-4
 read-requires-4 c κs = search needs
 
+add-read-4 : tie.Need-add-read-4
+add-read-4 c = search needs
+
+read-requires-5 : tie.Need-read-requires-5
+read-requires-5 c κs = search needs
+
 returns : tie.Need-returns
 unfolding settingsAt
 returns c = cc
@@ -57,4 +63,6 @@ read-spec =
     read-requires-3
     add-read-3
     read-requires-4
+    add-read-4
+    read-requires-5
     returns)

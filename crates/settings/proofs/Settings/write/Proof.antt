@@ -41,20 +41,27 @@ add-write-3 c = search needs
 write-requires-4 : tie.Need-write-requires-4
 write-requires-4 c κs = search needs
 
+add-write-4 : tie.Need-add-write-4
+add-write-4 c = search needs
+
+write-requires-5 : tie.Need-write-requires-5
+write-requires-5 c κs = search needs
+
 same-length : tie.Need-same-length
 same-length c = search needs
 
 returns : tie.Need-returns
 unfolding settingsBytes
 returns c =
-    let c6 : _ = c .before .before in
+    let c7 : _ = c .before .before in
+    let c6 : _ = c7 .before .before .before .before in
     let c5 : _ = c6 .before .before .before .before in
     let c4 : _ = c5 .before .before .before .before in
     let c3 : _ = c4 .before .before .before .before in
     let c2 : _ = c3 .before .before .before .before in
     let c1 : _ = c2 .before .before .before .before in
     let d : _ = c1 .before .before .before in
-    rw (c6 .write4 .ensures, c5 .write3 .ensures, c4 .write2 .ensures, c3 .put322 .ensures, c2 .put32 .ensures, c1 .write .ensures)
+    rw (c7 .write5 .ensures, c6 .write4 .ensures, c5 .write3 .ensures, c4 .write2 .ensures, c3 .put322 .ensures, c2 .put32 .ensures, c1 .write .ensures)
     (simp add-assoc at (laid-put (settingsParts (d .args .self)) (d .args .s .now) (d .args .at) (omega (arith, d .pre))))
 
 pub write-spec : {M : Type 1} → statement M
@@ -72,5 +79,7 @@ write-spec =
     write-requires-3
     add-write-3
     write-requires-4
+    add-write-4
+    write-requires-5
     same-length
     returns)

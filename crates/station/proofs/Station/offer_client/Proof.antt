@@ -4,6 +4,7 @@ use mathlib.Core.Bool.{true, false}
 use mathlib.Core.Path.{_≡_, sym, ap, _∙_}
 use Rattle.decide.specs.Test.{test, left, taken}
 use Rattle.queue.specs.Frame.{frameOk}
+use Rattle.flow.specs.Parts.{boundsOf}
 use Rattle.station.specs.Range.{stationOk}
 use Rattle.station.specs.Offers.{clientFor}
 use Rattle.station.proofs.Offers.{cut-tested, cut-given, client-lost, client-coded, client-staged}
@@ -16,8 +17,8 @@ in-range : (c : tie.After-frame-of) → test (stationOk (c .before .before .befo
 in-range c = left (stationOk (c .before .before .before .args .self)) (c .before .before .in-range .ensures) (c .before .if1 .left)
 
 -- and so is the frame
-frame-in-range : (c : tie.Else2) → test (frameOk (c .before .before .before .before .before .args .self .settings .mtu) (c .before .before .frame-of .result)) ≡ true
-frame-in-range c = left (frameOk (c .before .before .before .before .before .args .self .settings .mtu) (c .before .before .frame-of .result)) (c .before .in-range2 .ensures) (c .if2 .left)
+frame-in-range : (c : tie.Else2) → test (frameOk (boundsOf (c .before .before .before .before .before .args .self .settings)) (c .before .before .frame-of .result)) ≡ true
+frame-in-range c = left (frameOk (boundsOf (c .before .before .before .before .before .args .self .settings)) (c .before .before .frame-of .result)) (c .before .frame-ok .ensures) (c .if2 .left)
 
 in-range-requires : tie.Need-in-range-requires
 in-range-requires c κs = search needs
@@ -33,8 +34,8 @@ returns c = let x = c .before .before .before .args in
 frame-of-requires : tie.Need-frame-of-requires
 frame-of-requires c κs = search needs
 
-in-range-requires-2 : tie.Need-in-range-requires-2
-in-range-requires-2 c κs = search needs
+frame-ok-requires : tie.Need-frame-ok-requires
+frame-ok-requires c κs = search needs
 
 turned-down-requires-2 : tie.Need-turned-down-requires-2
 turned-down-requires-2 c κs = search needs
@@ -43,7 +44,7 @@ returns-2 : tie.Need-returns-2
 returns-2 c = let q = c .before .before .before in
     let x = q .before .before .before .args in
     let st = x .self in
-    c .turned-down2 .ensures ∙ sym (client-coded st (x .class) (x .size) (x .hops) (in-range q) (cut-tested st (in-range q) (x .class) (x .size) (x .hops) 0 (q .frame-of .result) (q .frame-of .ensures) false (taken (frameOk (st .settings .mtu) (q .frame-of .result)) (c .before .before .in-range2 .ensures) (c .before .if2 .taken))))
+    c .turned-down2 .ensures ∙ sym (client-coded st (x .class) (x .size) (x .hops) (in-range q) (cut-tested st (in-range q) (x .class) (x .size) (x .hops) 0 (q .frame-of .result) (q .frame-of .ensures) false (taken (frameOk (boundsOf (st .settings)) (q .frame-of .result)) (c .before .before .frame-ok .ensures) (c .before .if2 .taken))))
 
 client-requires : tie.Need-client-requires
 client-requires c κs = search needs
@@ -64,7 +65,7 @@ offer-client-spec =
     turned-down-requires
     returns
     frame-of-requires
-    in-range-requires-2
+    frame-ok-requires
     turned-down-requires-2
     returns-2
     client-requires

@@ -1,6 +1,6 @@
 -- One row decides.
 -- Assumes nothing.
-use mathlib.Core.Path.{sym, ap, _∙_}
+use mathlib.Core.Path.{sym, _∙_}
 use borrow.Author.Tests.{not-true, not-false}
 use mir.Facts.{toZ-pos}
 use mir.Syntax.{w64}

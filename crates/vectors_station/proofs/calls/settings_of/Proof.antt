@@ -1,17 +1,18 @@
 -- The place stays within the words, and the bytes keep their number.
 -- Assumes nothing.
-use Prim.Native.Nat.{_≤_, _-_}
+use Prim.Native.Nat.{_*_, _≤_, _-_}
 use mathlib.Core.Path.{_≡_}
 use lib.ListN.{length}
 use borrow.Author.Needs.{needs}
+use Rattle.settings.specs.Words.{settingsLength}
 use Rattle.vectors_station.proofs.calls.settings_of.Statement.{statement}
 use Rattle.vectors_station.proofs.calls.settings_of.Tie as tie
 
 abbrev Inv-loop : tie.InvT-loop
-Inv-loop words bytes₀ i₀ bytes i = (i ≤ 30) × (length bytes ≡ 120)
+Inv-loop words bytes₀ i₀ bytes i = (4 * i ≤ settingsLength) × (length bytes ≡ settingsLength)
 
 abbrev μ-loop : tie.MeasureT-loop
-μ-loop words bytes₀ i₀ bytes i = 30 - i
+μ-loop words bytes₀ i₀ bytes i = settingsLength - 4 * i
 
 loop-holds : tie.Need-loop-holds Inv-loop μ-loop
 loop-holds c = search needs

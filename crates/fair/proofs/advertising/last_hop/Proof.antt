@@ -1,9 +1,9 @@
--- `fair::last_hop` meets its contract: the comparisons are the definition's.
+-- `fair::advertising::last_hop` meets its contract: the comparisons are the definition's.
 -- Assumes nothing.
 use mathlib.Core.Path.{refl}
 use Rattle.decide.specs.Test.{test}
-use Rattle.fair.proofs.last_hop.Statement.{statement}
-use Rattle.fair.proofs.last_hop.Tie as tie
+use Rattle.fair.proofs.advertising.last_hop.Statement.{statement}
+use Rattle.fair.proofs.advertising.last_hop.Tie as tie
 
 returns : tie.Need-returns
 unfolding test

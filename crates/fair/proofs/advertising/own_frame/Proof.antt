@@ -1,8 +1,8 @@
--- `fair::own_frame` meets its contract: the ringlet bit is what its function ensures, and each other field is the definition's.
+-- `fair::advertising::own_frame` meets its contract: the ringlet bit is what its function ensures, and each other field is the definition's.
 -- Assumes nothing.
 use borrow.Author.Needs.{needs}
-use Rattle.fair.proofs.own_frame.Statement.{statement}
-use Rattle.fair.proofs.own_frame.Tie as tie
+use Rattle.fair.proofs.advertising.own_frame.Statement.{statement}
+use Rattle.fair.proofs.advertising.own_frame.Tie as tie
 
 other-ringlet-requires : tie.Need-other-ringlet-requires
 other-ringlet-requires c κs = search needs

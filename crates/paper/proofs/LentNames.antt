@@ -1,0 +1,66 @@
+-- The definitions say what stands there, by what they are.
+-- Assumes nothing.
+use Prim.Native.Nat.{ℕ}
+use mathlib.Core.List.{List}
+use mathlib.Core.Path.{refl}
+use Rattle.wire.specs.Signed.{unsignedOf}
+use Rattle.summary.proofs.Integers.{pos-less}
+use Rattle.sheet.specs.Sheet.{sheetOf}
+use Rattle.paper.specs.LentNames.{CallNames, MemoryNames, PieceNames, SheetNames, SightNames, LentNames}
+
+call : (xs : List ℕ) → CallNames xs
+call xs =
+    record {
+      start = λ settings bytes. (refl, refl);
+      tick = λ a b c. (refl, refl);
+      client = λ class size hops. (refl, refl);
+      transit = λ class size hops eligible. (refl, refl);
+      control = λ size. (refl, refl);
+      select = (refl, refl);
+      age = (refl, refl);
+      read-frame = λ frame bytes. (refl, refl);
+      write-frame = λ room. (refl, refl);
+      show = λ room. (refl, refl);
+    }
+
+memory : (mem : List ℕ) → MemoryNames mem
+memory mem =
+    record {
+      lends = λ l. refl;
+      after = λ l. refl;
+      no-call = refl;
+      a-call = λ l ls. refl;
+      new-start = λ c xs. (λ h. h, λ h. h);
+      none-new = tt;
+      not-new = λ l ls. (λ h. h, λ h. h);
+      started = λ settings. refl;
+      station = refl;
+      no-event = λ w. refl;
+      told = λ w l ls. refl;
+    }
+
+pieces : PieceNames
+pieces =
+    record {
+      piece-joined = λ bytes. refl;
+      both-joined = λ t u. refl;
+      piece-room = λ bytes room. refl;
+      both-room = λ t u room. refl;
+      piece-carried = λ bytes room. (λ h. h, λ h. h);
+      both-carried = λ t u room. (λ h. h, λ h. h);
+      cut = λ l es t. (λ h. h, λ h. h);
+      piece-tree = λ bytes room. refl;
+      both-tree = λ t u room. refl;
+      piece-whole = λ bytes room. (λ h. h, λ h. h);
+      both-whole = λ t u room. (λ h. h, λ h. h);
+    }
+
+sheets : SheetNames
+unfolding sheetOf unsignedOf
+sheets = record { sheet = λ s. refl; not-negative = λ n. refl; negative = λ m. refl; signed = λ p. rw (pos-less (p .limits .hi) (p .depth)); summed = λ room s. (refl, refl); refused = λ room n. (refl, refl) }
+
+sights : SightNames
+sights = record { picked = λ st. refl; seen-as = λ s v f. refl; seen-in = λ v. refl; front = λ f. refl }
+
+pub lent-names : LentNames
+lent-names = record { call = call; memory = memory; pieces = pieces; sheets = sheets; sights = sights }
