@@ -27,7 +27,8 @@ which-number B = refl
 which-number C = refl
 which-number D = refl
 
-same-which : (v w : Which) → numberOf v ≡ numberOf w → v ≡ w
+-- two shapers have two numbers
+pub same-which : (v w : Which) → numberOf v ≡ numberOf w → v ≡ w
 same-which v w e = sym (which-number v) ∙ ap whichOf e ∙ which-number w
 
 module _ (s : Settings) (c : Credits) where

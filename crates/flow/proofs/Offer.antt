@@ -10,7 +10,7 @@ use lib.Dec.{eqb}
 use Rattle.decide.specs.Refusal.{refusedOr, RefusedExactly}
 use Rattle.decide.proofs.Cases.{of-each}
 use Rattle.decide.proofs.Refusal.{in-order, refused-exactly}
-use Rattle.decide.proofs.Refused.{number-by, leaves-by}
+use Rattle.decide.proofs.Refused.{number-by}
 use Rattle.queue.specs.declared.Frame.{Frame}
 use Rattle.queue.specs.Queue.{spaceOf}
 use Rattle.settings.specs.declared.Settings.{Settings}
@@ -50,10 +50,6 @@ module _ (s : Settings) (f : Flow) (l : Line) (x : Frame) where
   -- the number is that of the rows: 4 exactly when the size exceeds the space
   pub enter-exactly : RefusedExactly (enterOf s f l x .number) (enterFaults s f l x)
   enter-exactly = refused-exactly (enterFaults s f l x) refl _ (number-by (λ (r : Entered). r .number) _ _ (λ m. refl) refl _)
-
-  -- a refusal leaves the flow as it was
-  pub enter-leaves : 0 < enterOf s f l x .number → enterOf s f l x .flow ≡ f
-  enter-leaves = leaves-by (λ (r : Entered). r .number) _ _ (λ m. refl) refl (λ (r : Entered). r .flow) (λ m. refl) _
 
 -- Transit A goes to the primary queue,
 pub transit-a : (s : Settings) → queueFor s 0 ≡ Primary
@@ -138,10 +134,6 @@ module _ (w : Way) (s : Settings) (f : Flow) (class size hops : ℕ) (over : Boo
   -- the number is that of the rows: 5, 6 and 7 exactly when they apply, in this order
   pub client-exactly : RefusedExactly (clientAs w s f class size hops over .number) (clientFaults s f w over)
   client-exactly = refused-exactly (clientFaults s f w over) refl _ (number-by (λ (r : Client). r .number) _ _ (λ m. refl) refl _)
-
-  -- a refusal leaves the flow as it was
-  pub client-leaves : 0 < clientAs w s f class size hops over .number → clientAs w s f class size hops over .flow ≡ f
-  client-leaves = leaves-by (λ (r : Client). r .number) _ _ (λ m. refl) refl (λ (r : Client). r .flow) (λ m. refl) _
 
 -- ---- D lacking is always 6
 

@@ -14,6 +14,7 @@ use Rattle.queue.proofs.Laws.{space-left, space-full}
 use Rattle.flow.specs.declared.Which.{Which}
 use Rattle.flow.specs.declared.Which.the-variants.{M, A, B, C, D}
 use Rattle.flow.specs.Which.{numberOf, member}
+use Rattle.flow.proofs.Charge.{same-which}
 use Rattle.flow.proofs.Held.{head-first}
 use Rattle.rates.proofs.Formulas.{smoothed-is, aged-is, ramped-is, allowance-is, own-is, share-is}
 use Rattle.answer.specs.Bytes.{bitOf}
@@ -31,34 +32,6 @@ first A ws = refl
 first B ws = refl
 first C ws = refl
 first D ws = refl
-
--- two shapers have two numbers
-same-which : (v w : Which) → numberOf v ≡ numberOf w → v ≡ w
-same-which M M e = refl
-same-which M A e = absurd (omega arith)
-same-which M B e = absurd (omega arith)
-same-which M C e = absurd (omega arith)
-same-which M D e = absurd (omega arith)
-same-which A M e = absurd (omega arith)
-same-which A A e = refl
-same-which A B e = absurd (omega arith)
-same-which A C e = absurd (omega arith)
-same-which A D e = absurd (omega arith)
-same-which B M e = absurd (omega arith)
-same-which B A e = absurd (omega arith)
-same-which B B e = refl
-same-which B C e = absurd (omega arith)
-same-which B D e = absurd (omega arith)
-same-which C M e = absurd (omega arith)
-same-which C A e = absurd (omega arith)
-same-which C B e = absurd (omega arith)
-same-which C C e = refl
-same-which C D e = absurd (omega arith)
-same-which D M e = absurd (omega arith)
-same-which D A e = absurd (omega arith)
-same-which D B e = absurd (omega arith)
-same-which D C e = absurd (omega arith)
-same-which D D e = refl
 
 shapers : ShaperNames
 shapers =
@@ -107,6 +80,7 @@ going =
       first-slot = λ q. refl;
       without-first = λ q. refl;
       leaves-queue = λ f l. refl;
+      origins = (refl, refl, refl);
       charged = λ s f l w. refl;
       stage = λ f. refl;
       control = λ f q. refl;

@@ -29,7 +29,7 @@ use Rattle.flow.specs.declared.Which.{Which}
 use Rattle.flow.specs.declared.Which.the-variants.{M, A, B, C, D}
 use Rattle.flow.specs.Which.{bucketOf, creditOf, limitsFor, member, sends, fed}
 use Rattle.flow.specs.Parts.{queueOf, capacityOf, boundsOf, withCredits, withStage, withQueue}
-use Rattle.flow.specs.Select.{leaves, leavesCharged, leavesStage}
+use Rattle.flow.specs.Select.{originOf, leaves, leavesCharged, leavesStage}
 use Rattle.flow.specs.Events.{wayBack}
 use Rattle.flow.specs.Offer.{markOf, clientFrame}
 use Rattle.rates.specs.Rates.{smoothedOf, agedOf, rampedOf, allowanceOf, ownRateOf, shareOf}
@@ -121,7 +121,8 @@ pub record GoingNames : Type 0 where
       ≡ record { slots = set (q .slots) (q .head % 128) 0; head = (q .head + 1) % 128; count = q .count - 1; held = q .held - firstFrame q .size }
   -- The first frame of a queue leaves it, with nothing charged, or with a shaper charged; or the frame in the stage does.
   pub leaves-queue : (f : Flow) (l : Line)
-      → leaves f l ≡ record { origin = leaves f l .origin; frame = firstFrame (queueOf f l); flow = withQueue f l (taken (queueOf f l)) }
+      → leaves f l ≡ record { origin = originOf l; frame = firstFrame (queueOf f l); flow = withQueue f l (taken (queueOf f l)) }
+  pub origins : (originOf Control ≡ 1) × (originOf Primary ≡ 2) × (originOf Secondary ≡ 3)
   pub charged : (s : Settings) (f : Flow) (l : Line) (w : Which)
       → leavesCharged s f l w ≡ leaves (withCredits f (fed s (f .credits) (sends (w ∷ []) (firstFrame (queueOf f l) .size)))) l
   pub stage : (f : Flow) → leavesStage f ≡ record { origin = 4; frame = frameOf (f .stage); flow = withStage f 0 }
