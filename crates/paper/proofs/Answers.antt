@@ -10,6 +10,8 @@ use Rattle.paper.proofs.OfSummary as OfSummary
 use Rattle.paper.proofs.OfRecord as OfRecord
 use Rattle.paper.proofs.OfAccount as OfAccount
 use Rattle.paper.proofs.OfReport as OfReport
+use Rattle.paper.proofs.OfWindow as OfWindow
+use Rattle.paper.proofs.OfApart as OfApart
 use Rattle.paper.proofs.OfRing as OfRing
 use Rattle.paper.proofs.OfWrap as OfWrap
 use Rattle.paper.proofs.OfSheet as OfSheet
@@ -41,6 +43,8 @@ answers-determined =
       of-record = OfRecord.functions;
       of-account = OfAccount.functions;
       of-report = OfReport.functions;
+      of-window = OfWindow.functions;
+      of-apart = OfApart.functions;
       of-ring = OfRing.functions;
       of-wrap = OfWrap.functions;
       of-sheet = OfSheet.functions;

@@ -11,6 +11,7 @@ pub mod Host
 pub mod Second
 pub mod Summaries
 pub mod Program
+pub mod Parting
 pub mod Third
 pub mod Determined
 pub mod OfDecide
@@ -22,6 +23,8 @@ pub mod OfSummary
 pub mod OfRecord
 pub mod OfAccount
 pub mod OfReport
+pub mod OfWindow
+pub mod OfApart
 pub mod OfRing
 pub mod OfWrap
 pub mod OfSheet

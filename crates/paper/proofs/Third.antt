@@ -49,6 +49,7 @@ use Rattle.decide.proofs.Cases.{by-cases}
 use Rattle.paper.specs.Reasons.{RecordRefused}
 use Rattle.paper.proofs.Earliest.{header-given, event-given, finds, record-faults}
 use Rattle.paper.proofs.Program.{program}
+use Rattle.paper.proofs.Parting.{parting}
 use Rattle.paper.proofs.Summaries.{summary-rules}
 use Rattle.paper.specs.Third.{SummarySays, Account, LentAccount, LentPieces, Walking, Condition3, Night, NightAccounted, NightAccountedLent}
 
@@ -143,6 +144,7 @@ third-condition =
     record {
       rules = summary-rules;
       program = program;
+      parting = parting;
       records = account;
       no-others = summarized-written;
       faults = record-faults;

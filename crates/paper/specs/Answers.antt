@@ -10,6 +10,8 @@ use Rattle.paper.specs.OfSummary as OfSummary
 use Rattle.paper.specs.OfRecord as OfRecord
 use Rattle.paper.specs.OfAccount as OfAccount
 use Rattle.paper.specs.OfReport as OfReport
+use Rattle.paper.specs.OfWindow as OfWindow
+use Rattle.paper.specs.OfApart as OfApart
 use Rattle.paper.specs.OfRing as OfRing
 use Rattle.paper.specs.OfWrap as OfWrap
 use Rattle.paper.specs.OfSheet as OfSheet
@@ -39,6 +41,8 @@ pub record AnswersDetermined : Type 0 where
   pub of-record : OfRecord.Functions
   pub of-account : OfAccount.Functions
   pub of-report : OfReport.Functions
+  pub of-window : OfWindow.Functions
+  pub of-apart : OfApart.Functions
   pub of-ring : OfRing.Functions
   pub of-wrap : OfWrap.Functions
   pub of-sheet : OfSheet.Functions

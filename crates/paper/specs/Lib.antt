@@ -10,6 +10,7 @@ pub mod Host
 pub mod Second
 pub mod Summaries
 pub mod Program
+pub mod Parting
 pub mod Third
 pub mod Determined
 pub mod OfDecide
@@ -21,6 +22,8 @@ pub mod OfSummary
 pub mod OfRecord
 pub mod OfAccount
 pub mod OfReport
+pub mod OfWindow
+pub mod OfApart
 pub mod OfRing
 pub mod OfWrap
 pub mod OfSheet

@@ -45,6 +45,7 @@ use Rattle.rpr.specs.Pieces.{Rooms, roomOf, AllCarried, CutsRooms}
 use Rattle.paper.specs.Reasons.{headerRefused, eventRefused, RecordRefused}
 use Rattle.paper.specs.Summaries.{SummaryRules}
 use Rattle.paper.specs.Program.{Program}
+use Rattle.paper.specs.Parting.{Parting}
 
 -- What the summary s of a record says of its events es from a starting credit c.
 pub record SummarySays (l : Limits) (es : List Event) (s : Summary) (c : ℕ) : Type 0 where
@@ -150,6 +151,8 @@ pub record Condition3 : Type 0 where
   -- What events and summaries are, by the rules of document 01.
   pub rules : SummaryRules
   pub program : Program
+  -- Where two halls' records part is listed whole, and with both summaries: request A3.
+  pub parting : Parting
   -- Every record that a writer writes has such an account,
   pub records : (l : Limits) (es : List Event) → WellFormed l es → Account (written l es) l es
   -- and nothing else has a summary.

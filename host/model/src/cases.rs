@@ -46,6 +46,11 @@ fn piece_bytes(steps: &[&str]) -> Result<Vec<u8>, String> {
 }
 
 impl Case<'_> {
+    /// The bytes of a case that is one piece.
+    pub fn bytes(&self) -> Result<Vec<u8>, String> {
+        piece_bytes(&self.steps)
+    }
+
     /// Each piece's summary or refusal, one piece in memory at a time.
     fn pieces(&self) -> Result<Vec<Result<Summary, Refusal>>, String> {
         self.steps

@@ -8,6 +8,7 @@
 #![forbid(unsafe_code)]
 
 pub mod cases;
+pub mod compare;
 pub mod entry_script;
 pub mod host;
 pub mod lent;
@@ -16,6 +17,7 @@ pub mod line;
 pub mod make;
 pub mod make_call;
 pub mod make_damage;
+pub mod make_pair;
 pub mod make_station;
 pub mod random;
 pub mod record;

@@ -84,7 +84,8 @@ fn regular(random: &mut Random, settings: &Settings, count: usize) -> Vec<Event>
     pattern.iter().copied().cycle().take(count).collect()
 }
 
-fn mixed(random: &mut Random, settings: &Settings, count: usize) -> Vec<Event> {
+/// So many events, each at random.
+pub fn mixed(random: &mut Random, settings: &Settings, count: usize) -> Vec<Event> {
     (0..count).map(|_| event(random, settings)).collect()
 }
 

@@ -110,13 +110,18 @@ pub fn read(bytes: &[u8]) -> Result<Record, Refusal> {
 }
 
 impl Event {
-    /// "Records: length (2, of the whole), kind (2), payload, little-endian."
-    pub fn to_bytes(self) -> [u8; EVENT_LENGTH] {
-        let (kind, value) = match self {
+    /// The kind's number, and the amount or size.
+    pub fn parts(self) -> (u8, u16) {
+        match self {
             Event::Waiting(amount) => (1, amount),
             Event::Idle(amount) => (2, amount),
             Event::Send(size) => (3, size),
-        };
+        }
+    }
+
+    /// "Records: length (2, of the whole), kind (2), payload, little-endian."
+    pub fn to_bytes(self) -> [u8; EVENT_LENGTH] {
+        let (kind, value) = self.parts();
         let [low, high] = value.to_le_bytes();
         [EVENT_LENGTH as u8, 0, kind, 0, low, high]
     }

@@ -6,12 +6,18 @@
 //! `expected walk < CASES`: what a reader finds in the record of each line.
 //! `expected station < SCRIPT`: what each call of this script answers.
 //! `expected entry < SCRIPT`: what each call of this script answers, and what it leaves.
+//! `expected compare FIRST SECOND`: what the program compare prints for these two files.
+//! `expected bytes NAME < CASES`: the bytes of the case of this name.
 
 use model::station_script::Script;
-use model::{cases, entry_script, ring_cases, text, walk};
+use model::{cases, compare, entry_script, ring_cases, text, walk};
 use std::env;
+use std::fs;
 use std::io::{self, BufRead, Read, Write};
 use std::process::ExitCode;
+
+const USAGE: &str = "usage: expected summarize|vectors|ring|walk|station|entry, \
+                     expected compare FIRST SECOND, expected bytes NAME";
 
 fn summarize() -> Result<(), String> {
     let mut input = Vec::new();
@@ -51,8 +57,27 @@ fn entry() -> Result<(), String> {
     lines(|line| script.print(line))
 }
 
+fn compared(first: &str, second: &str) -> Result<(), String> {
+    let read = |name| fs::read(name).map_err(|fault| format!("{name}: {fault}"));
+    write(&compare::compare(&read(first)?, &read(second)?).text)
+}
+
+fn bytes(name: &str) -> Result<(), String> {
+    for line in io::stdin().lock().lines() {
+        let line = line.map_err(|fault| fault.to_string())?;
+        if let Some(case) = cases::parse(&line).filter(|case| case.name == name) {
+            return write_bytes(&case.bytes()?);
+        }
+    }
+    Err(format!("no case {name}"))
+}
+
 fn write(text: &str) -> Result<(), String> {
-    let written = io::stdout().lock().write_all(text.as_bytes());
+    write_bytes(text.as_bytes())
+}
+
+fn write_bytes(bytes: &[u8]) -> Result<(), String> {
+    let written = io::stdout().lock().write_all(bytes);
     written.map_err(|fault| fault.to_string())
 }
 
@@ -65,7 +90,9 @@ fn main() -> ExitCode {
         ["walk"] => lines(walk::print),
         ["station"] => station(),
         ["entry"] => entry(),
-        _ => Err("usage: expected summarize|vectors|ring|walk|station|entry".to_string()),
+        ["compare", first, second] => compared(first, second),
+        ["bytes", name] => bytes(name),
+        _ => Err(USAGE.to_string()),
     };
     match done {
         Ok(()) => ExitCode::SUCCESS,

@@ -1,0 +1,3 @@
+pub mod Told
+pub mod Text
+pub mod Page

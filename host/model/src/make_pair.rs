@@ -1,0 +1,297 @@
+//! Random pairs of record files, for the program `compare`: alike but for one thing,
+//! unlike, long, refused.
+
+use crate::make;
+use crate::random::Random;
+use crate::record::{self, Event, Record, Settings, EVENT_LENGTH, HEADER_LENGTH, MOST_EVENTS};
+use crate::refusal::Refusal;
+
+/// The bytes of both files.
+pub type Pair = (Vec<u8>, Vec<u8>);
+
+/// A way to make pairs. The number says how often it was taken before: a way with a few
+/// cases takes them in turn.
+pub type Way = (&'static str, fn(&mut Random, usize) -> Pair);
+
+/// The ways that a run takes in turn, again and again.
+pub const WAYS: &[Way] = &[
+    ("equal", equal),
+    ("one kind other", |random, _| changed(random, other_kind)),
+    ("one number other", |random, _| {
+        changed(random, other_number)
+    }),
+    ("one event other", |random, _| changed(random, other_event)),
+    ("an event inserted", inserted),
+    ("an event cut", |random, turn| {
+        swapped(inserted(random, turn))
+    }),
+    ("the tail cut", tail_cut),
+    ("mtu other", |random, _| {
+        one_setting(random, |settings, other| settings.mtu = other.mtu)
+    }),
+    ("loLimit other", |random, _| {
+        one_setting(random, |settings, other| settings.lo_limit = other.lo_limit)
+    }),
+    ("hiLimit other", |random, _| {
+        one_setting(random, |settings, other| settings.hi_limit = other.hi_limit)
+    }),
+    ("unlike", |random, _| (whole(random), whole(random))),
+    ("the first refused", |random, turn| {
+        (refused(random, turn), whole(random))
+    }),
+    ("the second refused", |random, turn| {
+        (whole(random), refused(random, turn))
+    }),
+    ("both refused", |random, turn| {
+        (refused(random, turn), refused(random, turn / FAULTS.len()))
+    }),
+    ("empty", |random, turn| {
+        by_turns(turn, Vec::new(), whole(random))
+    }),
+    ("header alone", header_alone),
+    ("long", long),
+    ("long, a fault at a window's end", long_fault),
+];
+
+/// The ways that are taken once: records of a million events, and what may stand behind.
+pub const MILLIONS: &[Way] = &[
+    ("a million, equal", |random, _| twice(&million(random))),
+    ("a million, every event other", million_other),
+    ("a million, the other a header alone", |random, _| {
+        let full = million(random);
+        (full.to_bytes(), full.piece(0, 0).to_bytes())
+    }),
+    ("a million, the other all but the last", |random, _| {
+        let full = million(random);
+        (full.piece(0, MOST_EVENTS - 1).to_bytes(), full.to_bytes())
+    }),
+    ("an event over a million, first", |random, _| {
+        (over(random, &Event::Idle(1).to_bytes()), whole(random))
+    }),
+    ("a byte over a million, second", |random, _| {
+        (whole(random), over(random, &[0]))
+    }),
+    ("a fault behind the million, both", |random, _| {
+        let kind = [EVENT_LENGTH as u8, 0, 4, 0, 0, 0];
+        (
+            over(random, &kind),
+            over(random, &Event::Send(0).to_bytes()),
+        )
+    }),
+    ("a fault behind the million, the other 2", |random, _| {
+        (over(random, &Event::Send(0).to_bytes()), vec![0])
+    }),
+    ("a fault in the millionth and a byte", million_fault),
+];
+
+/// What a small file can be refused with.
+const FAULTS: [Refusal; 3] = [Refusal::Setting, Refusal::Bytes, Refusal::Range];
+
+/// The program reads 5,000 events at a time: lengths beside the ends of these windows,
+/// and places at them.
+const LENGTHS: [usize; 8] = [4_999, 5_000, 5_001, 9_999, 10_000, 10_001, 12_345, 15_000];
+const ENDS: [usize; 6] = [0, 4_998, 4_999, 5_000, 9_999, 10_000];
+
+fn twice(record: &Record) -> Pair {
+    (record.to_bytes(), record.to_bytes())
+}
+
+fn swapped((first, second): Pair) -> Pair {
+    (second, first)
+}
+
+/// This one as the first file, as the second, as both, by turns.
+fn by_turns(turn: usize, one: Vec<u8>, other: Vec<u8>) -> Pair {
+    match turn % 3 {
+        0 => (one, other),
+        1 => (other, one),
+        _ => (one.clone(), one),
+    }
+}
+
+/// A record of 1 to 60 events.
+fn some(random: &mut Random) -> Record {
+    loop {
+        let record = make::record(random, 60);
+        if !record.events.is_empty() {
+            return record;
+        }
+    }
+}
+
+fn whole(random: &mut Random) -> Vec<u8> {
+    some(random).to_bytes()
+}
+
+fn equal(random: &mut Random, _: usize) -> Pair {
+    twice(&some(random))
+}
+
+type Change = fn(&mut Random, &Settings, Event) -> Event;
+
+/// A record, and the same with one event changed.
+fn changed(random: &mut Random, change: Change) -> Pair {
+    let first = some(random);
+    let mut second = first.clone();
+    let place = random.below(first.events.len());
+    second.events[place] = change(random, &first.settings, first.events[place]);
+    (first.to_bytes(), second.to_bytes())
+}
+
+/// The same number under another kind.
+fn other_kind(random: &mut Random, settings: &Settings, event: Event) -> Event {
+    let (_, number) = event.parts();
+    let kinds = [Event::Waiting, Event::Idle, Event::Send];
+    let some = if settings.allows_size(u32::from(number)) {
+        &kinds[..]
+    } else {
+        &kinds[..2]
+    };
+    loop {
+        let other = random.pick(some)(number);
+        if other != event {
+            return other;
+        }
+    }
+}
+
+/// The same kind with another number.
+fn other_number(random: &mut Random, settings: &Settings, event: Event) -> Event {
+    loop {
+        let other = make::event(random, settings);
+        if other.parts().0 == event.parts().0 && other != event {
+            return other;
+        }
+    }
+}
+
+fn other_event(random: &mut Random, settings: &Settings, event: Event) -> Event {
+    loop {
+        let other = make::event(random, settings);
+        if other != event {
+            return other;
+        }
+    }
+}
+
+/// The second has an event more, anywhere.
+fn inserted(random: &mut Random, _: usize) -> Pair {
+    let first = some(random);
+    let mut second = first.clone();
+    let place = random.below(first.events.len() + 1);
+    let event = make::event(random, &first.settings);
+    second.events.insert(place, event);
+    (first.to_bytes(), second.to_bytes())
+}
+
+fn tail_cut(random: &mut Random, turn: usize) -> Pair {
+    let longer = some(random);
+    let shorter = longer.piece(0, random.below(longer.events.len()));
+    let pair = (shorter.to_bytes(), longer.to_bytes());
+    if turn % 2 == 1 {
+        swapped(pair)
+    } else {
+        pair
+    }
+}
+
+/// The same events under settings that differ in one alone. Sends fit the lesser mtu.
+fn one_setting(random: &mut Random, take: fn(&mut Settings, &Settings)) -> Pair {
+    loop {
+        let first = make::settings(random);
+        let mut second = first;
+        take(&mut second, &make::settings(random));
+        if second != first && second.valid() {
+            let fitting = if first.mtu < second.mtu {
+                first
+            } else {
+                second
+            };
+            let mut record = make::record_of(random, fitting, 60);
+            record.settings = first;
+            let bytes = record.to_bytes();
+            record.settings = second;
+            return (bytes, record.to_bytes());
+        }
+    }
+}
+
+/// Bytes that are refused, with each number in turn.
+fn refused(random: &mut Random, turn: usize) -> Vec<u8> {
+    loop {
+        let bytes = make::damaged(random, 40);
+        if record::read(&bytes) == Err(FAULTS[turn % FAULTS.len()]) {
+            return bytes;
+        }
+    }
+}
+
+fn header_alone(random: &mut Random, turn: usize) -> Pair {
+    let record = some(random);
+    by_turns(turn, record.piece(0, 0).to_bytes(), record.to_bytes())
+}
+
+/// A record of exactly so many events, each at random.
+fn mixed(random: &mut Random, count: usize) -> Record {
+    let settings = make::settings(random);
+    let events = make::mixed(random, &settings, count);
+    Record { settings, events }
+}
+
+/// Pieces of one record, the second with some events changed where windows end.
+fn long(random: &mut Random, turn: usize) -> Pair {
+    let record = mixed(random, LENGTHS[LENGTHS.len() - 1]);
+    let length = LENGTHS[turn % LENGTHS.len()];
+    let other = random.pick(&LENGTHS);
+    let of_second = random.pick(&[length, other]);
+    let mut second = record.piece(0, of_second);
+    for place in ENDS.into_iter().chain([of_second - 1]) {
+        if place < of_second && random.one_in(2) {
+            second.events[place] = other_event(random, &record.settings, second.events[place]);
+        }
+    }
+    (record.piece(0, length).to_bytes(), second.to_bytes())
+}
+
+/// One of two long files has a size out of range, a kind that is none or half an event
+/// where a window ends.
+fn long_fault(random: &mut Random, turn: usize) -> Pair {
+    let (mut bytes, other) = long(random, LENGTHS.len() - 1);
+    let at = HEADER_LENGTH + EVENT_LENGTH * random.pick(&ENDS);
+    match turn % 3 {
+        0 => bytes[at..at + EVENT_LENGTH].copy_from_slice(&Event::Send(15).to_bytes()),
+        1 => bytes[at + 2] = 4,
+        _ => bytes.truncate(at + 1 + random.below(EVENT_LENGTH - 1)),
+    }
+    if turn / 3 % 2 == 1 {
+        (other, bytes)
+    } else {
+        (bytes, other)
+    }
+}
+
+fn million(random: &mut Random) -> Record {
+    mixed(random, MOST_EVENTS)
+}
+
+fn million_other(random: &mut Random, _: usize) -> Pair {
+    let first = million(random);
+    let mut second = first.clone();
+    for event in &mut second.events {
+        *event = other_event(random, &first.settings, *event);
+    }
+    (first.to_bytes(), second.to_bytes())
+}
+
+/// A record of a million events, and these bytes behind it.
+fn over(random: &mut Random, behind: &[u8]) -> Vec<u8> {
+    [&million(random).to_bytes()[..], behind].concat()
+}
+
+/// The fault in the last event comes before the byte behind it.
+fn million_fault(random: &mut Random, _: usize) -> Pair {
+    let mut bytes = over(random, &[0]);
+    let at = HEADER_LENGTH + EVENT_LENGTH * (MOST_EVENTS - 1);
+    bytes[at..at + EVENT_LENGTH].copy_from_slice(&Event::Send(15).to_bytes());
+    (whole(random), bytes)
+}
