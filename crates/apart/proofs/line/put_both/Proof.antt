@@ -50,15 +50,17 @@ unfolding bothText
 returns c =
     let a = c .before .before .before .before .before .before .before .before .before .before .before .before .before .before .before .before .before .before .before .before .before .before .before .before .args in
     let l = length-both (a .n) (a .e) (a .f) in
+    let head = c .before .before .before .before .before .before .before .before .before .before .before .before .before .before .before .before .before .before .before .before .put-head .ensures in
+    let first = c .before .before .before .before .before .before .before .before .before .before .before .before .before .before .before .before .put-event .ensures in
+    let comma = c .before .before .before .before .before .before .before .before .before .before .before .put-words .ensures in
+    let second = c .before .before .before .before .before .before .before .put-event2 .ensures in
+    let end = c .before .before .put-words2 .ensures in
     filled-more _ _ _ _ _ _ _ _
     (filled-more _ _ _ _ _ _ _ _
-    (filled-more _ _ _ _ _ _ _ _
-    (filled-more _ _ _ _ _ _ _ _ (c .before .before .before .before .before .before .before .before .before .before .before .before .before .before .before .before .before .before .before .before .put-head .ensures) (c .before .before .before .before .before .before .before .before .before .before .before .before .before .before .before .before .put-event .ensures) (omega arith))
-    (c .before .before .before .before .before .before .before .before .before .before .before .put-words .ensures)
+    (filled-more _ _ _ _ _ _ _ _ (filled-more _ _ _ _ _ _ _ _ head first (omega arith)) comma (omega arith))
+    second
     (omega arith))
-    (c .before .before .before .before .before .before .before .put-event2 .ensures)
-    (omega arith))
-    (c .before .before .put-words2 .ensures)
+    end
     (omega arith)
 
 pub put-both-spec : {M : Type 1} → statement M

@@ -4,8 +4,8 @@ use mathlib.Core.Path.{_≡_}
 use Prim.Native.Nat.{_-_, _≤_}
 use lib.ListN.{length}
 use borrow.Author.Needs.{needs}
-use Rattle.compare.proofs.fill.Statement.{statement}
-use Rattle.compare.proofs.fill.Tie as tie
+use Rattle.compare.proofs.reading.fill.Statement.{statement}
+use Rattle.compare.proofs.reading.fill.Tie as tie
 
 abbrev Inv-loop : tie.InvT-loop
 Inv-loop fd window₀ from end₀ window end = (length window ≡ 30014) × (end ≤ 30014)

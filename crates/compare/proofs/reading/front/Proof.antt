@@ -3,8 +3,8 @@
 use mathlib.Core.Path.{sym}
 use lib.Seq.{length-take-le}
 use borrow.Author.Needs.{needs}
-use Rattle.compare.proofs.front.Statement.{statement}
-use Rattle.compare.proofs.front.Tie as tie
+use Rattle.compare.proofs.reading.front.Statement.{statement}
+use Rattle.compare.proofs.reading.front.Tie as tie
 
 read-both-requires : tie.Need-read-both-requires
 read-both-requires c κs = search needs

@@ -3,8 +3,8 @@
 use mathlib.Core.Path.{sym}
 use lib.Seq.{length-take-le}
 use borrow.Author.Needs.{needs}
-use Rattle.compare.proofs.further.Statement.{statement}
-use Rattle.compare.proofs.further.Tie as tie
+use Rattle.compare.proofs.reading.further.Statement.{statement}
+use Rattle.compare.proofs.reading.further.Tie as tie
 
 bytes-before-requires : tie.Need-bytes-before-requires
 bytes-before-requires c κs = search needs
