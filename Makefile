@@ -1,28 +1,34 @@
-# make test    proves every crate, tries the must-fail edits, runs the programs, then everything outside the crates
-# make demo    the summary of document 01's example, and where two halls' records part, by the real programs, and a minute of a station's life, by a host in C
-# make install puts rpr.h, librpr.a and rpr.pc under $(DESTDIR)$(PREFIX); make uninstall takes them away
-# make bench   ns per call of the library and ms per run of the program compare, beside plain C that does the same work
-# make expect  writes anew what the programs are expected to print, by the independent model
-# make soak    the differential tests, with another SEED and as many CALLS as you like
-# make fuzz    random and damaged calls on the library for SECONDS seconds, led by the branches that it takes
-.PHONY: test demo install uninstall bench expect soak fuzz clean
+# make demo        document 01's example summarized whole and from two pieces, and where two halls' records part, by the command rpr, and a minute of a station's life, by a host in C
+# make test        proves every crate, tries the must-fail edits, runs the programs, then everything outside the crates; the last line is N passed, M failed
+# make install     puts the command rpr, the library, its header, the man pages and an example under PREFIX (/usr/local), the library in LIBDIR (PREFIX/lib), all within DESTDIR; CC, CPPFLAGS, CFLAGS and LDFLAGS are heard
+# make uninstall   takes them away again
+# make bench       ns per call of the library and ns per event of the commands, beside plain C that does the same work
+# make expect      writes anew what the programs are expected to print, by the independent model
+# make soak        the differential tests, with another SEED (1) and as many CALLS (1000000) as you like
+# make fuzz        random and damaged calls on the library for SECONDS (60) seconds, led by the branches that it takes; what it finds stays in fuzz/, for later runs
+# make clean       removes what was built, and leaves fuzz/
+.PHONY: list demo test install uninstall bench expect soak fuzz clean
 PREFIX ?= /usr/local
+LIBDIR ?= $(PREFIX)/lib
 DESTDIR ?=
 SEED ?= 1
 CALLS ?= 1000000
 SECONDS ?= 60
 
-test:
-	tools/test
+list:
+	@sed -n 's/^# make/make/p' Makefile
 
 demo:
 	tools/demo
 
+test:
+	tools/test
+
 install:
-	@PREFIX="$(PREFIX)" DESTDIR="$(DESTDIR)" tools/install
+	@PREFIX="$(PREFIX)" LIBDIR="$(LIBDIR)" DESTDIR="$(DESTDIR)" tools/install
 
 uninstall:
-	@PREFIX="$(PREFIX)" DESTDIR="$(DESTDIR)" tools/install --remove
+	@PREFIX="$(PREFIX)" LIBDIR="$(LIBDIR)" DESTDIR="$(DESTDIR)" tools/install --remove
 
 bench:
 	tools/bench

@@ -107,87 +107,103 @@ static void record(struct input *in, struct slice *s) {
 
 /* ---- calls ---- */
 
-/* The slices of a call as a host lends them. */
-static void lay_out(struct input *in, struct request *r, unsigned how) {
-    struct slice *s = r->slices;
-    set(&s[0], station, sizeof station);
-    switch (r->call) {
-        case START: settings(in, &s[0]), set(&s[1], station, sizeof station); break;
-        case READ: fairness(in, &s[1], how); break;
-        case WRITE: set_room(&s[1], RPR_FRAME_LENGTH, (uint8_t)how); break;
-        case SHOW: set_room(&s[1], RPR_READING_LENGTH, (uint8_t)how); break;
-        case SUMMARIZE: record(in, &s[0]), set_room(&s[1], RPR_SUMMARY_LENGTH, (uint8_t)how); break;
-        case JOIN:
-        case SETTLE:
-            for (int i = 0; i < 2; i++) set(&s[i], summaries[byte(in) % SUMMARIES], RPR_SUMMARY_LENGTH);
-            set_room(&s[2], RPR_SUMMARY_LENGTH, (uint8_t)how);
-            break;
-        default: break;
+/* The rooms' lengths. */
+static const size_t rooms[CALLS] = {
+    [call_write_frame] = RPR_FRAME_LENGTH,
+    [call_show] = RPR_READING_LENGTH,
+    [call_summarize] = RPR_SUMMARY_LENGTH,
+    [call_join] = RPR_SUMMARY_LENGTH,
+};
+
+/* A slice of a call as a host lends it. */
+static void lay_out(struct input *in, struct request *r, int at, unsigned how) {
+    struct slice *s = &r->slices[at];
+    switch (signatures[r->call].parameters[at].holds) {
+        case HOLDS_settings: settings(in, s); break;
+        case HOLDS_station: set(s, station, sizeof station); break;
+        case HOLDS_frame: fairness(in, s, how); break;
+        case HOLDS_record: record(in, s); break;
+        case HOLDS_room: set_room(s, rooms[r->call], (uint8_t)how); break;
+        case HOLDS_summary: set(s, summaries[byte(in) % SUMMARIES], RPR_SUMMARY_LENGTH); break;
+        case NO_SLICE: break;
     }
 }
 
-/* One slice of another length, one slice damaged, or a station of any bytes. */
+/* The numbers of a call, and then its slices. Of a ring's links the input may say those that are down. */
+static void give(struct input *in, struct request *r, unsigned how) {
+    for (int i = 0; i < PARAMETERS; i++)
+        if (signatures[r->call].parameters[i].kind == GIVEN_NUMBER) r->numbers[i] = number(in);
+    if ((r->call == call_choose || r->call == call_path) && how & SECOND)
+        r->numbers[3] = ~r->numbers[3] & ((UINT64_C(1) << r->numbers[0] % 64) - 1);
+    for (int i = 0; i < PARAMETERS; i++) lay_out(in, r, i, how);
+}
+
+/* A station of any bytes, one slice damaged, or one of another length. */
 static void spoil(struct input *in, struct request *r, unsigned how) {
-    int station_first = r->call != START && r->call < CHOOSE;
-    if (how & RAW && station_first && byte(in) == 255) {
+    const struct parameter *parameters = signatures[r->call].parameters;
+    unsigned count = 0;
+    while (count < PARAMETERS && parameters[count].kind != NONE) count++;
+    if (count == 0) return;
+    if (how & RAW && parameters[0].holds == HOLDS_station && byte(in) == 255) {
         for (size_t i = 0; i < RPR_STATION_LENGTH; i++) r->slices[0].bytes[i] = in->left > 0 ? byte(in) : (uint8_t)(i * how);
     }
-    if (how & DAMAGED) damage(in, &r->slices[byte(in) % SLICES]);
+    if (how & DAMAGED) damage(in, &r->slices[byte(in) % count]);
     if (how & OTHER_LENGTH) {
         unsigned which = byte(in);
         size_t length = (size_t)word(in, 2) % MOST_LENGTH;
-        r->slices[which % SLICES].length = which < 128 ? length : r->slices[which % SLICES].length + (which & 1);
+        r->slices[which % count].length = which < 128 ? length : r->slices[which % count].length + (which & 1);
     }
-    for (int i = 0; i < SLICES; i++) r->slices[i].at_start = (int)(how & AT_START) >> i & 1;
+    for (int i = 0; i < PARAMETERS; i++) r->slices[i].at_start = (int)(how & AT_START) >> i % 3 & 1;
+}
+
+/* What a call that was carried out left in its room. */
+static void keep_room(enum call call, const struct slice *room, unsigned how) {
+    if (call == call_write_frame) {
+        memcpy(frame, room->bytes, sizeof frame);
+        frame[7] ^= 1;
+    }
+    if (call == call_summarize || call == call_join) memcpy(summaries[how % SUMMARIES], room->bytes, RPR_SUMMARY_LENGTH);
 }
 
 /* What a call that was carried out left is what later calls are given. */
 static void keep(const struct request *r, unsigned how) {
-    const struct slice *s = r->slices;
-    int at = r->call == START ? 1 : 0;
-    if (r->call < CHOOSE && s[at].length == sizeof station && in_range(s[at].bytes)) memcpy(station, s[at].bytes, sizeof station);
-    if (r->call == WRITE) {
-        memcpy(frame, s[1].bytes, sizeof frame);
-        frame[7] ^= 1;
+    for (int i = 0; i < PARAMETERS; i++) {
+        const struct slice *s = &r->slices[i];
+        enum holds holds = signatures[r->call].parameters[i].holds;
+        if (holds == HOLDS_station && in_range(s->bytes)) memcpy(station, s->bytes, sizeof station);
+        if (holds == HOLDS_room) keep_room(r->call, s, how);
     }
-    if (r->call == SUMMARIZE) memcpy(summaries[how % SUMMARIES], s[1].bytes, RPR_SUMMARY_LENGTH);
-    if (r->call == JOIN) memcpy(summaries[how % SUMMARIES], s[2].bytes, RPR_SUMMARY_LENGTH);
 }
 
-static void step(struct input *in) {
-    static const int numbers[CALLS] = {0, 3, 3, 4, 1, 0, 0, 0, 0, 0, 7, 5, 0, 0, 1};
+/* One call. The refusal's number. */
+static unsigned step(struct input *in, enum call call, unsigned how) {
     static struct request r;
     memset(&r, 0, sizeof r);
-    r.call = (enum call)(byte(in) % CALLS);
-    unsigned how = byte(in);
-    for (int i = 0; i < NUMBERS; i++) r.numbers[i] = i < numbers[r.call] ? number(in) : 0;
-    if ((r.call == CHOOSE || r.call == PATH) && how & SECOND) r.numbers[3] = ~r.numbers[3] & ((UINT64_C(1) << r.numbers[0] % 64) - 1);
-    lay_out(in, &r, how);
+    r.call = call;
+    give(in, &r, how);
     spoil(in, &r, how);
-    if (rpr_refusal_of(make(&r)) == 0) keep(&r, how);
+    unsigned number = make(&r);
+    if (number == 0) keep(&r, how);
+    return number;
 }
 
 /* A station of small settings, and empty summaries. */
 static void begin(void) {
-    static struct request r;
     static const uint8_t nothing[1];
     struct input none = {nothing, 0};
-    memset(&r, 0, sizeof r);
+    memset(station, 0, sizeof station);
     memset(frame, 0, sizeof frame);
-    settings(&none, &r.slices[0]);
-    set(&r.slices[1], station, sizeof station);
-    if (make(&r) != 0) __builtin_trap();
-    memcpy(station, r.slices[1].bytes, sizeof station);
-    r.call = SUMMARIZE;
-    record(&none, &r.slices[0]);
-    set_room(&r.slices[1], RPR_SUMMARY_LENGTH, 0);
-    if (make(&r) != 0) __builtin_trap();
-    for (int i = 0; i < SUMMARIES; i++) memcpy(summaries[i], r.slices[1].bytes, RPR_SUMMARY_LENGTH);
+    if (step(&none, call_start, 0) != 0) __builtin_trap();
+    for (unsigned i = 0; i < SUMMARIES; i++)
+        if (step(&none, call_summarize, i) != 0) __builtin_trap();
 }
 
 int LLVMFuzzerTestOneInput(const uint8_t *data, size_t size) {
     struct input in = {data, size};
     begin();
-    for (int i = 0; i < STEPS && in.left > 0; i++) step(&in);
+    for (int i = 0; i < STEPS && in.left > 0; i++) {
+        enum call call = (enum call)(byte(&in) % CALLS);
+        step(&in, call, byte(&in));
+    }
     return 0;
 }

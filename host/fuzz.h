@@ -4,9 +4,38 @@
 
 #include "calls.h"
 
-enum call { START, TICK, CLIENT, TRANSIT, CONTROL, SELECT, AGE, READ, WRITE, SHOW, CHOOSE, PATH, SUMMARIZE, JOIN, SETTLE, CALLS };
+/* The calls by number, in the order of the list. */
+enum call {
+#define CALL(name, ...) call_##name,
+#include "calls.def"
+    CALLS
+};
 
-enum { MOST_LENGTH = 2048, SLICES = 3, NUMBERS = 7 };
+enum { MOST_LENGTH = 2048, PARAMETERS = 7 };
+
+/* What a parameter is, and of a slice what it holds, by its name in the list. */
+enum kind { NONE, GIVEN_NUMBER, LENT_TO_READ, LENT_TO_WRITE };
+enum holds {
+    NO_SLICE,
+    HOLDS_settings,
+    HOLDS_station,
+    HOLDS_frame,
+    HOLDS_record,
+    HOLDS_room,
+    HOLDS_summary,
+    HOLDS_first = HOLDS_summary,
+    HOLDS_second = HOLDS_summary
+};
+
+/* A call as the list describes it. Behind its last parameter all are NONE and NO_SLICE. */
+struct signature {
+    const char *name;
+    struct parameter {
+        enum kind kind;
+        enum holds holds;
+    } parameters[PARAMETERS];
+};
+extern const struct signature signatures[CALLS];
 
 /* A slice to be lent: its bytes before the call, and after it what the call left. */
 struct slice {
@@ -15,16 +44,16 @@ struct slice {
     int at_start; /* it lies at the start of its page, else at the end */
 };
 
-/* A call with all that it is given. */
+/* A call with all that it is given, a number or a slice at the place of each parameter. */
 struct request {
     enum call call;
-    struct slice slices[SLICES];
-    uint64_t numbers[NUMBERS];
+    struct slice slices[PARAMETERS];
+    uint64_t numbers[PARAMETERS];
 };
 
-/* Makes the call with the library and with plain C. Ends the program where a promise is broken. The answer; what the lent
- * slices hold afterwards stands in the request. */
-uint64_t make(struct request *r);
+/* Makes the call with the library and with plain C. Ends the program where a promise is broken. The refusal's number, 0 where
+ * it was carried out; what the lent slices hold afterwards stands in the request. */
+unsigned make(struct request *r);
 
 /* rpr_show takes these bytes for a station in range. */
 int in_range(const uint8_t *station);

@@ -14,47 +14,100 @@
 #define REFUSES(a, b, c, d) (1u << (a) | 1u << (b) | 1u << (c) | 1u << (d))
 #define BYTE(at, most) ((uint64_t)(most) << 8 * (at))
 
-/* Of each call: the refusals it can give, the bits its answer may have where it is carried out, how many slices it takes and
- * which of them is lent for writing, and which one is the station. -1: none. */
+/* Of each call: the refusals it can give, and the bits its answer may have where it is carried out. */
 static const struct {
-    const char *name;
     unsigned refusals;
     uint64_t bits;
-    int slices, written, station;
-} calls[CALLS] = {
-    [START] = {"start", REFUSES(2, 1, 2, 1), 0, 2, 1, -1},
-    [TICK] = {"tick", REFUSES(2, 1, 3, 3), 0, 1, 0, 0},
-    [CLIENT] = {"offer_client", REFUSES(2, 1, 3, 5) | REFUSES(6, 7, 6, 7), BYTE(4, 1), 1, 0, 0},
-    [TRANSIT] = {"offer_transit", REFUSES(2, 1, 3, 4), 0, 1, 0, 0},
-    [CONTROL] = {"offer_control", REFUSES(2, 1, 3, 4), 0, 1, 0, 0},
-    [SELECT] = {"select", REFUSES(2, 1, 2, 1), BYTE(1, 7) | BYTE(2, 3) | BYTE(3, 63) | BYTE(4, 1) | BYTE(6, 0x3fff), 1, 0, 0},
-    [AGE] = {"age", REFUSES(2, 1, 2, 1), 0, 1, 0, 0},
-    [READ] = {"read_frame", REFUSES(2, 1, 3, 11), 0, 2, 0, 0},
-    [WRITE] = {"write_frame", REFUSES(2, 1, 2, 1), 0, 2, 1, 0},
-    [SHOW] = {"show", REFUSES(2, 1, 2, 1), 0, 2, 1, 0},
-    [CHOOSE] = {"choose", REFUSES(1, 3, 8, 8), BYTE(1, 3) | BYTE(2, 63) | BYTE(3, 63) | BYTE(4, 1), 0, -1, -1},
-    [PATH] = {"path", REFUSES(1, 3, 1, 3), BYTE(1, 1) | BYTE(2, 127), 0, -1, -1},
-    [SUMMARIZE] = {"summarize", REFUSES(2, 1, 3, 9), 0, 2, 1, -1},
-    [JOIN] = {"join", REFUSES(2, 3, 10, 9), 0, 3, 2, -1},
-    [SETTLE] = {"settle", REFUSES(2, 3, 2, 3), BYTE(1, 1) | BYTE(4, 0x1fffff), 1, -1, -1},
+} promised[CALLS] = {
+    [call_start] = {REFUSES(2, 1, 2, 1), 0},
+    [call_tick] = {REFUSES(2, 1, 3, 3), 0},
+    [call_offer_client] = {REFUSES(2, 1, 3, 5) | REFUSES(6, 7, 6, 7), BYTE(4, 1)},
+    [call_offer_transit] = {REFUSES(2, 1, 3, 4), 0},
+    [call_offer_control] = {REFUSES(2, 1, 3, 4), 0},
+    [call_select] = {REFUSES(2, 1, 2, 1), BYTE(1, 7) | BYTE(2, 3) | BYTE(3, 63) | BYTE(4, 1) | BYTE(6, 0x3fff)},
+    [call_age] = {REFUSES(2, 1, 2, 1), 0},
+    [call_read_frame] = {REFUSES(2, 1, 3, 11), 0},
+    [call_write_frame] = {REFUSES(2, 1, 2, 1), 0},
+    [call_show] = {REFUSES(2, 1, 2, 1), 0},
+    [call_choose] = {REFUSES(1, 3, 8, 8), BYTE(1, 3) | BYTE(2, 63) | BYTE(3, 63) | BYTE(4, 1)},
+    [call_path] = {REFUSES(1, 3, 1, 3), BYTE(1, 1) | BYTE(2, 127)},
+    [call_summarize] = {REFUSES(2, 1, 3, 9), 0},
+    [call_join] = {REFUSES(2, 3, 10, 9), 0},
+    [call_settle] = {REFUSES(2, 3, 2, 3), BYTE(1, 1) | BYTE(4, 0x1fffff)},
+    [call_station_length] = {0, UINT64_MAX},
+    [call_version] = {0, UINT64_MAX},
 };
 
+/* ---- what the list says ---- */
+
+const struct signature signatures[CALLS] = {
+#define CALL(name, ...) {#name, {__VA_ARGS__}},
+#define READS(x) {LENT_TO_READ, HOLDS_##x}
+#define WRITES(x) {LENT_TO_WRITE, HOLDS_##x}
+#define NUMBER(x) {GIVEN_NUMBER, NO_SLICE}
+#define NOTHING {NONE, NO_SLICE}
+#include "calls.def"
+};
+
+static int lent(const struct request *r, int at) { return signatures[r->call].parameters[at].kind >= LENT_TO_READ; }
+static int written(const struct request *r, int at) { return signatures[r->call].parameters[at].kind == LENT_TO_WRITE; }
+
+/* What a call is given: by the places of its parameters, and by their names. */
+struct argument {
+    uint8_t *bytes;
+    size_t length;
+    uint64_t number;
+};
+union arguments {
+    struct argument at[PARAMETERS];
+#define CALL(name, ...) struct name##_arguments { struct argument __VA_ARGS__; } name;
+#define READS(x) x
+#define WRITES(x) x
+#define NUMBER(x) x
+#define NOTHING none
+#include "calls.def"
+};
+
+/* The call by one side, with slices that lie at these places. */
+static uint64_t ask(const struct calls *side, const struct request *r, uint8_t *const places[PARAMETERS]) {
+    union arguments all;
+    for (int i = 0; i < PARAMETERS; i++) all.at[i] = (struct argument){places[i], r->slices[i].length, r->numbers[i]};
+    switch (r->call) {
+#define CALL(name, ...)                               \
+    case call_##name: {                               \
+        const struct name##_arguments *a = &all.name; \
+        (void)a;                                      \
+        return side->name(__VA_ARGS__);               \
+    }
+#define READS(x) a->x.bytes, a->x.length
+#define WRITES(x) a->x.bytes, a->x.length
+#define NUMBER(x) a->x.number
+#define NOTHING
+#include "calls.def"
+        case CALLS: break;
+    }
+    abort();
+}
+
 _Noreturn static void fail(const struct request *r, uint64_t answer, const char *what) {
-    fprintf(stderr, "rpr_%s: %s; answer %#llx", calls[r->call].name, what, (unsigned long long)answer);
-    for (int i = 0; i < NUMBERS; i++) fprintf(stderr, " %llu", (unsigned long long)r->numbers[i]);
-    for (int i = 0; i < calls[r->call].slices; i++) fprintf(stderr, " [%zu bytes]", r->slices[i].length);
+    fprintf(stderr, "rpr_%s: %s; answer %#llx", signatures[r->call].name, what, (unsigned long long)answer);
+    for (int i = 0; i < PARAMETERS && signatures[r->call].parameters[i].kind != NONE; i++) {
+        if (lent(r, i)) fprintf(stderr, " [%zu bytes]", r->slices[i].length);
+        else fprintf(stderr, " %llu", (unsigned long long)r->numbers[i]);
+    }
     fputc('\n', stderr);
     abort();
 }
 
 /* How often each call was carried out, or refused with each number. */
-static unsigned long long tally[CALLS][12];
+enum { REFUSALS = RPR_OWN_ADDRESS + 1 };
+static unsigned long long tally[CALLS][REFUSALS];
 
 static void print_tally(void) {
     for (int c = 0; c < CALLS; c++) {
-        fprintf(stderr, "rpr_%-14s carried out %llu", calls[c].name, tally[c][0]);
-        for (unsigned n = 1; n < 12; n++)
-            if (calls[c].refusals >> n & 1) fprintf(stderr, ", refused %u: %llu", n, tally[c][n]);
+        fprintf(stderr, "rpr_%-14s carried out %llu", signatures[c].name, tally[c][0]);
+        for (unsigned n = 1; n < REFUSALS; n++)
+            if (promised[c].refusals >> n & 1) fprintf(stderr, ", refused %u: %llu", n, tally[c][n]);
         fputc('\n', stderr);
     }
 }
@@ -63,14 +116,14 @@ static void print_tally(void) {
 
 enum { GUARD = 64, GUARD_BYTE = 0xa5 };
 
-static uint8_t *pages[SLICES];
+static uint8_t *pages[PARAMETERS];
 static size_t page;
 
 /* A page for each slice, between two that may not be touched. */
 static void open_pages(void) {
     atexit(print_tally);
     page = (size_t)sysconf(_SC_PAGESIZE);
-    for (int i = 0; i < SLICES; i++) {
+    for (int i = 0; i < PARAMETERS; i++) {
         uint8_t *three = mmap(NULL, 3 * page, PROT_NONE, MAP_PRIVATE | MAP_ANONYMOUS, -1, 0);
         if (three == MAP_FAILED || mprotect(three + page, page, PROT_READ | PROT_WRITE) != 0) abort();
         pages[i] = three + page;
@@ -93,31 +146,7 @@ static int guarded(int i, const struct slice *s) {
     return 1;
 }
 
-/* ---- calls ---- */
-
-static uint64_t ask(const struct calls *side, const struct request *r, uint8_t *const p[SLICES]) {
-    const uint64_t *n = r->numbers;
-    size_t a = r->slices[0].length, b = r->slices[1].length, c = r->slices[2].length;
-    switch (r->call) {
-        case START: return side->start(p[0], a, p[1], b);
-        case TICK: return side->tick(p[0], a, n[0], n[1], n[2]);
-        case CLIENT: return side->offer_client(p[0], a, n[0], n[1], n[2]);
-        case TRANSIT: return side->offer_transit(p[0], a, n[0], n[1], n[2], n[3]);
-        case CONTROL: return side->offer_control(p[0], a, n[0]);
-        case SELECT: return side->select(p[0], a);
-        case AGE: return side->age(p[0], a);
-        case READ: return side->read_frame(p[0], a, p[1], b);
-        case WRITE: return side->write_frame(p[0], a, p[1], b);
-        case SHOW: return side->show(p[0], a, p[1], b);
-        case CHOOSE: return side->choose(n[0], n[1], n[2], n[3], n[4], n[5], n[6]);
-        case PATH: return side->path(n[0], n[1], n[2], n[3], n[4]);
-        case SUMMARIZE: return side->summarize(p[0], a, p[1], b);
-        case JOIN: return side->join(p[0], a, p[1], b, p[2], c);
-        case SETTLE: return side->settle(p[0], a, n[0]);
-        case CALLS: break;
-    }
-    abort();
-}
+/* ---- what must hold ---- */
 
 int in_range(const uint8_t *station) {
     uint8_t copy[RPR_STATION_LENGTH], ours[RPR_READING_LENGTH], theirs[RPR_READING_LENGTH];
@@ -129,72 +158,77 @@ int in_range(const uint8_t *station) {
     abort();
 }
 
-/* ---- what must hold ---- */
-
-/* The answer's form: a refusal that the call can give and nothing else, or only bits that its answer has. */
-static void check_answer(const struct request *r, uint64_t answer) {
-    unsigned number = rpr_refusal_of(answer);
+/* The number of the refusal. The answer's form: a refusal that the call can give and nothing else, or only bits that its answer
+ * has. A call that takes nothing refuses nothing. */
+static unsigned check_answer(const struct request *r, uint64_t answer) {
+    unsigned number = signatures[r->call].parameters[0].kind == NONE ? 0 : rpr_refusal_of(answer);
     if (number == 0) {
-        if ((answer & ~calls[r->call].bits) != 0) fail(r, answer, "a stray bit in the answer");
+        if ((answer & ~promised[r->call].bits) != 0) fail(r, answer, "a stray bit in the answer");
     } else if (answer != number) {
         fail(r, answer, "a refusal with other bytes");
-    } else if (number > 11 || (calls[r->call].refusals >> number & 1) == 0) {
+    } else if (number >= REFUSALS || (promised[r->call].refusals >> number & 1) == 0) {
         fail(r, answer, "a refusal that the call can't give");
     }
+    return number;
 }
 
 /* Lent bytes: what is only read, or lent to a refused call, is as it was; nothing beside a slice has changed. */
-static void check_slices(const struct request *r, uint64_t answer) {
-    for (int i = 0; i < calls[r->call].slices; i++) {
+static void check_slices(const struct request *r, uint64_t answer, unsigned number) {
+    for (int i = 0; i < PARAMETERS; i++) {
         const struct slice *s = &r->slices[i];
+        if (!lent(r, i)) continue;
         if (!guarded(i, s)) fail(r, answer, "bytes beside a slice changed");
-        if (i == calls[r->call].written && rpr_refusal_of(answer) == 0) continue;
+        if (written(r, i) && number == 0) continue;
         if (memcmp(place(i, s), s->bytes, s->length) == 0) continue;
-        fail(r, answer, i == calls[r->call].written ? "a refusal wrote" : "a slice that is only read changed");
+        fail(r, answer, written(r, i) ? "a refusal wrote" : "a slice that is only read changed");
     }
 }
 
-/* A station out of range is refused 1, if not 2; one in range is not, and stays so. */
-static void check_station(const struct request *r, uint64_t answer) {
-    int at = calls[r->call].station, started = r->call == START && answer == 0;
-    if (started && !in_range(place(1, &r->slices[1]))) fail(r, answer, "a fresh station out of range");
-    if (at < 0 || r->slices[at].length != RPR_STATION_LENGTH) return;
-    if (!in_range(r->slices[at].bytes)) {
+/* A station out of range is refused 1, if not 2; one in range is not, and stays so. Where it is made anew only what is left counts. */
+static void check_station(const struct request *r, uint64_t answer, int at) {
+    const struct slice *s = &r->slices[at];
+    if (r->call == call_start) {
+        if (answer == 0 && !in_range(place(at, s))) fail(r, answer, "a fresh station out of range");
+    } else if (s->length != RPR_STATION_LENGTH) {
+        return;
+    } else if (!in_range(s->bytes)) {
         if (answer != RPR_SETTING && answer != RPR_BYTES) fail(r, answer, "a station out of range was not refused");
     } else if (answer == RPR_SETTING) {
         fail(r, answer, "a station in range was refused");
-    } else if (!in_range(place(at, &r->slices[at]))) {
+    } else if (!in_range(place(at, s))) {
         fail(r, answer, "a station left its range");
     }
 }
 
 /* Plain C answers the same and leaves the same bytes. */
 static void check_plain(const struct request *r, uint64_t answer) {
-    static uint8_t theirs[SLICES][MOST_LENGTH];
-    uint8_t *const p[SLICES] = {theirs[0], theirs[1], theirs[2]};
-    for (int i = 0; i < calls[r->call].slices; i++) memcpy(theirs[i], r->slices[i].bytes, r->slices[i].length);
-    uint64_t other = ask(&plain, r, p);
+    static uint8_t theirs[PARAMETERS][MOST_LENGTH];
+    uint8_t *places[PARAMETERS];
+    for (int i = 0; i < PARAMETERS; i++) places[i] = memcpy(theirs[i], r->slices[i].bytes, r->slices[i].length);
+    uint64_t other = ask(&plain, r, places);
     if (other != answer) {
         fprintf(stderr, "plain C answers %#llx\n", (unsigned long long)other);
         fail(r, answer, "plain C answers otherwise");
     }
-    for (int i = 0; i < calls[r->call].slices; i++)
-        if (memcmp(theirs[i], place(i, &r->slices[i]), r->slices[i].length) != 0) fail(r, answer, "plain C leaves other bytes");
+    for (int i = 0; i < PARAMETERS; i++)
+        if (lent(r, i) && memcmp(theirs[i], place(i, &r->slices[i]), r->slices[i].length) != 0) fail(r, answer, "plain C leaves other bytes");
 }
 
-uint64_t make(struct request *r) {
+unsigned make(struct request *r) {
     if (page == 0) open_pages();
-    uint8_t *p[SLICES];
-    for (int i = 0; i < SLICES; i++) {
-        p[i] = place(i, &r->slices[i]);
+    uint8_t *places[PARAMETERS];
+    for (int i = 0; i < PARAMETERS; i++) {
+        places[i] = place(i, &r->slices[i]);
         lend(i, &r->slices[i]);
     }
-    uint64_t answer = ask(&library, r, p);
-    check_answer(r, answer);
-    check_slices(r, answer);
-    check_station(r, answer);
+    uint64_t answer = ask(&library, r, places);
+    unsigned number = check_answer(r, answer);
+    check_slices(r, answer, number);
+    for (int i = 0; i < PARAMETERS; i++)
+        if (signatures[r->call].parameters[i].holds == HOLDS_station) check_station(r, answer, i);
     check_plain(r, answer);
-    tally[r->call][answer & 0xff]++;
-    for (int i = 0; i < calls[r->call].slices; i++) memcpy(r->slices[i].bytes, p[i], r->slices[i].length);
-    return answer;
+    tally[r->call][number]++;
+    for (int i = 0; i < PARAMETERS; i++)
+        if (lent(r, i)) memcpy(r->slices[i].bytes, places[i], r->slices[i].length);
+    return number;
 }

@@ -1,6 +1,10 @@
 /* The calls of the station in plain C. */
 #include "plain.h"
+
+#include <stdlib.h>
+
 #include "plain_layout.h"
+#include "rpr.h"
 
 /* 2 for another length, 1 for a station outside its range. */
 static uint64_t refused(const uint8_t *station, size_t length) {
@@ -51,6 +55,12 @@ static void accrue(uint8_t *station, unsigned shaper, uint64_t amount, int waits
 }
 
 /* ---- calls ---- */
+
+uint64_t plain_version(void) {
+    char *dot;
+    uint64_t first = strtoul(RPR_VERSION, &dot, 10);
+    return 256 * first + strtoul(dot + 1, NULL, 10);
+}
 
 uint64_t plain_station_length(void) { return STATION_LENGTH; }
 

@@ -7,9 +7,9 @@
  *            not taken for 64.
  * Slices.    A slice is a pointer and then a length in bytes, at any alignment. A pointer is never null, even where
  *            the length is 0. A slice lent for writing (not const) overlaps no other slice of the call.
- * Answers.   Every call but rpr_station_length answers one uint64_t, read as eight bytes, byte 0 the lowest. Byte 0 is
- *            0 where the call was carried out, else the number of a refusal, and then every other byte is 0 and every
- *            lent byte is as it was. The functions at the end of this header take an answer apart.
+ * Answers.   Every call but rpr_version and rpr_station_length answers one uint64_t, read as eight bytes, byte 0 the
+ *            lowest. Byte 0 is 0 where the call was carried out, else the number of a refusal, and then every other byte
+ *            is 0 and every lent byte is as it was. The functions at the end of this header take an answer apart.
  * Memory.    The library keeps, allocates and prints nothing. A station is RPR_STATION_LENGTH bytes of the host's. It
  *            holds no address: between calls it may be copied, moved and stored. Its layout is the library's own.
  * Threads.   There is no global state: calls may run at the same time, as long as no byte that one of them may write
@@ -26,7 +26,7 @@
 #include <stdint.h>
 
 /* The version of this interface. The first number grows where a host has to change what it calls or lends. */
-#define RPR_VERSION "1.0"
+#define RPR_VERSION "1.1"
 
 #ifdef __cplusplus
 extern "C" {
@@ -43,6 +43,12 @@ extern "C" {
 #define RPR_ANSWERS
 #define RPR_LENT
 #endif
+
+/* ---- version ---- */
+
+/* The version of the library that is linked: 256 times the first number of RPR_VERSION, and the second. Nothing is
+ * refused. */
+RPR_ANSWERS uint64_t rpr_version(void);
 
 /* ---- refusals ---- */
 

@@ -28,7 +28,7 @@ use Rattle.record.specs.Step.{headerOf, stepWithin}
 use Rattle.record.proofs.Fields.{event-good, valid-good}
 use Rattle.record.proofs.Steps.{header-stands, header-faulty, read-end, GoodAt, read-good, failed-within}
 use Rattle.record.proofs.Written.{events-written}
-use Rattle.account.specs.Account.{summarized, summarizeOf}
+use Rattle.account.specs.Account.{summarized, summarizeOf, eventsOf}
 use Rattle.account.specs.Rest.{rested, restOf}
 
 -- what is read of some bytes is valid
@@ -49,13 +49,15 @@ start-by : (l : Limits) → Holds (limitsOk l) → (r : Events) → ValidEvents 
 start-by l ok (faulty n) v = refl
 start-by l ok (events es) v = ap Answer.Summed (summary-signed l ok es ∙ ap signedFrom (sym (start-rest l ok es v)))
 
--- a header that stands: what is left is all behind it
-pub rest-start : (xs : List ℕ) (l : Limits) → Bytes xs → headerOf xs ≡ Settings l → summarizeOf xs ≡ restOf 9 l mostEvents 0 (startOf (l .lo)) (drop 14 xs)
-unfolding summarizeOf restOf
-rest-start xs l b e =
-    let h = header-stands xs l e in
-    ap summarized (h .goes-on)
-    ∙ start-by l (h .in-range) (readFrom 9 (l .mtu) mostEvents 0 (drop 14 xs)) (valid-read 9 l mostEvents (drop 14 xs) (bytes-drop 14 xs b))
+-- before the first event all are left
+pub rest-events : (l : Limits) (ys : List ℕ) → Holds (limitsOk l) → Bytes ys → eventsOf l ys ≡ restOf 9 l mostEvents 0 (startOf (l .lo)) ys
+unfolding eventsOf restOf
+rest-events l ys ok b = start-by l ok (readFrom 9 (l .mtu) mostEvents 0 ys) (valid-read 9 l mostEvents ys b)
+
+-- a header that stands: the record comes to what all behind it comes to
+pub rest-start : (xs : List ℕ) (l : Limits) → headerOf xs ≡ Settings l → summarizeOf xs ≡ eventsOf l (drop 14 xs)
+unfolding summarizeOf eventsOf
+rest-start xs l e = ap summarized (header-stands xs l e .goes-on)
 
 -- one that does not
 pub rest-unreadable : (xs : List ℕ) (n : ℕ) → headerOf xs ≡ Unreadable n → summarizeOf xs ≡ Answer.Refused n

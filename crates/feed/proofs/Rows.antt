@@ -1,8 +1,9 @@
 -- What a byte does and what the end says, row by row: each by the stage, and by a test on what is held or counted.
 -- Assumes nothing.
 use Prim.Native.Nat.{ℕ, _+_, _-_, _≤_, _<_}
-use mathlib.Core.List.{List}
-use mathlib.Core.Path.{_≡_, refl}
+use mathlib.Core.Bool.{true, false}
+use mathlib.Core.List.{List, [], _∷_}
+use mathlib.Core.Path.{_≡_, refl, ap, _∙_}
 use native.Mathlib.Omega.{arith}
 use borrow.Author.Tests.{le-leb, lt-leb, le-ltb, lt-ltb, eq-eqb, ne-eqb}
 use native.Mathlib.Numerals.{add-one}
@@ -22,7 +23,7 @@ use Rattle.record.specs.Step.{headerOf, stepWithin}
 use Rattle.feed.specs.declared.Stage.{Stage}
 use Rattle.feed.specs.declared.Stage.the-variants.{Heading, Summing, Stopped}
 use Rattle.feed.specs.declared.Feed.{Feed}
-use Rattle.feed.specs.Feed.{stageOf, oneMore, countedOf, nextStage, heldByte, stoppedAt, fedByte, fedOf, finishOf}
+use Rattle.feed.specs.Feed.{stageOf, oneMore, countedOf, nextStage, heldByte, stoppedAt, fedByte, fedOf, endsOf, finishOf}
 
 -- ---- one event more
 
@@ -108,6 +109,18 @@ module _ (f : Feed) (b : ℕ) where
 -- ---- the end
 
 module _ (f : Feed) where
+  pub ends-heading : f .stage ≡ Heading → endsOf f ≡ false
+  unfolding endsOf
+  ends-heading p = rw p
+
+  pub ends-summing : (s : Summary) → f .stage ≡ Summing s → endsOf f ≡ false
+  unfolding endsOf
+  ends-summing s p = rw p
+
+  pub ends-stopped : (n : ℕ) → f .stage ≡ Stopped n → endsOf f ≡ true
+  unfolding endsOf
+  ends-stopped n p = rw p
+
   pub finish-heading : f .stage ≡ Heading → finishOf f ≡ Answer.Refused 2
   unfolding finishOf
   finish-heading p = rw p
@@ -134,3 +147,9 @@ module _ (f : Feed) (xs : List ℕ) (i : ℕ) where
   pub fed-end : length xs ≤ i → fedOf f (drop i xs) ≡ f
   unfolding fedOf
   fed-end h = rw (drop-of-length-le xs h)
+
+-- none after a fault changes anything
+pub fed-stopped : (f : Feed) (n : ℕ) → f .stage ≡ Stopped n → (xs : List ℕ) → fedOf f xs ≡ f
+unfolding fedOf
+fed-stopped f n p [] = refl
+fed-stopped f n p (x ∷ xs) = ap (λ g. fedOf g xs) (byte-stopped f x n p) ∙ fed-stopped f n p xs

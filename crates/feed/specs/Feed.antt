@@ -1,8 +1,9 @@
 -- A record fed byte by byte: what is kept of the bytes so far, and what they come to.
 -- Assumes nothing.
-use Prim.Native.Nat.{ℕ, zero, suc, _+_, _-_}
-use mathlib.Core.Bool.{cond}
+use Prim.Native.Nat.{ℕ, zero, suc, _+_, _*_, _-_, _≤_, _<_}
+use mathlib.Core.Bool.{Bool, true, false, cond}
 use mathlib.Core.List.{List, [], _∷_}
+use mathlib.Core.Path.{_≡_}
 use lib.Dec.{eqb, leb, ltb}
 use lib.ListN.{set, take}
 use Rattle.shaper.specs.declared.Event.{Event}
@@ -10,6 +11,7 @@ use Rattle.shaper.specs.Limits.{mostEvents}
 use Rattle.shaper.specs.Kind.{eventOf}
 use Rattle.summary.specs.declared.Summary.{Summary}
 use Rattle.summary.specs.declared.Answer.{Answer}
+use Rattle.summary.specs.Range.{inRange}
 use Rattle.summary.specs.Answer.{emptyAnswer, singleAnswer, joinOf, andThen}
 use Rattle.record.specs.declared.Header.{Header}
 use Rattle.record.specs.declared.Header.the-variants.{Settings, Unreadable}
@@ -92,6 +94,25 @@ fedOf f (b ∷ bs) = fedOf (fedByte f b) bs
 unfoldable pub fedChunks : Feed → List (List ℕ) → Feed
 fedChunks f [] = f
 fedChunks f (xs ∷ chunks) = fedChunks (fedOf f xs) chunks
+
+-- So many events of a chunk of n bytes may be summed at once: it begins with an event, the summary so far is in range, and behind them one event more stands
+-- whole and may come.
+pub record AtOnce (s : Summary) (held n count : ℕ) : Type 0 where
+  pub begins : held ≡ 0
+  pub sound : inRange s ≡ true
+  pub few : s .events + count < mostEvents
+  pub fits : 6 * count + 6 ≤ n
+
+-- ---- the end
+
+-- a fault was seen
+abbrev pub endsAt : Stage → Bool
+endsAt Heading = false
+endsAt (Summing s) = false
+endsAt (Stopped n) = true
+
+unfoldable pub endsOf : Feed → Bool
+endsOf f = endsAt (f .stage)
 
 -- 2: bytes are not a whole record: the header or an event is cut short.
 abbrev pub finishAt : Stage → ℕ → Answer

@@ -1,9 +1,10 @@
 // A shaper record fed in chunks of any sizes, in constant memory.
 ghost use mathlib.Core.Path.{_≡_};
 ghost use lib.ListN.{set};
+ghost use Prim.Native.Nat.{_<_, _≤_};
 ghost use Rattle.summary.specs.Answer.{singleAnswer, andThen};
 ghost use Rattle.shaper.specs.Kind.{eventOf};
-ghost use Rattle.feed.specs.Feed.{startOf, stageOf, oneMore, countedOf, nextStage, heldByte, stoppedAt, fedByte, fedOf, finishOf};
+ghost use Rattle.feed.specs.Feed.{startOf, stageOf, oneMore, countedOf, nextStage, heldByte, stoppedAt, fedByte, fedOf, AtOnce, endsOf, finishOf};
 use record::Header;
 use record::Step;
 use shaper::Limits;
@@ -59,17 +60,25 @@ impl Feed {
         }
     }
 
-    // The record with all bytes of a chunk more.
+    // The record with all bytes of a chunk more: one by one to where an event begins, and from there whole events at once.
     pub fn feed(self, chunk: &[u8]) -> Feed
         ensures { λ r. ⌜ r ≡ fedOf self (now (chunk .entry)) ⌝ }
     {
-        let mut next = self;
-        let mut i = 0;
-        while i < chunk.len() {
-            next = next.byte(chunk[i]);
-            i += 1;
+        let lead = decide::lesser(self.missing(), chunk.len() as u64) as usize;
+        let next = self.bytes(&chunk[..lead]);
+        next.events(&chunk[lead..])
+    }
+
+    // Whether a fault was seen: no byte more changes what the record comes to.
+    pub fn ends(self) -> bool
+        ensures { λ r. ⌜ r ≡ endsOf self ⌝ }
+    {
+        let stage = self.stage;
+        match stage {
+            Stage::Heading => false,
+            Stage::Summing(_) => false,
+            Stage::Stopped(_) => true,
         }
-        next
     }
 
     // What the bytes so far come to as a whole record: its summary, or the number of its earliest fault.
@@ -86,6 +95,62 @@ impl Feed {
                 Answer::Summed(sum)
             }
             Stage::Stopped(n) => Answer::Refused(n),
+        }
+    }
+
+    // How many bytes more make what is held whole: none where an event begins, and none past a fault.
+    fn missing(self) -> u64
+        ensures { λ r. ⌜ r ≤ 14 ⌝ }
+    {
+        let held = self.held as u64;
+        let stage = self.stage;
+        match stage {
+            Stage::Heading => decide::less(14, held),
+            Stage::Summing(_) => decide::less(6, held) % 6,
+            Stage::Stopped(_) => 0,
+        }
+    }
+
+    // The record with the bytes of a chunk more, one by one.
+    fn bytes(self, chunk: &[u8]) -> Feed
+        ensures { λ r. ⌜ r ≡ fedOf self (now (chunk .entry)) ⌝ }
+    {
+        let mut next = self;
+        let mut i = 0;
+        while i < chunk.len() {
+            next = next.byte(chunk[i]);
+            i += 1;
+        }
+        next
+    }
+
+    // The same, the events that stand whole before another summed at once. Where one of them has a fault, it is found byte by byte.
+    fn events(self, chunk: &[u8]) -> Feed
+        ensures { λ r. ⌜ r ≡ fedOf self (now (chunk .entry)) ⌝ }
+    {
+        let stage = self.stage;
+        match stage {
+            Stage::Heading => self.bytes(chunk),
+            Stage::Summing(sum) => {
+                let count = at_once(sum, self.held, chunk.len());
+                if count == 0 {
+                    return self.bytes(chunk);
+                }
+                let end = 6 * count as usize;
+                match sum.join_next(account::events(&chunk[..end], sum.limits)) {
+                    Answer::Summed(all) => {
+                        let pending = self.pending;
+                        let next = Feed {
+                            stage: Stage::Summing(all),
+                            pending: pending,
+                            held: 0,
+                        };
+                        next.bytes(&chunk[end..])
+                    }
+                    Answer::Refused(_) => self.bytes(chunk),
+                }
+            }
+            Stage::Stopped(_) => self,
         }
     }
 
@@ -123,6 +188,21 @@ impl Feed {
             held: self.held,
         }
     }
+}
+
+// How many events of a chunk of so many bytes are summed at once: all that stand whole and may come, but the last, whose bytes take the place of those held.
+// None where the chunk begins within an event, or the summary is out of range.
+fn at_once(sum: Summary, held: u8, length: usize) -> u64
+    ensures { λ r. ⌜ (0 < r → AtOnce sum held length r) ⌝ }
+{
+    if 0 < held {
+        return 0;
+    }
+    if !sum.in_range() {
+        return 0;
+    }
+    let may = record::may_come(sum.events as u64);
+    decide::less(decide::lesser(length as u64 / 6, may), 1)
 }
 
 // The bytes with one at a place, where there is such a place.
@@ -202,11 +282,7 @@ fn onto(all: Answer, kind: u16, number: u16) -> Answer
 fn one_more(sum: Summary, kind: u16, number: u16) -> Answer
     ensures { λ r. ⌜ r ≡ oneMore sum (eventOf kind number) ⌝ }
 {
-    let one = single(sum.limits, kind, number);
-    match one {
-        Answer::Summed(next) => sum.join(next),
-        Answer::Refused(n) => Answer::Refused(n),
-    }
+    sum.join_next(single(sum.limits, kind, number))
 }
 
 // The summary of one event, by its kind and number.

@@ -1,8 +1,8 @@
 -- Digits are below 16, so that two of them are a byte.
 -- Assumes nothing.
-use Prim.Native.Nat.{ℕ, zero, suc, _+_, _*_, _%_, _<_}
+use Prim.Native.Nat.{ℕ, zero, suc, _+_, _*_, _%_, _≤_, _<_}
 use mathlib.Core.List.{List, [], _∷_}
-use mathlib.Core.Path.{_≡_, ap}
+use mathlib.Core.Path.{_≡_, refl, ap}
 use native.Mathlib.Omega.{arith}
 use lib.Dec.{eqb}
 use lib.ListN.{length}
@@ -12,6 +12,7 @@ use Rattle.hex.specs.declared.Glyph.{Glyph}
 use Rattle.hex.specs.declared.Glyph.the-variants.{Digit, Blank, Other}
 use Rattle.hex.specs.Hex.{isWithin, isBlank, glyphOf, onto, digitsOf, pairs, even}
 use Rattle.hex.specs.Fed.{byteOf}
+use Rattle.hex.specs.Decoded.{codeOf}
 use Rattle.hex.proofs.Rows.{within-bounds}
 
 -- a digit's value
@@ -30,6 +31,23 @@ small c =
 
 pub digit-small : (c d : ℕ) → glyphOf c ≡ Digit d → d < 16
 digit-small c d g = rw g at (small c)
+
+-- a character by its code
+code-at : (g : Glyph) → Small g →
+    (codeOf g < 16 → g ≡ Digit (codeOf g)) × ((codeOf g < 17 → 16 ≤ codeOf g → g ≡ Blank) × (17 ≤ codeOf g → g ≡ Other))
+code-at (Digit d) s = (λ h. refl, (λ h k. absurd (omega arith), λ h. absurd (omega arith)))
+code-at Blank s = (λ h. absurd (omega arith), (λ h k. refl, λ h. absurd (omega arith)))
+code-at Other s = (λ h. absurd (omega arith), (λ h k. absurd (omega arith), λ h. refl))
+
+module _ (c d : ℕ) (e : d ≡ codeOf (glyphOf c)) where
+  pub code-digit : d < 16 → glyphOf c ≡ Digit d
+  code-digit h = rw e (code-at (glyphOf c) (small c) .0 (rw e at h))
+
+  pub code-blank : d < 17 → 16 ≤ d → glyphOf c ≡ Blank
+  code-blank h k = code-at (glyphOf c) (small c) .1 .0 (rw e at h) (rw e at k)
+
+  pub code-other : 17 ≤ d → glyphOf c ≡ Other
+  code-other h = code-at (glyphOf c) (small c) .1 .1 (rw e at h)
 
 -- two digits
 pub byte-pair : (h l : ℕ) → h < 16 → l < 16 → byteOf h l ≡ 16 * h + l

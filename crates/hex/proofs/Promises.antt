@@ -1,19 +1,20 @@
 -- What reading hex text promises: a text in chunks of any sizes comes to what the whole text comes to.
 -- Assumes nothing.
 use Prim.Native.Nat.{ℕ, _<_}
-use mathlib.Core.Bool.{cond}
+use mathlib.Core.Bool.{Bool, true, false, cond}
 use mathlib.Core.List.{List, [], _∷_, _++_, flatten}
 use mathlib.Core.Logic.{inl, inr, ⊎-elim}
 use mathlib.Core.Path.{_≡_, refl, sym, ap, _∙_}
 use Rattle.decide.proofs.Cases.{by-cases, true-or-false}
 use Rattle.summary.specs.declared.Answer.{Answer}
 use Rattle.account.proofs.Promises.{summarize-refused-exactly}
+use Rattle.feed.specs.Feed as Feeding
 use Rattle.feed.proofs.Promises.{fed-once}
 use Rattle.hex.specs.declared.Hex.{Hex}
 use Rattle.hex.specs.Hex.{digitsOf, pairs, isHex, textOf, TextCause}
-use Rattle.hex.specs.Fed.{startOf, readChar, readText, readChunks, finishOf}
+use Rattle.hex.specs.Fed.{startOf, readChar, readText, readChunks, isWhole, finishOf}
 use Rattle.hex.proofs.Digits.{text-bytes}
-use Rattle.hex.proofs.Rest.{goes}
+use Rattle.hex.proofs.Rest.{answerOf, goes}
 
 -- two chunks one after the other are their characters one after the other
 pub text-chunks : (x : Hex) (cs ds : List ℕ) → readText x (cs ++ ds) ≡ readText (readText x cs) ds
@@ -28,14 +29,29 @@ text-chunks-all x [] = refl
 text-chunks-all x (cs ∷ chunks) = text-chunks-all (readText x cs) chunks ∙ rw (text-chunks x cs (flatten chunks))
 
 text-read : (cs : List ℕ) → finishOf (readText startOf cs) ≡ textOf cs
-unfolding textOf
+unfolding answerOf finishOf textOf
 text-read cs =
-    goes cs startOf tt
+    goes Feeding.finishOf (Answer.Refused 2) cs startOf tt
     ∙ ap (λ a. cond (isHex cs) a (Answer.Refused 2)) (fed-once (pairs (digitsOf cs)) (text-bytes cs))
 
 -- A text in chunks of any sizes gives what the whole text gives.
 pub text-whole : (chunks : List (List ℕ)) → finishOf (readChunks startOf chunks) ≡ textOf (flatten chunks)
 text-whole chunks = ap finishOf (text-chunks-all startOf chunks) ∙ text-read (flatten chunks)
+
+-- ---- before the end
+
+itself : (b : Bool) → cond b true false ≡ b
+itself true = refl
+itself false = refl
+
+-- Whether a text may end so far is whether its characters so far are hex.
+pub text-so-far : (chunks : List (List ℕ)) → isWhole (readChunks startOf chunks .place) ≡ isHex (flatten chunks)
+unfolding answerOf
+text-so-far chunks =
+    ap (λ x. isWhole (x .place)) (text-chunks-all startOf chunks)
+    ∙ sym (itself (isWhole (readText startOf (flatten chunks) .place)))
+    ∙ goes (λ f. true) false (flatten chunks) startOf tt
+    ∙ itself (isHex (flatten chunks))
 
 -- ---- refusals
 

@@ -1,31 +1,21 @@
--- What is left of a text, from any place in it: its digits go on where the place stands, and other text or an odd digit in it is 2.
+-- What is left of a text, from any place in it: its digits go on where the place stands, and other text or an odd digit in it is no hex.
+-- It is said of whatever is told of the bytes of a text that may end, and otherwise.
 -- Assumes nothing.
 use Prim.Native.Nat.{ℕ, _+_, _*_, _<_}
 use mathlib.Core.Bool.{Bool, false, cond, _&&_}
 use mathlib.Core.List.{List, [], _∷_}
 use mathlib.Core.Path.{_≡_, refl, _∙_}
-use Rattle.summary.specs.declared.Answer.{Answer}
 use Rattle.feed.specs.declared.Feed.{Feed}
 use Rattle.feed.specs.Feed.{fedByte, fedOf}
-use Rattle.feed.specs.Feed as Feeding
 use Rattle.hex.specs.declared.Glyph.{Glyph}
 use Rattle.hex.specs.declared.Glyph.the-variants.{Digit, Blank, Other}
 use Rattle.hex.specs.declared.Place.{Place}
 use Rattle.hex.specs.declared.Place.the-variants.{Between, Behind, Lost}
 use Rattle.hex.specs.declared.Hex.{Hex}
 use Rattle.hex.specs.Hex.{glyphOf, allHex, digitsOf, pairs, even}
-use Rattle.hex.specs.Fed.{readDigit, readText, finishOf}
-use Rattle.hex.proofs.Rows.{digit-between, digit-behind, digit-lost, char-digit, char-blank, char-other, finish-whole, finish-cut}
+use Rattle.hex.specs.Fed.{readDigit, readText, isWhole}
+use Rattle.hex.proofs.Rows.{digit-between, digit-behind, digit-lost, char-digit, char-blank, char-other}
 use Rattle.hex.proofs.Digits.{digit-small, byte-pair, even-more}
-
--- the answer from between two bytes of a text whose bytes so far are in f, if it is clean and its digits are ds
-abbrev pub answer : Feed → Bool → List ℕ → Answer
-answer f clean ds = cond (clean && even ds) (Feeding.finishOf (fedOf f (pairs ds))) (Answer.Refused 2)
-
-abbrev pub answerAt : Place → Feed → Bool → List ℕ → Answer
-answerAt Between f clean ds = answer f clean ds
-answerAt (Behind h) f clean ds = answer f clean (h ∷ ds)
-answerAt Lost f clean ds = Answer.Refused 2
 
 -- a digit that is kept is below 16
 abbrev pub Kept : Place → Type 0
@@ -33,46 +23,59 @@ Kept Between = Unit {0}
 Kept (Behind h) = h < 16
 Kept Lost = Unit {0}
 
-abbrev Goes : List ℕ → Hex → Type 0
-Goes cs x = finishOf (readText x cs) ≡ answerAt (x .place) (x .feed) (allHex cs) (digitsOf cs)
+module _ {A : Type 0} (told : Feed → A) (otherwise : A) where
+  unfoldable pub answerOf : Hex → A
+  answerOf x = cond (isWhole (x .place)) (told (x .feed)) otherwise
 
--- other text
-refused : (p : Place) (f : Feed) (ds : List ℕ) → Answer.Refused 2 ≡ answerAt p f false ds
-refused Between f ds = refl
-refused (Behind h) f ds = refl
-refused Lost f ds = refl
+  -- the answer from between two bytes of a text whose bytes so far are in f, if it is clean and its digits are ds
+  abbrev pub answer : Feed → Bool → List ℕ → A
+  answer f clean ds = cond (clean && even ds) (told (fedOf f (pairs ds))) otherwise
 
-module _ (c : ℕ) (cs : List ℕ) (x : Hex) (k : Kept (x .place)) (go : (y : Hex) → Kept (y .place) → Goes cs y) where
-  -- a digit more
-  from-digit : (d : ℕ) → glyphOf c ≡ Digit d → finishOf (readText (readDigit x d) cs) ≡ answerAt (x .place) (x .feed) (allHex cs) (d ∷ digitsOf cs)
-  unfolding fedOf
-  from-digit d g = by (x .place) refl k
+  abbrev pub answerAt : Place → Feed → Bool → List ℕ → A
+  answerAt Between f clean ds = answer f clean ds
+  answerAt (Behind h) f clean ds = answer f clean (h ∷ ds)
+  answerAt Lost f clean ds = otherwise
+
+  abbrev Goes : List ℕ → Hex → Type 0
+  Goes cs x = answerOf (readText x cs) ≡ answerAt (x .place) (x .feed) (allHex cs) (digitsOf cs)
+
+  -- other text
+  refused : (p : Place) (f : Feed) (ds : List ℕ) → otherwise ≡ answerAt p f false ds
+  refused Between f ds = refl
+  refused (Behind h) f ds = refl
+  refused Lost f ds = refl
+
+  module _ (c : ℕ) (cs : List ℕ) (x : Hex) (k : Kept (x .place)) (go : (y : Hex) → Kept (y .place) → Goes cs y) where
+    -- a digit more
+    from-digit : (d : ℕ) → glyphOf c ≡ Digit d → answerOf (readText (readDigit x d) cs) ≡ answerAt (x .place) (x .feed) (allHex cs) (d ∷ digitsOf cs)
+    unfolding fedOf
+    from-digit d g = by (x .place) refl k
+      where
+        by : (p : Place) → x .place ≡ p → Kept p → answerOf (readText (readDigit x d) cs) ≡ answerAt p (x .feed) (allHex cs) (d ∷ digitsOf cs)
+        by Between e s = rw (digit-between x d e) (go _ (digit-small c d g))
+        by (Behind h) e s =
+            rw (digit-behind x d h e, byte-pair h d s (digit-small c d g), even-more h d (digitsOf cs))
+            (go (record { feed = fedByte (x .feed) (16 * h + d); place = Between }) tt)
+        by Lost e s = rw (digit-lost x d e) (go x k ∙ rw e)
+
+    from-char : Goes (c ∷ cs) x
+    unfolding readText
+    from-char = by (glyphOf c) refl
+      where
+        by : (g : Glyph) → glyphOf c ≡ g → Goes (c ∷ cs) x
+        by (Digit d) g = rw (char-digit x c d g, g) (from-digit d g)
+        by Blank g = rw (char-blank x c g, g) (go x k)
+        by Other g = rw (char-other x c g, g) (go _ tt ∙ refused (x .place) (x .feed) (digitsOf cs))
+
+  from-end : (x : Hex) → Goes [] x
+  unfolding answerOf readText fedOf
+  from-end x = by (x .place) refl
     where
-      by : (p : Place) → x .place ≡ p → Kept p → finishOf (readText (readDigit x d) cs) ≡ answerAt p (x .feed) (allHex cs) (d ∷ digitsOf cs)
-      by Between e s = rw (digit-between x d e) (go _ (digit-small c d g))
-      by (Behind h) e s =
-          rw (digit-behind x d h e, byte-pair h d s (digit-small c d g), even-more h d (digitsOf cs))
-          (go (record { feed = fedByte (x .feed) (16 * h + d); place = Between }) tt)
-      by Lost e s = rw (digit-lost x d e) (go x k ∙ rw e)
+      by : (p : Place) → x .place ≡ p → answerOf x ≡ answerAt p (x .feed) (allHex []) []
+      by Between e = rw e
+      by (Behind h) e = rw e
+      by Lost e = rw e
 
-  from-char : Goes (c ∷ cs) x
-  unfolding readText
-  from-char = by (glyphOf c) refl
-    where
-      by : (g : Glyph) → glyphOf c ≡ g → Goes (c ∷ cs) x
-      by (Digit d) g = rw (char-digit x c d g, g) (from-digit d g)
-      by Blank g = rw (char-blank x c g, g) (go x k)
-      by Other g = rw (char-other x c g, g) (go _ tt ∙ refused (x .place) (x .feed) (digitsOf cs))
-
-ends : (x : Hex) → Goes [] x
-unfolding readText fedOf
-ends x = by (x .place) refl
-  where
-    by : (p : Place) → x .place ≡ p → finishOf x ≡ answerAt p (x .feed) (allHex []) []
-    by Between e = finish-whole x (rw e)
-    by (Behind h) e = finish-cut x (rw e)
-    by Lost e = finish-cut x (rw e)
-
-pub goes : (cs : List ℕ) (x : Hex) → Kept (x .place) → Goes cs x
-goes [] x k = ends x
-goes (c ∷ cs) x k = from-char c cs x k (goes cs)
+  pub goes : (cs : List ℕ) (x : Hex) → Kept (x .place) → Goes cs x
+  goes [] x k = from-end x
+  goes (c ∷ cs) x k = from-char c cs x k (goes cs)

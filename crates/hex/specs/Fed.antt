@@ -1,9 +1,12 @@
 -- A text fed character by character: what is kept of the characters so far, and what they come to.
 -- Assumes nothing.
 use Prim.Native.Nat.{ℕ, _+_, _*_, _%_}
-use mathlib.Core.Bool.{Bool, true, false, cond}
+use mathlib.Core.Bool.{Bool, true, false, cond, _||_}
 use mathlib.Core.List.{List, [], _∷_}
+use lib.Dec.{eqb}
 use Rattle.summary.specs.declared.Answer.{Answer}
+use Rattle.feed.specs.declared.Stage.{Stage}
+use Rattle.feed.specs.declared.Stage.the-variants.{Heading, Summing, Stopped}
 use Rattle.feed.specs.Feed as Feeding
 use Rattle.hex.specs.declared.Glyph.{Glyph}
 use Rattle.hex.specs.declared.Glyph.the-variants.{Digit, Blank, Other}
@@ -56,3 +59,19 @@ isWhole Lost = false
 
 unfoldable pub finishOf : Hex → Answer
 finishOf x = cond (isWhole (x .place)) (Feeding.finishOf (x .feed)) (Answer.Refused 2)
+
+-- ---- what follows can change nothing
+
+abbrev pub isLost : Place → Bool
+isLost Between = false
+isLost (Behind h) = false
+isLost Lost = true
+
+abbrev pub isStoppedAtTwo : Stage → Bool
+isStoppedAtTwo Heading = false
+isStoppedAtTwo (Summing s) = false
+isStoppedAtTwo (Stopped n) = eqb n 2
+
+-- past other text, or past a fault 2 of the record: other text is 2 as well
+abbrev pub endsOf : Hex → Bool
+endsOf x = isLost (x .place) || isStoppedAtTwo (x .feed .stage)

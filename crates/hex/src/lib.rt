@@ -1,8 +1,12 @@
 // A record given as hex text, in chunks of any sizes: the bytes that its digits pair up to are fed.
 ghost use mathlib.Core.Path.{_≡_};
+ghost use Prim.Native.Nat.{_<_};
+ghost use lib.ListN.{length};
 ghost use Rattle.hex.specs.Hex.{isWithin, isBlank, glyphOf};
-ghost use Rattle.hex.specs.Fed.{byteOf, startOf, placedAt, readDigit, readChar, readText, isWhole, finishOf};
+ghost use Rattle.hex.specs.Fed.{byteOf, startOf, readText, isWhole, finishOf, isLost, isStoppedAtTwo, endsOf};
+ghost use Rattle.hex.specs.Decoded.{codeOf, Table, decodedTo, Steps, Decodes};
 use feed::Feed;
+use feed::Stage;
 use summary::Answer;
 
 // What a character is: a hex digit with its value, a blank or line end, or other text.
@@ -37,29 +41,28 @@ impl Hex {
         }
     }
 
-    // The text with all characters of a chunk more.
+    // The text with all characters of a chunk more: what fits the room is decoded, then fed, until the chunk is read.
     pub fn text(self, chunk: &[u8]) -> Hex
         ensures { λ r. ⌜ r ≡ readText self (now (chunk .entry)) ⌝ }
     {
+        let codes = codes();
+        let mut room = [0u8; 4096];
         let mut next = self;
         let mut i = 0;
         while i < chunk.len() {
-            next = next.character(chunk[i]);
-            i += 1;
+            let feed = next.feed;
+            let place = next.place;
+            let part = decode(&codes, chunk, i, place, &mut room);
+            let n = part.count;
+            let fed = feed.feed(&room[..n]);
+            let place = part.place;
+            next = Hex {
+                feed: fed,
+                place: place,
+            };
+            i = part.next;
         }
         next
-    }
-
-    // The text with one character more.
-    pub fn character(self, c: u8) -> Hex
-        ensures { λ r. ⌜ r ≡ readChar self c ⌝ }
-    {
-        let glyph = glyph_of(c);
-        match glyph {
-            Glyph::Digit(d) => self.digit(d),
-            Glyph::Blank => self,
-            Glyph::Other => self.at(Place::Lost),
-        }
     }
 
     // What the text so far comes to: 2 for other text or an odd digit, else what its bytes come to.
@@ -67,52 +70,165 @@ impl Hex {
         ensures { λ r. ⌜ r ≡ finishOf self ⌝ }
     {
         let feed = self.feed;
-        let place = self.place;
-        if is_whole(place) {
+        if self.is_text() {
             return feed.finish();
         }
         Answer::Refused(2)
     }
 
-    // The text with one digit more: the first of a byte is kept, the second makes the byte.
-    fn digit(self, d: u8) -> Hex
-        ensures { λ r. ⌜ r ≡ readDigit self d ⌝ }
+    // Whether the text so far may end here as hex: behind a whole byte, and past no other text.
+    pub fn is_text(self) -> bool
+        ensures { λ r. ⌜ r ≡ isWhole (self .place) ⌝ }
     {
-        let feed = self.feed;
         let place = self.place;
         match place {
-            Place::Between => self.at(Place::Behind(d)),
-            Place::Behind(high) => {
-                let next = feed.byte(paired(high, d));
-                Hex {
-                    feed: next,
-                    place: Place::Between,
-                }
-            }
-            Place::Lost => self,
+            Place::Between => true,
+            Place::Behind(_) => false,
+            Place::Lost => false,
         }
     }
 
-    // The same bytes, at another place of the text.
-    fn at(self, place: Place) -> Hex
-        ensures { λ r. ⌜ r ≡ placedAt self place ⌝ }
+    // Whether what is still to come can change nothing: the answer is 2, whatever follows.
+    pub fn ends(self) -> bool
+        ensures { λ r. ⌜ r ≡ endsOf self ⌝ }
     {
         let feed = self.feed;
-        Hex {
-            feed: feed,
+        let place = self.place;
+        let stage = feed.stage;
+        is_lost(place) | is_stopped_at_two(stage)
+    }
+}
+
+// How far a chunk is decoded: the place in the text, the next character, and how many bytes stand in the room.
+struct Decoded {
+    place: Place,
+    next: usize,
+    count: usize,
+}
+
+impl Decoded {
+    // Decoded up to a character.
+    fn new(place: Place, next: usize, count: usize) -> Decoded
+        ensures { λ r. ⌜ r ≡ decodedTo place next count ⌝ }
+    {
+        Decoded {
             place: place,
+            next: next,
+            count: count,
         }
     }
 }
 
-// Whether a text may end at this place: behind a whole byte, and past no other text.
-fn is_whole(place: Place) -> bool
-    ensures { λ r. ⌜ r ≡ isWhole place ⌝ }
+// The characters from one on, until the chunk is read or the room is full.
+fn decode(codes: &[u8; 256], chunk: &[u8], from: usize, place: Place, room: &mut [u8]) -> Decoded
+    requires { ⌜ Table (now codes) × ((from < length (now chunk)) × (0 < length (now room))) ⌝ }
+    ensures { λ r. ⌜ Decodes (now (chunk .entry)) from place (now (room .entry)) (now (room .exit)) r ⌝ }
+{
+    let mut at = Decoded {
+        place: place,
+        next: from,
+        count: 0,
+    };
+    while at.next < chunk.len() {
+        if room.len() <= at.count {
+            return at;
+        }
+        at = step(codes, chunk, at, room);
+    }
+    at
+}
+
+// One character more, or both digits of a byte at once. Past other text nothing counts: then the chunk is read.
+fn step(codes: &[u8; 256], chunk: &[u8], at: Decoded, room: &mut [u8]) -> Decoded
+    requires { ⌜ Table (now codes) × ((at .next < length (now chunk)) × (at .count < length (now room))) ⌝ }
+    ensures { λ r. ⌜ Steps (now (chunk .entry)) (now (room .entry)) at (now (room .exit)) r ⌝ }
+{
+    let place = at.place;
+    let i = at.next;
+    let n = at.count;
+    let d = code_in(codes, chunk[i]);
+    if OTHER <= d {
+        return Decoded::new(Place::Lost, chunk.len(), n);
+    }
+    if BLANK <= d {
+        return Decoded::new(place, i + 1, n);
+    }
+    match place {
+        Place::Between => {
+            if i + 1 < chunk.len() {
+                let e = code_in(codes, chunk[i + 1]);
+                if e < BLANK {
+                    room[n] = paired(d, e);
+                    return Decoded::new(Place::Between, i + 2, n + 1);
+                }
+            }
+            Decoded::new(Place::Behind(d), i + 1, n)
+        }
+        Place::Behind(high) => {
+            room[n] = paired(high, d);
+            Decoded::new(Place::Between, i + 1, n + 1)
+        }
+        Place::Lost => Decoded::new(Place::Lost, chunk.len(), n),
+    }
+}
+
+// Whether other text was met.
+fn is_lost(place: Place) -> bool
+    ensures { λ r. ⌜ r ≡ isLost place ⌝ }
 {
     match place {
-        Place::Between => true,
+        Place::Between => false,
         Place::Behind(_) => false,
-        Place::Lost => false,
+        Place::Lost => true,
+    }
+}
+
+// Whether the record's earliest fault is a 2.
+fn is_stopped_at_two(stage: Stage) -> bool
+    ensures { λ r. ⌜ r ≡ isStoppedAtTwo stage ⌝ }
+{
+    match stage {
+        Stage::Heading => false,
+        Stage::Summing(_) => false,
+        Stage::Stopped(n) => n == 2,
+    }
+}
+
+// The code of a blank, and of other text; a digit's is its value.
+const BLANK: u8 = 16;
+
+const OTHER: u8 = 17;
+
+// The code of every character.
+fn codes() -> [u8; 256]
+    ensures { λ r. ⌜ Table r ⌝ }
+{
+    let mut codes = [0u8; 256];
+    let mut i = 0;
+    while i < 256 {
+        let glyph = glyph_of(i as u8);
+        codes[i] = code_of(glyph);
+        i += 1;
+    }
+    codes
+}
+
+// A character's code, by the table.
+fn code_in(codes: &[u8; 256], c: u8) -> u8
+    requires { ⌜ Table (now codes) ⌝ }
+    ensures { λ r. ⌜ r ≡ codeOf (glyphOf c) ⌝ }
+{
+    codes[c as usize]
+}
+
+// The code of what a character is.
+fn code_of(glyph: Glyph) -> u8
+    ensures { λ r. ⌜ r ≡ codeOf glyph ⌝ }
+{
+    match glyph {
+        Glyph::Digit(d) => d,
+        Glyph::Blank => BLANK,
+        Glyph::Other => OTHER,
     }
 }
 

@@ -10,6 +10,7 @@ pub mod Acts
 pub mod Host
 pub mod Second
 pub mod Summaries
+pub mod Files
 pub mod Program
 pub mod Parting
 pub mod Third

@@ -7,4 +7,5 @@ pub functions : Functions
 functions =
     record {
       summarize = λ s. by-equation;
+      events = λ s limits. by-equation;
     }

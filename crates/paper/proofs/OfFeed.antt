@@ -9,5 +9,6 @@ functions =
       feed-new = by-equation;
       feed-byte = λ self b. by-equation;
       feed-feed = λ self chunk. by-equation;
+      feed-ends = λ self. by-equation;
       feed-finish = λ self. by-equation;
     }

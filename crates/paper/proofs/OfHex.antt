@@ -8,7 +8,8 @@ functions =
     record {
       hex-new = by-equation;
       hex-text = λ self chunk. by-equation;
-      hex-character = λ self c. by-equation;
       hex-finish = λ self. by-equation;
+      hex-is-text = λ self. by-equation;
+      hex-ends = λ self. by-equation;
       glyph-of = λ c. by-equation;
     }

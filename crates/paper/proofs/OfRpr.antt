@@ -17,6 +17,7 @@ functions =
       rpr-read-frame = λ station frame. both;
       rpr-write-frame = λ station room. both;
       rpr-show = λ station room. both;
+      rpr-version = by-equation;
       rpr-summarize = λ «record» room. both;
       rpr-join = λ first second room. both;
       rpr-settle = λ summary start. by-equation;

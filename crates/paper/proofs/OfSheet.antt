@@ -9,4 +9,6 @@ functions =
       read = λ s. by-equation;
       write = λ v s. by-equation;
       hand-over = λ answer room. both;
+      opened = λ s. by-equation;
+      joined = λ before s. by-equation;
     }

@@ -12,6 +12,7 @@ functions =
       summary-send = λ limits size. by-equation;
       summary-in-range = λ self. by-equation;
       summary-join = λ self other. by-equation;
+      summary-join-next = λ self next. by-equation;
       summary-settle = λ self start. by-equation;
       signed = λ p. by-equation;
     }

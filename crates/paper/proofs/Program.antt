@@ -17,14 +17,16 @@ use Rattle.summary.specs.Summary.{summaryOf, joined, ceilingOf, needℤ}
 use Rattle.record.specs.Read.{countAt, readFrom, readRecord}
 use Rattle.account.specs.Account.{summarizeOf}
 use Rattle.feed.specs.Feed.{fedOf, fedChunks}
-use Rattle.feed.proofs.Promises.{fed-whole}
+use Rattle.feed.proofs.Promises.{fed-whole, ends-stands}
 use Rattle.hex.specs.Hex.{isWithin, glyphOf, textOf}
 use Rattle.hex.specs.Fed.{readText, readChunks}
 use Rattle.hex.proofs.Promises.{text-whole}
+use Rattle.hex.proofs.Ends.{ends-two}
 use Rattle.report.specs.Text.{ascii, signedNumeral, line}
 use Rattle.report.specs.Report.{countsText, startedText, settledText, printedOf}
 use Rattle.report.proofs.Numeral.{numeral-one, numeral-more}
 use Rattle.report.proofs.Promises.{example, text-example}
+use Rattle.paper.proofs.Files.{joins-files}
 use Rattle.paper.specs.Program.{Characters, HexText, Printed, FedBytes, Program}
 
 -- ---- hex text
@@ -93,6 +95,7 @@ fed =
       a-chunk = λ f chunk chunks. refl;
       no-byte = λ f. refl;
       a-byte = λ f b bs. refl;
+      ends = ends-stands;
     }
 
 pub program : Program
@@ -104,10 +107,12 @@ program =
       a-chunk = λ x chunk chunks. refl;
       no-character = λ x. refl;
       a-character = λ x c cs. refl;
+      ends = ends-two;
       text = hex-text;
       other = λ text e. rw e;
       hex = λ text e. rw e;
       example = ap printedOf example-text ∙ text-example;
       fed = fed;
+      files = joins-files;
       printed = printed;
     }

@@ -83,7 +83,7 @@ pub record Tested : Type 0 where
   pub fair : (s : Settings) (f : Fair) → (test (fairOk s f) ≡ true) ↔ FairOk s f
   pub station : (st : Station) → (test (stationOk st) ≡ true) ↔ StationOk st
 
--- A row for each exported call; `rpr_station_length` refuses nothing.
+-- A row for each exported call; `rpr_station_length` and `rpr_version` refuse nothing.
 pub record Condition1 : Type 0 where
   -- The numbers that bound a record's events, which the ranges below name: 1,000,000 events, amount 65,535, size 9,216.
   pub bounds : (mostEvents ≡ 1000000) × (mostAmount ≡ 65535) × (mostSize ≡ 9216)

@@ -2,7 +2,7 @@
 -- Assumes nothing.
 use Prim.Native.Nat.{ℕ}
 use Rattle.layout.specs.Layout.{stationLength}
-use Rattle.rpr.specs.Calls.{joinAfter, joinAnswer, settleAnswer, summarizeAfter, summarizeAnswer}
+use Rattle.rpr.specs.Calls.{joinAfter, joinAnswer, settleAnswer, summarizeAfter, summarizeAnswer, versionNumber}
 use Rattle.rpr.specs.Station.{ageAfter, ageAnswer, offerClientAfter, offerClientAnswer, offerControlAfter, offerControlAnswer, offerTransitAfter, offerTransitAnswer, readFrameAfter, readFrameAnswer, selectAfter, selectAnswer, showAfter, showAnswer, startAfter, startAnswer, tickAfter, tickAnswer, writeFrameAfter, writeFrameAnswer}
 use Rattle.rpr.specs.Ways.{chooseAnswer, pathAnswer}
 use mathlib.Core.List.{List}
@@ -32,6 +32,8 @@ pub record Functions : Type 0 where
   pub rpr-write-frame : (station room : List ℕ) → Determined² (λ (r : ℕ) (after-room : List ℕ). (r ≡ writeFrameAnswer station room) × (after-room ≡ writeFrameAfter station room))
   -- rpr_show
   pub rpr-show : (station room : List ℕ) → Determined² (λ (r : ℕ) (after-room : List ℕ). (r ≡ showAnswer station room) × (after-room ≡ showAfter station room))
+  -- rpr_version
+  pub rpr-version : Determined (λ (r : ℕ). r ≡ versionNumber)
   -- rpr_summarize
   pub rpr-summarize : («record» room : List ℕ) → Determined² (λ (r : ℕ) (after-room : List ℕ). (r ≡ summarizeAnswer «record» room) × (after-room ≡ summarizeAfter «record» room))
   -- rpr_join

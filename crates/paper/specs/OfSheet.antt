@@ -1,6 +1,7 @@
 -- Public functions of `sheet`, by name: two answers that meet the contract are equal.
 -- Assumes nothing.
 use Prim.Native.Nat.{ℕ}
+use Rattle.sheet.specs.Files.{joinedWith, openedOf}
 use Rattle.sheet.specs.Sheet.{handed, sheetOf, summaryAt}
 use Rattle.summary.specs.Answer.{answerNumber}
 use Rattle.summary.specs.declared.Answer.{Answer}
@@ -16,3 +17,7 @@ pub record Functions : Type 0 where
   pub write : (v : Summary) (s : List ℕ) → Determined (λ (after-s : List ℕ). after-s ≡ sheetOf v)
   -- hand_over (a leaf: it asks that length (now room) ≡ sheetLength)
   pub hand-over : (answer : Answer) (room : List ℕ) → Determined² (λ (r : ℕ) (after-room : List ℕ). (r ≡ answerNumber answer) × (after-room ≡ handed room answer))
+  -- opened
+  pub opened : (s : List ℕ) → Determined (λ (r : Answer). r ≡ openedOf s)
+  -- joined
+  pub joined : (before : Answer) (s : List ℕ) → Determined (λ (r : Answer). r ≡ joinedWith before s)

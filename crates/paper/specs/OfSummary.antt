@@ -4,7 +4,7 @@ use Prim.Native.Nat.{ℕ}
 use Rattle.plain.specs.declared.Plain.{Plain}
 use Rattle.shaper.specs.declared.Event.{Event}
 use Rattle.shaper.specs.declared.Limits.{Limits}
-use Rattle.summary.specs.Answer.{emptyAnswer, joinOf, settleOf, singleAnswer}
+use Rattle.summary.specs.Answer.{emptyAnswer, joinNext, joinOf, settleOf, singleAnswer}
 use Rattle.summary.specs.Plain.{signedFrom}
 use Rattle.summary.specs.Range.{inRange}
 use Rattle.summary.specs.declared.Answer.{Answer}
@@ -27,6 +27,8 @@ pub record Functions : Type 0 where
   pub summary-in-range : (self : Summary) → Determined (λ (r : Bool). r ≡ inRange self)
   -- Summary::join
   pub summary-join : (self other : Summary) → Determined (λ (r : Answer). r ≡ joinOf self other)
+  -- Summary::join_next
+  pub summary-join-next : (self : Summary) (next : Answer) → Determined (λ (r : Answer). r ≡ joinNext self next)
   -- Summary::settle
   pub summary-settle : (self : Summary) (start : ℕ) → Determined (λ (r : Outcome). r ≡ settleOf self start)
   -- signed (a leaf: it asks that (p .events ≤ 4294967295) × (p .depth ≤ 9223372036854775807))

@@ -1,19 +1,23 @@
--- The summary program: hex text, read in chunks of any sizes, and what is printed of it, for the third condition.
+-- The commands `rpr summarize` and `rpr join`: hex text, read in chunks of any sizes, summaries in files, and what is printed of them, for the third condition.
 -- Assumes nothing.
 use Prim.Native.Nat.{ℕ, _+_, _*_, _-_, _/_, _%_, _≤_, _<_}
 use Prim.Native.Char.{Char, code}
 use Prim.Native.String.{String}
 use Prim.Native.String.{[] as end, _∷_ as _before_}
 use mathlib.Core.Bool.{Bool, true, false, _&&_}
-use mathlib.Core.List.{List, [], _∷_, _++_, flatten}
+use mathlib.Core.List.{List, [], _∷_, _++_, map, flatten}
 use mathlib.Core.Path.{_≡_}
 use lib.Dec.{eqb}
 use lib.IntN.{pos, negsuc}
 use lib.ListN.{length}
+use Rattle.shaper.specs.declared.Limits.{Limits}
+use Rattle.shaper.specs.declared.Event.{Event}
 use Rattle.summary.specs.declared.Summary.{Summary}
 use Rattle.summary.specs.declared.Answer.{Answer}
 use Rattle.summary.specs.declared.Outcome.{Outcome}
-use Rattle.summary.specs.Answer.{settleOf}
+use Rattle.summary.specs.Answer.{joinOf, settleOf}
+use Rattle.summary.specs.Range.{inRange}
+use Rattle.record.specs.Record.{written, WellFormed}
 use Rattle.account.specs.Account.{summarizeOf}
 use Rattle.wire.specs.Wire.{Bytes}
 use Rattle.feed.specs.declared.Feed.{Feed}
@@ -22,7 +26,9 @@ use Rattle.feed.specs.Feed.{fedByte, fedOf, fedChunks}
 use Rattle.hex.specs.declared.Glyph.the-variants.{Digit, Blank, Other}
 use Rattle.hex.specs.Hex.{glyphOf, unlessOther, allHex, onto, digitsOf, pairs, isHex, textOf}
 use Rattle.hex.specs.declared.Hex.{Hex}
-use Rattle.hex.specs.Fed.{startOf, readChar, readText, readChunks, finishOf}
+use Rattle.hex.specs.Fed.{startOf, readChar, readText, readChunks, finishOf, endsOf}
+use Rattle.sheet.specs.Sheet.{sheetOf, summaryAt}
+use Rattle.sheet.specs.Files.{openedOf, joinedFrom, joinedOf, fileOf}
 use Rattle.report.specs.Text.{ascii, numeral, signedNumeral, line}
 use Rattle.report.specs.Report.{countsText, printedOf}
 
@@ -83,6 +89,31 @@ pub record FedBytes : Type 0 where
   pub a-chunk : (f : Feed) (chunk : List ℕ) (chunks : List (List ℕ)) → fedChunks f (chunk ∷ chunks) ≡ fedChunks (fedOf f chunk) chunks
   pub no-byte : (f : Feed) → fedOf f [] ≡ f
   pub a-byte : (f : Feed) (b : ℕ) (bs : List ℕ) → fedOf f (b ∷ bs) ≡ fedOf (fedByte f b) bs
+  -- Behind a fault nothing need be read: no byte more changes the answer.
+  pub ends : (f : Feed) → feeding.endsOf f ≡ true → (bs : List ℕ) → feeding.finishOf (fedOf f bs) ≡ feeding.finishOf f
+
+-- ---- summaries in files
+
+-- What the command `rpr join` answers of files of bytes, in the order given.
+pub record JoinsFiles : Type 0 where
+  -- A file of another number of bytes than 48 is 2, one whose summary is outside its range is 3, and any other holds its summary.
+  pub other-length : (xs : List ℕ) → (length xs ≡ 48 → ⊥) → openedOf xs ≡ Answer.Refused 2
+  pub out-of-range : (xs : List ℕ) → length xs ≡ 48 → inRange (summaryAt xs) ≡ false → openedOf xs ≡ Answer.Refused 3
+  pub opened : (xs : List ℕ) → length xs ≡ 48 → inRange (summaryAt xs) ≡ true → openedOf xs ≡ Answer.Summed (summaryAt xs)
+  -- Each is joined to those before it; a refusal stands, whatever follows.
+  pub no-more : (a : Answer) → joinedFrom a [] ≡ a
+  pub joins : (s t : Summary) (xs : List ℕ) (files : List (List ℕ)) → openedOf xs ≡ Answer.Summed t
+      → joinedFrom (Answer.Summed s) (xs ∷ files) ≡ joinedFrom (joinOf s t) files
+  pub refuses : (s : Summary) (n : ℕ) (xs : List ℕ) (files : List (List ℕ)) → openedOf xs ≡ Answer.Refused n
+      → joinedFrom (Answer.Summed s) (xs ∷ files) ≡ joinedFrom (Answer.Refused n) files
+  pub stands : (n : ℕ) (xs : List ℕ) (files : List (List ℕ)) → joinedFrom (Answer.Refused n) (xs ∷ files) ≡ joinedFrom (Answer.Refused n) files
+  -- The first is opened, and the others are joined to it.
+  pub all : (xs : List ℕ) (files : List (List ℕ)) → joinedOf xs files ≡ joinedFrom (openedOf xs) files
+  -- What --sheet writes is a summary's 48 bytes, and of a refusal nothing.
+  pub written-file : (s : Summary) (n : ℕ) → (fileOf (Answer.Summed s) ≡ sheetOf s) × (fileOf (Answer.Refused n) ≡ [])
+  -- A record cut into pieces, each summarized on its own from its bytes and written to a file: joined in their order, the files give the summary of the whole.
+  pub pieces : (l : Limits) (es : List Event) (rest : List (List Event)) → WellFormed l (es ++ flatten rest)
+      → joinedOf (fileOf (summarizeOf (written l es))) (map (λ piece. fileOf (summarizeOf (written l piece))) rest) ≡ summarizeOf (written l (es ++ flatten rest))
 
 -- ---- together
 
@@ -94,11 +125,14 @@ pub record Program : Type 0 where
   pub a-chunk : (x : Hex) (chunk : List ℕ) (chunks : List (List ℕ)) → readChunks x (chunk ∷ chunks) ≡ readChunks (readText x chunk) chunks
   pub no-character : (x : Hex) → readText x [] ≡ x
   pub a-character : (x : Hex) (c : ℕ) (cs : List ℕ) → readText x (c ∷ cs) ≡ readText (readChar x c) cs
+  -- Where a text can only come to 2 the rest need not be read.
+  pub ends : (x : Hex) → endsOf x ≡ true → (cs : List ℕ) → finishOf (readText x cs) ≡ Answer.Refused 2
   -- other text or an odd digit, anywhere, is 2 before all else, and else its bytes are a record.
   pub text : HexText
   pub other : (text : List ℕ) → isHex text ≡ false → textOf text ≡ Answer.Refused 2
   pub hex : (text : List ℕ) → isHex text ≡ true → textOf text ≡ summarizeOf (pairs (digitsOf text))
   pub fed : FedBytes
+  pub files : JoinsFiles
   pub printed : Printed
   -- For the paper's record it prints exactly this.
   pub example : printedOf (textOf (ascii "0e00 1000 4000 64000000 2c010000 060001009600 060003003c00 060003004000 060002003200"))

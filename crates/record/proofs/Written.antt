@@ -213,7 +213,7 @@ onto late l m e ys zs f v (faulty n) s =
     }
 onto late l m e ys zs f v (events es) s = wrote-more l m e ys zs es f v s
 
-nothing-left : (ys : List ℕ) → length ys ≤ 0 → ys ≡ []
+pub nothing-left : (ys : List ℕ) → length ys ≤ 0 → ys ≡ []
 nothing-left [] h = refl
 nothing-left (y ∷ ys) h = absurd (omega arith)
 

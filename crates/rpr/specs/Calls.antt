@@ -1,6 +1,6 @@
 -- What each call answers, and what it leaves in the slice that is lent for writing.
 -- Assumes nothing.
-use Prim.Native.Nat.{ℕ, _+_, _<_}
+use Prim.Native.Nat.{ℕ, _+_, _*_, _<_}
 use mathlib.Core.Bool.{true, not}
 use mathlib.Core.List.{List, [], _∷_, _++_}
 use mathlib.Core.Path.{_≡_}
@@ -15,6 +15,12 @@ use Rattle.account.specs.Account.{summarizeOf}
 use Rattle.sheet.specs.Sheet.{sheetLength, sheetOf, summaryAt, handed}
 use Rattle.answer.specs.Bytes.{packed, permittedBytes}
 use Rattle.rpr.specs.Shape.{answerOf, afterOf, otherLength}
+
+-- ---- rpr_version
+
+-- 256 × the first number of the version + the second: 1.1
+abbrev pub versionNumber : ℕ
+versionNumber = 256 * 1 + 1
 
 -- ---- rpr_summarize
 

@@ -1,7 +1,7 @@
 // The functions that a host written in C calls.
 ghost use mathlib.Core.Path.{_≡_};
 ghost use Rattle.rpr.specs.Ways.{chooseAnswer, pathAnswer};
-ghost use Rattle.rpr.specs.Calls.{summarizeAnswer, summarizeAfter, joinAnswer, joinAfter, settleAnswer};
+ghost use Rattle.rpr.specs.Calls.{versionNumber, summarizeAnswer, summarizeAfter, joinAnswer, joinAfter, settleAnswer};
 
 mod lending;
 
@@ -10,6 +10,19 @@ use summary::Outcome;
 
 // The refusal of bytes that are not of the length named.
 const NOT_WHOLE: u64 = 2;
+
+// The two numbers of the version that this library is, as rpr.h has them in RPR_VERSION.
+const VERSION: u64 = 1;
+
+const REVISION: u64 = 1;
+
+// The version: 256 times its first number and the second.
+#[no_mangle]
+pub extern "C" fn rpr_version() -> u64
+    ensures { λ r. ⌜ r ≡ versionNumber ⌝ }
+{
+    256 * VERSION + REVISION
+}
 
 // Leaves in the room the summary of a shaper record. 2 where the room is not 48 bytes, then the number of the record's earliest fault.
 #[no_mangle]

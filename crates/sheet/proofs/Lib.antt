@@ -1,1 +1,2 @@
 pub mod Round
+pub mod Files

@@ -3,6 +3,7 @@ ghost use mathlib.Core.Path.{_≡_};
 ghost use lib.ListN.{length};
 ghost use Rattle.summary.specs.Answer.{answerNumber};
 ghost use Rattle.sheet.specs.Sheet.{sheetLength, sheetOf, summaryAt, handed};
+ghost use Rattle.sheet.specs.Files.{openedOf, joinedWith};
 use shaper::Limits;
 use summary::Answer;
 use summary::Summary;
@@ -59,5 +60,29 @@ pub fn hand_over(answer: Answer, room: &mut [u8]) -> u64
             0
         }
         Answer::Refused(number) => number,
+    }
+}
+
+// The summary that a file's bytes hold. 2 where they are not 48, then 3 where it is outside its range.
+pub fn opened(s: &[u8]) -> Answer
+    ensures { λ r. ⌜ r ≡ openedOf (now (s .entry)) ⌝ }
+{
+    if s.len() != LENGTH {
+        return Answer::Refused(2);
+    }
+    let held = read(s);
+    if !held.in_range() {
+        return Answer::Refused(3);
+    }
+    Answer::Summed(held)
+}
+
+// The summary so far joined with that of the next file's bytes, or the first refusal.
+pub fn joined(before: Answer, s: &[u8]) -> Answer
+    ensures { λ r. ⌜ r ≡ joinedWith before (now (s .entry)) ⌝ }
+{
+    match before {
+        Answer::Summed(sum) => sum.join_next(opened(s)),
+        Answer::Refused(n) => Answer::Refused(n),
     }
 }

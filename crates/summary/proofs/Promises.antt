@@ -45,23 +45,23 @@ module _ (a b : Summary) (ha : inRange a ≡ true) (hb : inRange b ≡ true) (e 
   by-plain = joined-plain a b ha hb (same-settings a b e)
 
   -- a join keeps the range
-  joined-range : a .events + b .events ≤ mostEvents → inRange (joined a b) ≡ true
+  pub joined-range : a .events + b .events ≤ mostEvents → inRange (joined a b) ≡ true
   joined-range n =
       ap inRange by-plain
       ∙ in-range-signed (plainJoined (plainFrom a) (plainFrom b))
       (sound-in-range _ (joined-sound (plainFrom a) (plainFrom b) (in-range-sound _ (in-range-plain a ha)) (in-range-sound _ (in-range-plain b hb)) same-plain) n)
 
-  joins-few : a .events + b .events ≤ mostEvents → joinOf a b ≡ Answer.Summed (joined a b)
+  pub joins-few : a .events + b .events ≤ mostEvents → joinOf a b ≡ Answer.Summed (joined a b)
   joins-few n = joins a b ha hb (same-settings a b e) n
 
   refuses : mostEvents < a .events + b .events → joinOf a b ≡ Answer.Refused 9
   refuses n = join-9 a b ha hb (same-settings a b e) n
 
-  joined-events : joined a b .events ≡ a .events + b .events
+  pub joined-events : joined a b .events ≡ a .events + b .events
   unfolding joined
   joined-events = refl
 
-  joined-limits : joined a b .limits ≡ a .limits
+  pub joined-limits : joined a b .limits ≡ a .limits
   unfolding joined
   joined-limits = refl
 
@@ -85,8 +85,9 @@ module _ (a b c : Summary) (ha : inRange a ≡ true) (hb : inRange b ≡ true) (
   same-joined-right : a .limits ≡ joined b c .limits
   same-joined-right = e ∙ sym (joined-limits b c hb hc f)
 
-  three : a .events + (b .events + c .events) ≤ mostEvents → joined (joined a b) c ≡ joined a (joined b c)
-  three n =
+  -- where the events of all three are few enough, both groupings come to the same
+  pub joined-associative : a .events + (b .events + c .events) ≤ mostEvents → joined (joined a b) c ≡ joined a (joined b c)
+  joined-associative n =
       by-plain (joined a b) c (joined-range a b ha hb e (omega arith)) hc same-joined-left
       ∙ ap (λ p. signedFrom (plainJoined p (plainFrom c))) (plain-joined a b ha hb e)
       ∙ ap signedFrom (joined-assoc (plainFrom a) (plainFrom b) (plainFrom c) (in-range-sound _ (in-range-plain a ha)) (in-range-sound _ (in-range-plain b hb)) (in-range-sound _ (in-range-plain c hc)) (same-plain a b ha hb e) (same-plain b c hb hc f))
@@ -115,7 +116,7 @@ module _ (a b c : Summary) (ha : inRange a ≡ true) (hb : inRange b ≡ true) (
       let m = joined-events b c hb hc f in
       rw (joins-few a b ha hb e (omega arith), joins-few b c hb hc f (omega arith))
       (joins-few (joined a b) c (joined-range a b ha hb e (omega arith)) hc same-joined-left (omega arith)
-      ∙ ap Answer.Summed (three n)
+      ∙ ap Answer.Summed (joined-associative n)
       ∙ sym (joins-few a (joined b c) ha (joined-range b c hb hc f (omega arith)) same-joined-right (omega arith)))
 
   -- Join is associative for in-range summaries of the same settings; both groupings give 9 or neither does.

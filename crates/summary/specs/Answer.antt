@@ -57,6 +57,10 @@ abbrev pub andThen : Answer → (Summary → Answer) → Answer
 andThen (Answer.Summed s) f = f s
 andThen (Answer.Refused n) f = Answer.Refused n
 
+-- a summary joined with the one behind it, where that was not refused
+abbrev pub joinNext : Summary → Answer → Answer
+joinNext s next = andThen next (λ t. joinOf s t)
+
 -- ---- settle
 
 -- 3: the summary or the starting credit is outside its range

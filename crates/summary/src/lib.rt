@@ -6,7 +6,7 @@ ghost use lib.Signed.{ltZ};
 ghost use Rattle.shaper.specs.declared.Event.{Event};
 ghost use Rattle.summary.specs.Summary.{oneTick};
 ghost use Rattle.summary.specs.Range.{inRange};
-ghost use Rattle.summary.specs.Answer.{emptyAnswer, singleAnswer, joinOf, settleOf};
+ghost use Rattle.summary.specs.Answer.{emptyAnswer, singleAnswer, joinOf, joinNext, settleOf};
 ghost use Rattle.summary.specs.Plain.{plainFrom, signedFrom};
 use plain::Plain;
 use shaper::Event;
@@ -139,6 +139,16 @@ impl Summary {
         }
         let whole = self.plain().joined(other.plain());
         Answer::Summed(signed(whole))
+    }
+
+    // The same with the answer behind it: a refusal there stands.
+    pub fn join_next(self, next: Answer) -> Answer
+        ensures { λ r. ⌜ r ≡ joinNext self next ⌝ }
+    {
+        match next {
+            Answer::Summed(other) => self.join(other),
+            Answer::Refused(number) => Answer::Refused(number),
+        }
     }
 
     // What the events do from a starting credit. 3 where the summary or the credit is outside its range.

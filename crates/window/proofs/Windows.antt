@@ -10,7 +10,7 @@ use lib.ListN.{length, take, drop, length-append, length-take, length-drop, take
 use lib.Seq.{length-take-le, take-all, take-take, take-append-add}
 use Rattle.decide.proofs.Cases.{by-cases, le-or, min-is}
 use Rattle.wire.specs.Wire.{Bytes}
-use Rattle.wire.proofs.Places.{bytes-append, bytes-drop}
+use Rattle.wire.proofs.Places.{bytes-append, bytes-take, bytes-drop}
 use Rattle.shaper.specs.declared.Limits.{Limits}
 use Rattle.shaper.specs.declared.Event.{Event}
 use Rattle.shaper.specs.Limits.{mostEvents}
@@ -41,12 +41,6 @@ take-min m n xs =
     by-cases (min-is m n)
     (λ h. take-take m n xs (h .0) ∙ ap (λ k. take k xs) (sym (h .1)))
     (λ h. take-all m (take n xs) (omega (arith, length-take n xs)) ∙ ap (λ k. take k xs) (sym (h .1)))
-
-bytes-take : (n : ℕ) (xs : List ℕ) → Bytes xs → Bytes (take n xs)
-bytes-take zero xs b j = omega arith
-bytes-take (suc n) [] b j = omega arith
-bytes-take (suc n) (x ∷ xs) b zero = b zero
-bytes-take (suc n) (x ∷ xs) b (suc j) = bytes-take n xs (λ i. b (suc i)) j
 
 -- ---- window after window
 

@@ -69,6 +69,12 @@ bytes-one : (x : ℕ) → x < 256 → Bytes (x ∷ [])
 bytes-one x h zero = h
 bytes-one x h (suc j) = omega arith
 
+pub bytes-take : (n : ℕ) (xs : List ℕ) → Bytes xs → Bytes (take n xs)
+bytes-take zero xs b j = omega arith
+bytes-take (suc n) [] b j = omega arith
+bytes-take (suc n) (x ∷ xs) b zero = b zero
+bytes-take (suc n) (x ∷ xs) b (suc j) = bytes-take n xs (λ i. b (suc i)) j
+
 pub bytes-drop : (n : ℕ) (xs : List ℕ) → Bytes xs → Bytes (drop n xs)
 bytes-drop n xs b j = rw getD-drop (b (n + j))
 

@@ -1,4 +1,4 @@
-//! What the program `compare` prints of two record files.
+//! What `rpr compare` prints of two record files.
 
 use crate::record::{self, Event, Record, Settings};
 use crate::refusal::Refusal;
@@ -12,11 +12,11 @@ pub enum Side {
     Second,
 }
 
-/// What stands on standard output, and which file was refused, if one was.
+/// What stands on standard output, and which file was refused with what, if one was.
 #[derive(Debug, PartialEq, Eq)]
 pub struct Printed {
     pub text: String,
-    pub refused: Option<Side>,
+    pub refused: Option<(Side, Refusal)>,
 }
 
 impl Side {
@@ -44,7 +44,7 @@ pub fn compare(first: &[u8], second: &[u8]) -> Printed {
 fn refused(side: Side, refusal: Refusal) -> Printed {
     Printed {
         text: text::show(Err(refusal)),
-        refused: Some(side),
+        refused: Some((side, refusal)),
     }
 }
 

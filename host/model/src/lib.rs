@@ -8,6 +8,7 @@
 #![forbid(unsafe_code)]
 
 pub mod cases;
+pub mod command;
 pub mod compare;
 pub mod entry_script;
 pub mod host;
@@ -19,6 +20,7 @@ pub mod make_call;
 pub mod make_damage;
 pub mod make_pair;
 pub mod make_station;
+pub mod make_text;
 pub mod random;
 pub mod record;
 pub mod refusal;
@@ -31,4 +33,5 @@ pub mod station_script;
 pub mod summary;
 pub mod tally;
 pub mod text;
+pub mod trial;
 pub mod walk;

@@ -1,7 +1,8 @@
 //! Random records, whole and damaged, and random summaries, in range and nearly.
 
 use crate::random::Random;
-use crate::record::{Event, Record, Settings, EVENT_LENGTH, HEADER_LENGTH, MOST_EVENTS};
+use crate::record::{self, Event, Record, Settings, EVENT_LENGTH, HEADER_LENGTH, MOST_EVENTS};
+use crate::refusal::Refusal;
 use crate::summary::{step, Summary};
 
 /// Valid settings, often at an end of a range.
@@ -89,9 +90,9 @@ pub fn mixed(random: &mut Random, settings: &Settings, count: usize) -> Vec<Even
     (0..count).map(|_| event(random, settings)).collect()
 }
 
-/// Mixed events with every send permitted from some starting credit.
-fn paced(random: &mut Random, settings: &Settings, count: usize) -> Vec<Event> {
-    let mut credit = random.often_extreme(0, i128::from(settings.hi_limit));
+/// Mixed events with every send permitted from this starting credit.
+fn paced(random: &mut Random, settings: &Settings, start: i128, count: usize) -> Vec<Event> {
+    let mut credit = start;
     let mut events = Vec::with_capacity(count);
     while events.len() < count {
         let mut next = event(random, settings);
@@ -109,8 +110,22 @@ pub fn record_of(random: &mut Random, settings: Settings, most: usize) -> Record
     let events = match random.below(4) {
         0 => regular(random, &settings, count),
         1 => mixed(random, &settings, count),
-        _ => paced(random, &settings, count),
+        _ => {
+            let start = random.often_extreme(0, i128::from(settings.hi_limit));
+            paced(random, &settings, start, count)
+        }
     };
+    Record { settings, events }
+}
+
+/// A record of so many events under usual settings, every send permitted from loLimit.
+pub fn night(random: &mut Random, count: usize) -> Record {
+    let settings = Settings {
+        mtu: 1_500,
+        lo_limit: 16_384,
+        hi_limit: 262_144,
+    };
+    let events = paced(random, &settings, i128::from(settings.lo_limit), count);
     Record { settings, events }
 }
 
@@ -118,6 +133,23 @@ pub fn record_of(random: &mut Random, settings: Settings, most: usize) -> Record
 pub fn record(random: &mut Random, most: usize) -> Record {
     let settings = settings(random);
     record_of(random, settings, most)
+}
+
+/// A record of 1 to 60 events.
+pub fn some(random: &mut Random) -> Record {
+    loop {
+        let record = record(random, 60);
+        if !record.events.is_empty() {
+            return record;
+        }
+    }
+}
+
+/// A record of exactly so many events, each at random.
+pub fn mixed_record(random: &mut Random, count: usize) -> Record {
+    let settings = settings(random);
+    let events = mixed(random, &settings, count);
+    Record { settings, events }
 }
 
 /// A valid record of exactly so many events, regular.
@@ -189,6 +221,19 @@ pub fn damaged(random: &mut Random, most: usize) -> Vec<u8> {
         damage(random, &mut bytes);
     }
     bytes
+}
+
+/// What a small file can be refused with.
+pub const FAULTS: [Refusal; 3] = [Refusal::Setting, Refusal::Bytes, Refusal::Range];
+
+/// Bytes that are refused, with each number in turn.
+pub fn refused(random: &mut Random, turn: usize) -> Vec<u8> {
+    loop {
+        let bytes = damaged(random, 40);
+        if record::read(&bytes) == Err(FAULTS[turn % FAULTS.len()]) {
+            return bytes;
+        }
+    }
 }
 
 /// The bytes of a record of nearly, exactly or just over 1,000,000 events.

@@ -1,10 +1,9 @@
-//! Random pairs of record files, for the program `compare`: alike but for one thing,
+//! Random pairs of record files, for `rpr compare`: alike but for one thing,
 //! unlike, long, refused.
 
 use crate::make;
 use crate::random::Random;
-use crate::record::{self, Event, Record, Settings, EVENT_LENGTH, HEADER_LENGTH, MOST_EVENTS};
-use crate::refusal::Refusal;
+use crate::record::{Event, Record, Settings, EVENT_LENGTH, HEADER_LENGTH, MOST_EVENTS};
 
 /// The bytes of both files.
 pub type Pair = (Vec<u8>, Vec<u8>);
@@ -37,13 +36,16 @@ pub const WAYS: &[Way] = &[
     }),
     ("unlike", |random, _| (whole(random), whole(random))),
     ("the first refused", |random, turn| {
-        (refused(random, turn), whole(random))
+        (make::refused(random, turn), whole(random))
     }),
     ("the second refused", |random, turn| {
-        (whole(random), refused(random, turn))
+        (whole(random), make::refused(random, turn))
     }),
     ("both refused", |random, turn| {
-        (refused(random, turn), refused(random, turn / FAULTS.len()))
+        (
+            make::refused(random, turn),
+            make::refused(random, turn / make::FAULTS.len()),
+        )
     }),
     ("empty", |random, turn| {
         by_turns(turn, Vec::new(), whole(random))
@@ -84,9 +86,6 @@ pub const MILLIONS: &[Way] = &[
     ("a fault in the millionth and a byte", million_fault),
 ];
 
-/// What a small file can be refused with.
-const FAULTS: [Refusal; 3] = [Refusal::Setting, Refusal::Bytes, Refusal::Range];
-
 /// The program reads 5,000 events at a time: lengths beside the ends of these windows,
 /// and places at them.
 const LENGTHS: [usize; 8] = [4_999, 5_000, 5_001, 9_999, 10_000, 10_001, 12_345, 15_000];
@@ -109,29 +108,19 @@ fn by_turns(turn: usize, one: Vec<u8>, other: Vec<u8>) -> Pair {
     }
 }
 
-/// A record of 1 to 60 events.
-fn some(random: &mut Random) -> Record {
-    loop {
-        let record = make::record(random, 60);
-        if !record.events.is_empty() {
-            return record;
-        }
-    }
-}
-
 fn whole(random: &mut Random) -> Vec<u8> {
-    some(random).to_bytes()
+    make::some(random).to_bytes()
 }
 
 fn equal(random: &mut Random, _: usize) -> Pair {
-    twice(&some(random))
+    twice(&make::some(random))
 }
 
 type Change = fn(&mut Random, &Settings, Event) -> Event;
 
 /// A record, and the same with one event changed.
 fn changed(random: &mut Random, change: Change) -> Pair {
-    let first = some(random);
+    let first = make::some(random);
     let mut second = first.clone();
     let place = random.below(first.events.len());
     second.events[place] = change(random, &first.settings, first.events[place]);
@@ -176,7 +165,7 @@ fn other_event(random: &mut Random, settings: &Settings, event: Event) -> Event 
 
 /// The second has an event more, anywhere.
 fn inserted(random: &mut Random, _: usize) -> Pair {
-    let first = some(random);
+    let first = make::some(random);
     let mut second = first.clone();
     let place = random.below(first.events.len() + 1);
     let event = make::event(random, &first.settings);
@@ -185,7 +174,7 @@ fn inserted(random: &mut Random, _: usize) -> Pair {
 }
 
 fn tail_cut(random: &mut Random, turn: usize) -> Pair {
-    let longer = some(random);
+    let longer = make::some(random);
     let shorter = longer.piece(0, random.below(longer.events.len()));
     let pair = (shorter.to_bytes(), longer.to_bytes());
     if turn % 2 == 1 {
@@ -216,31 +205,14 @@ fn one_setting(random: &mut Random, take: fn(&mut Settings, &Settings)) -> Pair 
     }
 }
 
-/// Bytes that are refused, with each number in turn.
-fn refused(random: &mut Random, turn: usize) -> Vec<u8> {
-    loop {
-        let bytes = make::damaged(random, 40);
-        if record::read(&bytes) == Err(FAULTS[turn % FAULTS.len()]) {
-            return bytes;
-        }
-    }
-}
-
 fn header_alone(random: &mut Random, turn: usize) -> Pair {
-    let record = some(random);
+    let record = make::some(random);
     by_turns(turn, record.piece(0, 0).to_bytes(), record.to_bytes())
-}
-
-/// A record of exactly so many events, each at random.
-fn mixed(random: &mut Random, count: usize) -> Record {
-    let settings = make::settings(random);
-    let events = make::mixed(random, &settings, count);
-    Record { settings, events }
 }
 
 /// Pieces of one record, the second with some events changed where windows end.
 fn long(random: &mut Random, turn: usize) -> Pair {
-    let record = mixed(random, LENGTHS[LENGTHS.len() - 1]);
+    let record = make::mixed_record(random, LENGTHS[LENGTHS.len() - 1]);
     let length = LENGTHS[turn % LENGTHS.len()];
     let other = random.pick(&LENGTHS);
     let of_second = random.pick(&[length, other]);
@@ -271,7 +243,7 @@ fn long_fault(random: &mut Random, turn: usize) -> Pair {
 }
 
 fn million(random: &mut Random) -> Record {
-    mixed(random, MOST_EVENTS)
+    make::mixed_record(random, MOST_EVENTS)
 }
 
 fn million_other(random: &mut Random, _: usize) -> Pair {

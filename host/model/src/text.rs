@@ -1,4 +1,4 @@
-//! What the summary program prints.
+//! Hex text, and what is printed of a summary.
 
 use crate::record;
 use crate::refusal::Refusal;
@@ -55,9 +55,4 @@ fn show_summary(summary: &Summary) -> String {
         "events {}\naccrued {}\nsent {}\nceiling {}\nneed {}\nstart {start} {last}\n",
         summary.events, summary.accrued, summary.sent, summary.ceiling, summary.need
     )
-}
-
-/// Standard input to standard output.
-pub fn print(input: &[u8]) -> String {
-    show(decode(input).and_then(|bytes| summarize(&bytes)))
 }

@@ -73,8 +73,9 @@ fn the_example_prints_as_the_document_says() {
         .find(|line| line.starts_with("example "))
         .unwrap();
     let hex = example.strip_prefix("example ").unwrap();
+    let summary = text::summarize(&text::decode(hex.as_bytes()).unwrap());
     assert_eq!(
         printed(example),
-        format!("example\n{}", text::print(hex.as_bytes()))
+        format!("example\n{}", text::show(summary))
     );
 }

@@ -1,4 +1,4 @@
-//! What the program `compare` prints: texts worked out by hand.
+//! What `rpr compare` prints: texts worked out by hand.
 
 use model::compare::{compare, Side};
 use model::make_pair::WAYS;
@@ -47,7 +47,10 @@ fn assert_prints(first: &[u8], second: &[u8], lines: &str, summaries: [&str; 2])
 fn assert_refuses(first: &[u8], second: &[u8], side: Side, number: u8) {
     let printed = compare(first, second);
     assert_eq!(printed.text, format!("refused {number}\n"));
-    assert_eq!(printed.refused, Some(side));
+    let refused = printed
+        .refused
+        .map(|(side, refusal)| (side, refusal.number()));
+    assert_eq!(refused, Some((side, number)));
 }
 
 /// "equal records give an empty list"

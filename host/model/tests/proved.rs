@@ -1,8 +1,8 @@
 //! P1 to P6 and the printed example.
 
+use model::command::{self, Given, Shown};
 use model::record::{Event, Record, Settings};
 use model::summary::{run, Summary};
-use model::text;
 
 const SETTINGS: Settings = Settings {
     mtu: 64,
@@ -76,9 +76,16 @@ const HEX: &str = "0e00 1000 4000 64000000 2c010000 060001009600 060003003c00 \
 const PRINTED: &str = "events 4\naccrued 200\nsent 124\nceiling 100\nneed 11\n\
                        start 100 permitted end 100\n";
 
+/// What is printed of this text.
+fn printed(input: &str) -> String {
+    let file = (String::new(), input.as_bytes().to_vec());
+    let said = command::summarize(&file, Given::Text, Shown::Lines);
+    String::from_utf8(said.output).unwrap()
+}
+
 #[test]
 fn printed_example() {
-    assert_eq!(text::print(HEX.as_bytes()), PRINTED);
+    assert_eq!(printed(HEX), PRINTED);
 }
 
 #[test]
@@ -87,30 +94,30 @@ fn blanks_and_line_ends_are_skipped_anywhere() {
         .chars()
         .flat_map(|digit| [digit, '\t', '\r', '\n'])
         .collect();
-    assert_eq!(text::print(spread.as_bytes()), PRINTED);
-    assert_eq!(text::print(HEX.replace(' ', "").as_bytes()), PRINTED);
-    assert_eq!(text::print(HEX.to_uppercase().as_bytes()), PRINTED);
+    assert_eq!(printed(&spread), PRINTED);
+    assert_eq!(printed(&HEX.replace(' ', "")), PRINTED);
+    assert_eq!(printed(&HEX.to_uppercase()), PRINTED);
 }
 
 #[test]
 fn other_text_or_an_odd_digit_is_2_before_all_else() {
     let bad_setting = "0e00 1000 3f00 64000000 2c010000";
-    assert_eq!(text::print(bad_setting.as_bytes()), "refused 1\n");
+    assert_eq!(printed(bad_setting), "refused 1\n");
     for tail in ["0", "g", "0x", ".", "\u{b}", "é"] {
         let input = format!("{bad_setting} {tail}");
-        assert_eq!(text::print(input.as_bytes()), "refused 2\n");
+        assert_eq!(printed(&input), "refused 2\n");
         let input = format!("{tail} {bad_setting}");
-        assert_eq!(text::print(input.as_bytes()), "refused 2\n");
+        assert_eq!(printed(&input), "refused 2\n");
     }
-    assert_eq!(text::print(b""), "refused 2\n");
-    assert_eq!(text::print(b" \n"), "refused 2\n");
+    assert_eq!(printed(""), "refused 2\n");
+    assert_eq!(printed(" \n"), "refused 2\n");
 }
 
 #[test]
 fn not_permitted_when_need_is_larger_than_the_start() {
     let header = "0e00 1000 4000 64000000 2c010000";
     let one = format!("{header} 060001000100 060003001000");
-    assert!(text::print(one.as_bytes()).ends_with("need 100\nstart 100 permitted end 85\n"));
+    assert!(printed(&one).ends_with("need 100\nstart 100 permitted end 85\n"));
     let none = format!("{header} 060001000000 060003001000");
-    assert!(text::print(none.as_bytes()).ends_with("need 101\nstart 100 not permitted\n"));
+    assert!(printed(&none).ends_with("need 101\nstart 100 not permitted\n"));
 }

@@ -6,16 +6,18 @@ use native.Mathlib.Omega.{arith}
 use borrow.Author.Needs.{needs}
 use lib.ListN.{length, drop}
 use Rattle.shaper.specs.Limits.{mostEvents}
-use Rattle.tally.specs.Tally.{startOf, Ready}
+use Rattle.tally.specs.Tally.{Ready}
 use Rattle.tally.proofs.Laws.{start-ready}
+use Rattle.account.specs.Account.{eventsOf}
 use Rattle.account.specs.Rest.{restOf}
+use Rattle.account.proofs.Rest.{rest-events}
 use Rattle.account.proofs.events.Statement.{statement}
 use Rattle.account.proofs.events.Tie as tie
 
 abbrev Inv-loop : tie.InvT-loop
 Inv-loop s limits count b₀ at₀ n₀ t₀ b at n t =
-    (b ≤ count) × (count ≤ 15625) × (14 + 384 * count ≤ length s) × (at ≡ 14 + 384 * b) × (n ≡ 64 * b) × Ready limits n t
-    × (restOf 9 limits (mostEvents - n) n t (drop at s) ≡ restOf 9 limits mostEvents 0 (startOf (limits .lo)) (drop 14 s))
+    (b ≤ count) × (count ≤ 15625) × (384 * count ≤ length s) × (at ≡ 384 * b) × (n ≡ 64 * b) × Ready limits n t
+    × (restOf 9 limits (mostEvents - n) n t (drop at s) ≡ eventsOf limits s)
 
 abbrev μ-loop : tie.MeasureT-loop
 μ-loop s limits count b₀ at₀ n₀ t₀ b at n t = count - b
@@ -32,9 +34,6 @@ less n h = omega arith
 counts : (n b : ℕ) → n ≡ 64 * b → n + 64 ≡ 64 * (b + 1)
 counts n b e = omega arith
 
-sub-lesser : tie.Need-sub-lesser Inv-loop μ-loop
-sub-lesser c = search needs
-
 lesser-requires : tie.Need-lesser-requires Inv-loop μ-loop
 lesser-requires c κs = search needs
 
@@ -46,7 +45,7 @@ loop-holds c =
     let a = c .before .before .before .args in
     let p = c .before .before .before .pre in
     let e = c .start .ensures in
-    (omega arith, omega arith, omega arith, omega arith, omega arith, rw e (start-ready (a .limits) (p .1)), rw e)
+    (omega arith, omega arith, omega arith, omega arith, omega arith, rw e (start-ready (a .limits) p), rw e (sym (rest-events (a .limits) (a .s .now) p (λ j. c .before .before .shared-slice-known .given j .fits))))
 
 block-requires : tie.Need-block-requires Inv-loop μ-loop
 block-requires c κs = (omega arith, c .before .loop .inv .5, omega arith)
@@ -94,7 +93,6 @@ events-spec =
     (tie.spec
     Inv-loop
     μ-loop
-    sub-lesser
     lesser-requires
     start-requires
     loop-holds

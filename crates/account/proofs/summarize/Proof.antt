@@ -1,10 +1,15 @@
 -- A header that stands leaves all behind it to `events`; one that does not is the record's fault.
 -- Assumes nothing.
-use mathlib.Core.Path.{_≡_, sym, _∙_}
+use Prim.Native.Nat.{_-_}
+use mathlib.Core.Path.{_≡_, sym, ap, _∙_}
+use native.Mathlib.Omega.{arith}
 use borrow.Author.Needs.{needs}
+use lib.ListN.{length, drop, length-drop}
+use lib.Seq.{take-all}
 use Rattle.record.specs.declared.Header.the-variants.{Settings, Unreadable}
 use Rattle.record.specs.Step.{headerOf}
 use Rattle.record.proofs.Steps.{header-stands}
+use Rattle.account.specs.Account.{eventsOf}
 use Rattle.account.proofs.Rest.{rest-start, rest-unreadable}
 use Rattle.account.proofs.summarize.Statement.{statement}
 use Rattle.account.proofs.summarize.Tie as tie
@@ -15,21 +20,31 @@ header-of-requires c κs = search needs
 enum-known-limits : tie.Need-enum-known-limits
 enum-known-limits c = search needs
 
+-- the header that was found stands
+header-found : (c : tie.After-known-told) → headerOf (c .before .before .before .before .before .args .s .now) ≡ Settings (c .before .limits .given .0 .0)
+header-found c = cc
+
+sub-events : tie.Need-sub-events
+sub-events c = header-stands _ _ (header-found c) .long
+
+part-events-start : tie.Need-part-events-start
+part-events-start c = header-stands _ _ (header-found c) .long
+
+part-events-end : tie.Need-part-events-end
+part-events-end c = search needs
+
 events-requires : tie.Need-events-requires
-events-requires c κs =
-    let a = c .before .before .before .before .before .args in
-    let e : headerOf (a .s .now) ≡ Settings (c .before .limits .given .0 .0) = cc in
-    let h = header-stands (a .s .now) _ e in
-    (h .long, h .in-range)
+events-requires c κs = header-stands _ _ (header-found (c .before)) .in-range
 
 enum-known-fault : tie.Need-enum-known-fault
 enum-known-fault c = search needs
 
 returns : tie.Need-returns
 returns c =
-    let a = c .before .before .before .before .before .before .args in
-    let e : headerOf (a .s .now) ≡ Settings (c .before .before .limits .given .0 .0) = cc in
-    c .events .ensures ∙ sym (rest-start (a .s .now) _ (λ j. c .before .before .before .before .before .shared-slice-known .given j .fits) e)
+    let xs = c .before .before .before .before .before .before .before .args .s .now in
+    c .events .ensures
+    ∙ ap (eventsOf _) (take-all (length xs - 14) (drop 14 xs) (omega (arith, length-drop 14 xs)))
+    ∙ sym (rest-start xs _ (header-found (c .before .before)))
 
 returns-2 : tie.Need-returns-2
 returns-2 c =
@@ -43,6 +58,9 @@ summarize-spec =
     (tie.spec
     header-of-requires
     enum-known-limits
+    sub-events
+    part-events-start
+    part-events-end
     events-requires
     enum-known-fault
     returns

@@ -1,56 +1,61 @@
--- What is left of the chunk, fed from here, gives what the whole chunk gives from the start.
+-- The lead and the rest are the chunk.
 -- Assumes nothing.
-use Prim.Native.Nat.{_+_, _-_, _≤_}
-use mathlib.Core.Path.{_≡_, refl, sym, ap, _∙_}
+use Prim.Native.Nat.{_-_}
+use mathlib.Core.Path.{sym, ap, _∙_}
 use native.Mathlib.Omega.{arith}
-use lib.ListN.{length, drop}
+use lib.ListN.{length, take, drop, length-drop, take-append-drop}
+use lib.Seq.{length-take-le, take-all}
 use Rattle.feed.specs.Feed.{fedOf}
-use Rattle.feed.proofs.Rows.{fed-next, fed-end}
+use Rattle.feed.proofs.Promises.{fed-chunks}
+use borrow.Author.Needs.{needs}
 use Rattle.feed.proofs.Feed.feed.Statement.{statement}
 use Rattle.feed.proofs.Feed.feed.Tie as tie
 
-abbrev Inv-loop : tie.InvT-loop
-Inv-loop chunk next₀ i₀ next i = (i ≤ length chunk) × (fedOf next (drop i chunk) ≡ fedOf next₀ chunk)
+missing-requires : tie.Need-missing-requires
+missing-requires c κs = search needs
 
-abbrev μ-loop : tie.MeasureT-loop
-μ-loop chunk next₀ i₀ next i = length chunk - i
+lesser-requires : tie.Need-lesser-requires
+lesser-requires c κs = search needs
 
-loop-holds : tie.Need-loop-holds Inv-loop μ-loop
-loop-holds c = (omega arith, refl)
+slice-aggregate-bytes : tie.Need-slice-aggregate-bytes
+slice-aggregate-bytes c = sym (length-take-le _ _ (omega arith))
 
-shared-slice-read-byte : tie.Need-shared-slice-read-byte Inv-loop μ-loop
-shared-slice-read-byte c = omega arith
+bytes-requires : tie.Need-bytes-requires
+bytes-requires c κs = search needs
 
-byte-requires : tie.Need-byte-requires Inv-loop μ-loop
-byte-requires c κs = tt
+sub-events : tie.Need-sub-events
+sub-events c = search needs
 
-add-i : tie.Need-add-i Inv-loop μ-loop
-add-i c = omega arith
+part-events-start : tie.Need-part-events-start
+part-events-start c = search needs
 
-loop-less : tie.Need-loop-less Inv-loop μ-loop
-loop-less c = omega arith
+part-events-end : tie.Need-part-events-end
+part-events-end c = search needs
 
-loop-again : tie.Need-loop-again Inv-loop μ-loop
-loop-again c =
-    let xs = c .before .before .before .before .before .args .chunk .now in
-    let at = c .before .before .before .loop in
-    (omega arith, ap (λ f. fedOf f (drop (at .i + 1) xs)) (c .byte .ensures) ∙ sym (fed-next (at .next) xs (at .i) (omega arith)) ∙ at .inv .1)
+events-requires : tie.Need-events-requires
+events-requires c κs = search needs
 
-returns : tie.Need-returns Inv-loop μ-loop
+returns : tie.Need-returns
 returns c =
-    let at = c .before .loop in
-    sym (fed-end (at .next) (c .before .before .before .args .chunk .now) (at .i) (omega arith)) ∙ at .inv .1
+    let a = c .before .before .before .before .before .before .before .args in
+    let lead = c .before .before .before .before .lesser .result in
+    let xs = a .chunk .now in
+    c .events .ensures
+    ∙ ap (λ f. fedOf f (take (length xs - lead) (drop lead xs))) (c .before .before .bytes .ensures)
+    ∙ ap (fedOf (fedOf (a .self) (take lead xs))) (take-all (length xs - lead) (drop lead xs) (omega (arith, length-drop lead xs)))
+    ∙ sym (fed-chunks (a .self) (take lead xs) (drop lead xs))
+    ∙ ap (fedOf (a .self)) (take-append-drop lead xs)
 
 pub feed-spec : {M : Type 1} → statement M
 feed-spec =
     tie.close
     (tie.spec
-    Inv-loop
-    μ-loop
-    loop-holds
-    shared-slice-read-byte
-    byte-requires
-    add-i
-    loop-less
-    loop-again
+    missing-requires
+    lesser-requires
+    slice-aggregate-bytes
+    bytes-requires
+    sub-events
+    part-events-start
+    part-events-end
+    events-requires
     returns)

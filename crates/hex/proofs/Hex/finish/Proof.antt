@@ -6,17 +6,17 @@ use borrow.Author.Needs.{needs}
 use Rattle.hex.proofs.Hex.finish.Statement.{statement}
 use Rattle.hex.proofs.Hex.finish.Tie as tie
 
-is-whole-requires : tie.Need-is-whole-requires
-is-whole-requires c κs = search needs
+is-text-requires : tie.Need-is-text-requires
+is-text-requires c κs = search needs
 
 finish-requires : tie.Need-finish-requires
 finish-requires c κs = search needs
 
 returns : tie.Need-returns
-returns c = c .finish .ensures ∙ sym (finish-whole _ (sym (c .before .before .is-whole .ensures) ∙ c .before .if1 .taken))
+returns c = c .finish .ensures ∙ sym (finish-whole _ (sym (c .before .before .is-text .ensures) ∙ c .before .if1 .taken))
 
 returns-2 : tie.Need-returns-2
-returns-2 c = sym (finish-cut _ (sym (c .before .is-whole .ensures) ∙ c .if1 .left))
+returns-2 c = sym (finish-cut _ (sym (c .before .is-text .ensures) ∙ c .if1 .left))
 
 pub finish-spec : {M : Type 1} → statement M
-finish-spec = tie.close (tie.spec is-whole-requires finish-requires returns returns-2)
+finish-spec = tie.close (tie.spec is-text-requires finish-requires returns returns-2)

@@ -9,6 +9,11 @@
 //! when a refusal that a function can give was never reached or one that it can't give
 //! was, or when something else that must come up never did.
 
+/// The library's calls, from `host/calls.def`. Not every one is compared here.
+#[allow(dead_code)]
+mod calls {
+    include!(concat!(env!("OUT_DIR"), "/calls.rs"));
+}
 mod record;
 mod ring;
 #[cfg(feature = "station")]

@@ -1,5 +1,6 @@
 //! Records and summaries: random calls, every answer and every lent byte compared.
 
+use crate::calls::{rpr_join, rpr_settle, rpr_summarize};
 use model::host::{self, SUMMARY_LENGTH};
 use model::lent::Lent;
 use model::make;
@@ -9,19 +10,6 @@ use model::report::{notation, Call, Outcome};
 use model::summary::{self, Summary};
 use model::tally::{self, Tally};
 use model::text;
-
-extern "C" {
-    fn rpr_summarize(record: *const u8, length: usize, room: *mut u8, room_length: usize) -> u64;
-    fn rpr_join(
-        first: *const u8,
-        first_length: usize,
-        second: *const u8,
-        second_length: usize,
-        room: *mut u8,
-        room_length: usize,
-    ) -> u64;
-    fn rpr_settle(summary: *const u8, length: usize, start: u64) -> u64;
-}
 
 /// One in so many rounds is about a record of a million events.
 const ROUNDS_PER_MILLION: usize = 5_000;

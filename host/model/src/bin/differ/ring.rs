@@ -1,22 +1,10 @@
 //! Ringlet choice and path: every small ring, then random rings and random arguments.
 
+use crate::calls::{rpr_choose, rpr_path};
 use model::host;
 use model::random::Random;
 use model::report::Outcome;
 use model::tally::{self, Tally};
-
-extern "C" {
-    fn rpr_choose(
-        stations: u64,
-        own: u64,
-        target: u64,
-        links: u64,
-        side: u64,
-        protection: u64,
-        ring: u64,
-    ) -> u64;
-    fn rpr_path(stations: u64, own: u64, target: u64, links: u64, home: u64) -> u64;
-}
 
 /// The arguments that both calls share.
 #[derive(Clone, Copy)]

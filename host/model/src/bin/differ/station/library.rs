@@ -1,27 +1,7 @@
 //! The library's calls on a station.
 
+use crate::calls::*;
 use model::station_call::Call;
-
-extern "C" {
-    fn rpr_station_length() -> u64;
-    fn rpr_start(settings: *const u8, length: usize, station: *mut u8, n: usize) -> u64;
-    fn rpr_tick(station: *mut u8, n: usize, a_waits: u64, b_waits: u64, c_waits: u64) -> u64;
-    fn rpr_offer_client(station: *mut u8, n: usize, class: u64, size: u64, hops: u64) -> u64;
-    fn rpr_offer_transit(
-        station: *mut u8,
-        n: usize,
-        class: u64,
-        size: u64,
-        hops: u64,
-        eligible: u64,
-    ) -> u64;
-    fn rpr_offer_control(station: *mut u8, n: usize, size: u64) -> u64;
-    fn rpr_select(station: *mut u8, n: usize) -> u64;
-    fn rpr_age(station: *mut u8, n: usize) -> u64;
-    fn rpr_read_frame(station: *mut u8, n: usize, frame: *const u8, length: usize) -> u64;
-    fn rpr_write_frame(station: *const u8, n: usize, room: *mut u8, length: usize) -> u64;
-    fn rpr_show(station: *const u8, n: usize, room: *mut u8, length: usize) -> u64;
-}
 
 pub fn station_length() -> usize {
     // SAFETY: nothing crosses but the answer.

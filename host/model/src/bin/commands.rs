@@ -1,0 +1,320 @@
+//! The commands `rpr summarize` and `rpr join` against the model.
+//!
+//! `commands SEED ROUNDS FOLDER COMMAND`: makes random records, runs COMMAND on each as bytes and
+//! as hex text, by name and through a pipe, cuts those that are whole in pieces and joins the
+//! pieces' summaries, and joins random summaries. Standard output, standard error and the exit
+//! status must be the model's.
+//!
+//! Prints how often each thing came up. Ends with 1 on the first difference, or where something
+//! never came up. The last round's files stay in FOLDER.
+
+use model::command::{self, File, Given, Said, Shown};
+use model::random::Random;
+use model::record::{self, Record, EVENT_LENGTH, HEADER_LENGTH, MOST_EVENTS};
+use model::refusal::Refusal;
+use model::report::Outcome;
+use model::summary::Summary;
+use model::trial::{self, Seen};
+use model::{host, make, make_text};
+use std::env;
+use std::fs;
+use std::io::Write;
+use std::process::{Child, Command, ExitCode, Output, Stdio};
+use std::thread;
+use std::time::Duration;
+
+const USAGE: &str = "usage: commands SEED ROUNDS FOLDER COMMAND";
+
+type Way = (&'static str, fn(&mut Random, usize) -> Vec<u8>);
+
+/// The ways to make a record, which a run takes in turn.
+const WAYS: &[Way] = &[
+    ("a whole record", |random, _| whole(random)),
+    ("a refused record", make::refused),
+    ("a record cut short", |random, _| {
+        let bytes = whole(random);
+        bytes[..random.below(bytes.len())].to_vec()
+    }),
+    ("a long record", long),
+    ("a long record with a fault", long_fault),
+];
+
+/// The ways that are taken once.
+const MILLIONS: &[Way] = &[
+    ("a million events", |random, _| {
+        make::mixed_record(random, MOST_EVENTS).to_bytes()
+    }),
+    ("a million events and a byte", |random, _| {
+        let mut bytes = make::long_record(random, MOST_EVENTS).to_bytes();
+        bytes.push(random.word() as u8);
+        bytes
+    }),
+];
+
+/// Lengths beside those that a program may read at a time: 5,000 events, and blocks of 8 to
+/// 64 KiB of bytes and of hex.
+const LENGTHS: [usize; 8] = [2_728, 4_999, 5_000, 5_001, 5_459, 10_001, 10_920, 21_840];
+
+/// How an input is brought.
+const BROUGHT: [&str; 4] = ["by name", "by -", "as standard input", "through a pipe"];
+
+/// What must come up beside the ways to make a record and to bring it.
+const OUTCOMES: &[&str] = &[
+    "summarize: done",
+    "summarize: refused 1",
+    "summarize: refused 2",
+    "summarize: refused 3",
+    "summarize: refused 9",
+    "text that is not hex",
+    "join of pieces: done",
+    "join: done",
+    "join: refused 2",
+    "join: refused 3",
+    "join: refused 10",
+    "join: refused 9",
+];
+
+fn whole(random: &mut Random) -> Vec<u8> {
+    make::some(random).to_bytes()
+}
+
+fn long(random: &mut Random, turn: usize) -> Vec<u8> {
+    let length = LENGTHS[turn % LENGTHS.len()];
+    make::mixed_record(random, length).to_bytes()
+}
+
+fn long_fault(random: &mut Random, turn: usize) -> Vec<u8> {
+    loop {
+        let mut bytes = long(random, turn);
+        make::damage(random, &mut bytes);
+        if record::read(&bytes).is_err() {
+            return bytes;
+        }
+    }
+}
+
+struct Trial {
+    random: Random,
+    command: String,
+    folder: String,
+    seen: Seen,
+}
+
+impl Trial {
+    /// A record in every form, its pieces, and random summaries.
+    fn round(&mut self, (name, make): &Way, turn: usize) -> Outcome<()> {
+        let bytes = make(&mut self.random, turn);
+        let text = make_text::hex(&mut self.random, turn, &bytes);
+        for shown in [Shown::Lines, Shown::Sheet] {
+            self.summarized(&bytes, Given::Bytes, shown)?;
+            self.summarized(&text, Given::Text, shown)?;
+        }
+        let found = record::read(&bytes);
+        // A record's own 2 and that of the text have words of their own: one of them at a time.
+        if found != Err(Refusal::Bytes) {
+            let mut text = text;
+            make_text::spoil(&mut self.random, &mut text);
+            self.summarized(&text, Given::Text, Shown::Lines)?;
+            self.seen.add("text that is not hex");
+        }
+        if let Ok(record) = found {
+            self.pieces(&record)?;
+        }
+        self.summaries()?;
+        self.seen.add(name);
+        Ok(())
+    }
+
+    /// `rpr summarize` on this input.
+    fn summarized(&mut self, input: &[u8], given: Given, shown: Shown) -> Outcome<Vec<u8>> {
+        let brought = self.random.pick(&BROUGHT);
+        let file = self.write("record", input)?;
+        let mut words: Vec<&str> = Vec::new();
+        words.extend((given == Given::Bytes).then_some("--bytes"));
+        words.extend((shown == Shown::Sheet).then_some("--sheet"));
+        let name = match brought {
+            "by name" => file.as_str(),
+            _ => "standard input",
+        };
+        words.extend(match brought {
+            "by name" => Some(file.as_str()),
+            "by -" => Some("-"),
+            _ => None,
+        });
+        self.shuffle(&mut words);
+        words.insert(0, "summarize");
+        let got = match brought {
+            "by name" => self.ran(&words, Stdio::null(), None)?,
+            "through a pipe" => self.ran(&words, Stdio::piped(), Some(input))?,
+            _ => self.ran(&words, open(&file)?, None)?,
+        };
+        let expected = command::summarize(&(name.to_string(), input.to_vec()), given, shown);
+        self.hold("summarize", &words, &expected, &got)?;
+        self.seen.add(brought);
+        Ok(got.stdout)
+    }
+
+    /// The record cut in 1 to 20 pieces, each summarized on its own: joined, the whole's summary.
+    fn pieces(&mut self, record: &Record) -> Outcome<()> {
+        let events = record.events.len();
+        let count = self.random.below(20);
+        let mut ends: Vec<usize> = (0..count).map(|_| self.random.below(events + 1)).collect();
+        ends.extend([0, events]);
+        ends.sort();
+        let mut files = Vec::new();
+        for (place, ends) in ends.windows(2).enumerate() {
+            let piece = record.piece(ends[0], ends[1]).to_bytes();
+            let sheet = self.summarized(&piece, Given::Bytes, Shown::Sheet)?;
+            files.push((self.write(&format!("piece-{place}"), &sheet)?, sheet));
+        }
+        let whole = ("whole".to_string(), record.to_bytes());
+        for shown in [Shown::Lines, Shown::Sheet] {
+            let expected = command::summarize(&whole, Given::Bytes, shown);
+            self.joined(&files, shown, expected, "join of pieces")?;
+        }
+        Ok(())
+    }
+
+    /// Random summaries, one of them perhaps out of range, of another length or under other
+    /// settings.
+    fn summaries(&mut self) -> Outcome<()> {
+        let settings = make::settings(&mut self.random);
+        let count = 1 + self.random.below(5);
+        let mut files = Vec::new();
+        for place in 0..count {
+            let sheet = self.sheet(settings);
+            files.push((self.write(&format!("sheet-{place}"), &sheet)?, sheet));
+        }
+        for shown in [Shown::Lines, Shown::Sheet] {
+            let expected = command::join(&files, shown).ok_or("no file")?;
+            self.joined(&files, shown, expected, "join")?;
+        }
+        Ok(())
+    }
+
+    fn sheet(&mut self, settings: record::Settings) -> Vec<u8> {
+        let random = &mut self.random;
+        let summary = make::summary_of(random, settings);
+        match random.below(12) {
+            0 => host::to_bytes(&make::summary_near(random, summary)),
+            1 => {
+                let other = make::settings_beside(random, settings);
+                host::to_bytes(&Summary::empty(other))
+            }
+            2 => {
+                let length = make::wrong_length(random, host::SUMMARY_LENGTH);
+                let mut bytes = host::to_bytes(&summary);
+                bytes.resize(length, 0);
+                bytes
+            }
+            _ => host::to_bytes(&summary),
+        }
+    }
+
+    /// `rpr join` on these files.
+    fn joined(&mut self, files: &[File], shown: Shown, expected: Said, what: &str) -> Outcome<()> {
+        let mut words = vec!["join"];
+        words.extend(files.iter().map(|(name, _)| name.as_str()));
+        if shown == Shown::Sheet {
+            words.insert(1 + self.random.below(files.len() + 1), "--sheet");
+        }
+        let got = self.ran(&words, Stdio::null(), None)?;
+        self.hold(what, &words, &expected, &got)
+    }
+
+    fn hold(&mut self, what: &str, words: &[&str], expected: &Said, got: &Output) -> Outcome<()> {
+        let words = words.join(" ");
+        trial::hold(expected, got).map_err(|fault| format!("rpr {words}: {fault}"))?;
+        let refused = expected.error.split("refused ").nth(1);
+        let number = refused.and_then(|words| words.split(':').next());
+        let outcome = number.map_or("done".to_string(), |number| format!("refused {number}"));
+        self.seen.add(&format!("{what}: {outcome}"));
+        Ok(())
+    }
+
+    /// The command with these words. What is brought through a pipe comes in chunks.
+    fn ran(&mut self, words: &[&str], input: Stdio, piped: Option<&[u8]>) -> Outcome<Output> {
+        let mut command = Command::new(&self.command);
+        command.args(words).stdin(input);
+        command.stdout(Stdio::piped()).stderr(Stdio::piped());
+        let fault = |fault| format!("{}: {fault}", self.command);
+        let mut child = command.spawn().map_err(fault)?;
+        if let Some(bytes) = piped {
+            feed(&mut self.random, &mut child, bytes);
+        }
+        child.wait_with_output().map_err(fault)
+    }
+
+    fn write(&self, name: &str, bytes: &[u8]) -> Outcome<String> {
+        let file = format!("{}/{name}", self.folder);
+        fs::write(&file, bytes).map_err(|fault| format!("{file}: {fault}"))?;
+        Ok(file)
+    }
+
+    fn shuffle(&mut self, words: &mut [&str]) {
+        for place in 1..words.len() {
+            words.swap(place, self.random.below(place + 1));
+        }
+    }
+}
+
+fn open(name: &str) -> Outcome<Stdio> {
+    let file = fs::File::open(name).map_err(|fault| format!("{name}: {fault}"))?;
+    Ok(file.into())
+}
+
+/// Chunks of random sizes into standard input, with a pause behind some. A command that ends
+/// before all is read is held to the model like any other.
+fn feed(random: &mut Random, child: &mut Child, mut bytes: &[u8]) {
+    let mut pipe = child.stdin.take().expect("a pipe was asked for");
+    let most = random.pick(&[1, 7, HEADER_LENGTH, 100 * EVENT_LENGTH, 70_000]);
+    let most = most.max(bytes.len() / 500);
+    while !bytes.is_empty() {
+        let (chunk, rest) = bytes.split_at(bytes.len().min(1 + random.below(most)));
+        if pipe.write_all(chunk).is_err() {
+            return;
+        }
+        bytes = rest;
+        if random.one_in(20) {
+            thread::sleep(Duration::from_micros(200));
+        }
+    }
+}
+
+/// Every round.
+fn run(trial: &mut Trial, rounds: usize) -> Outcome<()> {
+    let ways = (0..rounds).map(|turn| (&WAYS[turn % WAYS.len()], turn / WAYS.len()));
+    for (turn, (way, before)) in ways.chain(MILLIONS.iter().map(|way| (way, 0))).enumerate() {
+        let done = trial.round(way, before);
+        done.map_err(|fault| format!("round {turn}, {}: {fault}", way.0))?;
+    }
+    Ok(())
+}
+
+/// Every way and every outcome.
+fn required() -> Vec<String> {
+    let ways = WAYS.iter().chain(MILLIONS).map(|(name, _)| *name);
+    let names = ways.chain(BROUGHT).chain(OUTCOMES.iter().copied());
+    names.map(str::to_string).collect()
+}
+
+fn main() -> ExitCode {
+    let words: Vec<String> = env::args().skip(1).collect();
+    let [seed, rounds, folder, command] = &words[..] else {
+        eprintln!("{USAGE}");
+        return ExitCode::from(2);
+    };
+    let (Ok(seed), Ok(rounds)) = (seed.parse(), rounds.parse()) else {
+        eprintln!("{USAGE}");
+        return ExitCode::from(2);
+    };
+    let mut trial = Trial {
+        random: Random::new(seed),
+        command: command.clone(),
+        folder: folder.clone(),
+        seen: Seen::default(),
+    };
+    let difference = run(&mut trial, rounds);
+    let name = format!("commands: seed {seed}");
+    trial.seen.end(&name, &required(), difference)
+}

@@ -1,0 +1,132 @@
+//! What the command `rpr` does, by the bytes that it is given: standard output, standard
+//! error and the exit status.
+
+use crate::compare;
+use crate::host;
+use crate::record;
+use crate::refusal::Refusal;
+use crate::summary::Summary;
+use crate::text;
+
+/// A file's name, as messages have it, and its bytes.
+pub type File = (String, Vec<u8>);
+
+/// What a run leaves.
+#[derive(Debug, PartialEq, Eq)]
+pub struct Said {
+    pub output: Vec<u8>,
+    pub error: String,
+    pub status: i32,
+}
+
+/// How a record is given: "hex text", or "with --bytes the bytes themselves".
+#[derive(Clone, Copy, Debug, PartialEq, Eq)]
+pub enum Given {
+    Text,
+    Bytes,
+}
+
+/// How a summary is shown: "the six lines", or "with --sheet the 48 bytes".
+#[derive(Clone, Copy, Debug, PartialEq, Eq)]
+pub enum Shown {
+    Lines,
+    Sheet,
+}
+
+/// A refusal, and what is said of it.
+type Fault = (Refusal, &'static str);
+
+const NOT_HEX: &str = "hex is expected, and this is other text; --bytes reads bytes";
+
+/// "0 done, 1 refused", of summarize and join.
+fn answered(name: &str, answer: Result<Summary, Fault>, shown: Shown) -> Said {
+    let fault = answer.err();
+    let answer = answer.map_err(|(refusal, _)| refusal);
+    Said {
+        output: match (shown, &answer) {
+            (Shown::Lines, _) => text::show(answer).into_bytes(),
+            (Shown::Sheet, Ok(summary)) => host::to_bytes(summary),
+            // "a refusal then prints nothing on standard output"
+            (Shown::Sheet, Err(_)) => Vec::new(),
+        },
+        status: i32::from(fault.is_some()),
+        error: fault.map_or(String::new(), |fault| refused(name, fault)),
+    }
+}
+
+/// "a refusal: `rpr: NAME: refused N: WORDS`, in every command and with --sheet too"
+fn refused(name: &str, (refusal, words): Fault) -> String {
+    format!("rpr: {name}: refused {}: {words}\n", refusal.number())
+}
+
+/// "the summary of a shaper record"
+pub fn summarize((name, input): &File, given: Given, shown: Shown) -> Said {
+    let record = match given {
+        Given::Text => text::decode(input).map_err(|refusal| (refusal, NOT_HEX)),
+        Given::Bytes => Ok(input.clone()),
+    };
+    let summary = record.and_then(|bytes| text::summarize(&bytes).map_err(of_record));
+    answered(name, summary, shown)
+}
+
+/// What is said of a record's refusal.
+fn of_record(refusal: Refusal) -> Fault {
+    let words = match refusal {
+        Refusal::Setting => "a setting is outside its range",
+        Refusal::Bytes => "the bytes are not a whole record",
+        Refusal::Range => "the size of a send is outside its range",
+        Refusal::Events => "over 1,000,000 events",
+        _ => unreachable!("no record is refused so"),
+    };
+    (refusal, words)
+}
+
+/// "The first refusal counts, and its file is named." None where no file is given.
+pub fn join(files: &[File], shown: Shown) -> Option<Said> {
+    let mut joined = None;
+    for (name, bytes) in files {
+        match onto(joined, bytes) {
+            Ok(summary) => joined = Some(summary),
+            Err(refusal) => return Some(answered(name, Err(of_join(refusal)), shown)),
+        }
+    }
+    joined.map(|summary| answered("", Ok(summary), shown))
+}
+
+/// "not 48 bytes 2; the summary out of its range 3; settings other than those before 10;
+/// with those before over 1,000,000 events 9"
+fn onto(before: Option<Summary>, bytes: &[u8]) -> Result<Summary, Refusal> {
+    let summary = host::from_bytes(bytes)?;
+    if !summary.in_range() {
+        return Err(Refusal::Range);
+    }
+    before.map_or(Ok(summary), |before| before.join(&summary))
+}
+
+/// What is said of a file that is not joined.
+fn of_join(refusal: Refusal) -> Fault {
+    let words = match refusal {
+        Refusal::Bytes => "not the 48 bytes of a summary",
+        Refusal::Range => "the summary is outside its range",
+        Refusal::Settings => "its settings are not those of the files before it",
+        Refusal::Events => "over 1,000,000 events with the files before it",
+        _ => unreachable!("no join is refused so"),
+    };
+    (refusal, words)
+}
+
+/// "0 the records are the same, 1 they differ, 2 refused"
+pub fn compare(files: &[File; 2]) -> Said {
+    let [(_, first), (_, second)] = files;
+    let printed = compare::compare(first, second);
+    let same = record::read(first) == record::read(second);
+    let (error, status) = match printed.refused {
+        None => (String::new(), i32::from(!same)),
+        Some((side, refusal)) => (refused(&files[side as usize].0, of_record(refusal)), 2),
+    };
+    Said {
+        output: printed.text.into_bytes(),
+        error,
+        status,
+    }
+}
