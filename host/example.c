@@ -135,7 +135,19 @@ static void choose_way(void) {
     uint64_t way = rpr_choose(16, 0, 5, 0xffff, RPR_SIDE_DEFAULT, RPR_PROTECTED, RPR_STEERING);
     carried_out("choose", way);
     must(rpr_choice_side(way) == RPR_RIGHT && rpr_choice_distance(way) == clients[RPR_CLASS_C].hops, "5 hops right");
-    printf("The bulk copy goes right, %u hops.\n\n", rpr_choice_distance(way));
+    printf("The bulk copy goes right, %u hops.\n", rpr_choice_distance(way));
+}
+
+/* The two halls' cluster masters lie opposite each other, as far either way. By default both use the same links, so one
+ * cut cannot leave them half a connection. */
+static void choose_pair(void) {
+    uint64_t there = rpr_choose(16, 2, 10, 0xffff, RPR_SIDE_DEFAULT, RPR_PROTECTED, RPR_STEERING);
+    uint64_t back = rpr_choose(16, 10, 2, 0xffff, RPR_SIDE_DEFAULT, RPR_PROTECTED, RPR_STEERING);
+    carried_out("choose", there);
+    carried_out("choose", back);
+    must(rpr_choice_side(there) == RPR_RIGHT && rpr_choice_side(back) == RPR_LEFT, "the lower index goes right");
+    must(rpr_choice_distance(there) == 8 && rpr_choice_distance(back) == 8, "8 hops either way");
+    printf("From 2 to 10 it is right, from 10 to 2 left: the same %u links.\n\n", rpr_choice_distance(there));
 }
 
 /* C waits when B or C waits. */
@@ -283,6 +295,7 @@ int main(void) {
     start(&host);
     meet_a_refusal(&host);
     choose_way();
+    choose_pair();
     run_minute(&host);
     account_for_c(&host);
     return fflush(stdout) == 0 ? 0 : 1;

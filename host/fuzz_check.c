@@ -200,6 +200,14 @@ static void check_station(const struct request *r, uint64_t answer, int at) {
     }
 }
 
+/* By default both ends of a pair use the same links: the other end is refused alike, or answered the same but for the side. */
+static void check_pair(const struct request *r, uint64_t answer, unsigned number) {
+    const uint64_t *n = r->numbers;
+    if (r->call != call_choose || (n[4] != RPR_SIDE_UNSPECIFIED && n[4] != RPR_SIDE_DEFAULT)) return;
+    uint64_t back = rpr_choose(n[0], n[2], n[1], n[3], n[4], n[5], n[6]);
+    if ((answer ^ back) != (number == 0 ? (RPR_LEFT ^ RPR_RIGHT) << 8 : 0)) fail(r, answer, "the two ends of a pair part");
+}
+
 /* Plain C answers the same and leaves the same bytes. */
 static void check_plain(const struct request *r, uint64_t answer) {
     static uint8_t theirs[PARAMETERS][MOST_LENGTH];
@@ -226,6 +234,7 @@ unsigned make(struct request *r) {
     check_slices(r, answer, number);
     for (int i = 0; i < PARAMETERS; i++)
         if (signatures[r->call].parameters[i].holds == HOLDS_station) check_station(r, answer, i);
+    check_pair(r, answer, number);
     check_plain(r, answer);
     tally[r->call][number]++;
     for (int i = 0; i < PARAMETERS; i++)

@@ -34,7 +34,7 @@ uint64_t plain_choose(uint64_t stations, uint64_t own, uint64_t target, uint64_t
     if (number != 0) return number;
     if (side > DEFAULT || protection > UNPROTECTED || ring > 1) return 3;
     uint64_t right = target > own ? target - own : target + stations - own, left = stations - right;
-    if (side == UNSPECIFIED || side == DEFAULT) side = right <= left ? RIGHT : LEFT;
+    if (side == UNSPECIFIED || side == DEFAULT) side = right < left || (right == left && own < target) ? RIGHT : LEFT;
     if (protection != UNPROTECTED && !reaches(stations, own, target, links, side)) {
         side = side == RIGHT ? LEFT : RIGHT;
         if (!reaches(stations, own, target, links, side)) return 8;

@@ -26,7 +26,7 @@
 #include <stdint.h>
 
 /* The version of this interface. The first number grows where a host has to change what it calls or lends. */
-#define RPR_VERSION "1.1"
+#define RPR_VERSION "1.2"
 
 #ifdef __cplusplus
 extern "C" {
@@ -93,7 +93,8 @@ enum rpr_side {
     RPR_SIDE_UNSPECIFIED = 0, /* as the default */
     RPR_LEFT = 1,
     RPR_RIGHT = 2,
-    RPR_SIDE_DEFAULT = 3 /* the shorter side, of protected frames the shorter that reaches; right on a tie */
+    RPR_SIDE_DEFAULT = 3 /* the shorter side, of protected frames the shorter that reaches; on a tie right from the
+                            lower index and left from the higher */
 };
 
 /* Whether a frame may take the other side where links are down. */
@@ -275,7 +276,11 @@ RPR_LENT uint64_t rpr_show(const void *station, size_t station_length, void *roo
 /* Which side a frame takes from station `own` to station `target` of a ring of 2 to 63, numbered from 0. `links` has a
  * bit for each link, set if usable: link k joins k and k + 1, the last joins 0. Codes: enum rpr_side, rpr_protection,
  * rpr_ring. Answers side, distance, ttl and wrap mark: rpr_choice_side and so on. Refuses 1 (not 2 to 63 stations),
- * 3 (an index, equal indexes, a bit beyond the links, a code), 8. */
+ * 3 (an index, equal indexes, a bit beyond the links, a code), 8.
+ *
+ * By default both ends of a pair, given the same `links` and `protection`, cross the same links, so that a cut breaks
+ * both ways between them or none. Up to version 1.1 a tie went right from either end: a host that relied on this must
+ * name RPR_RIGHT where twice the distance is `stations`. */
 RPR_ANSWERS uint64_t rpr_choose(uint64_t stations, uint64_t own, uint64_t target, uint64_t links, uint64_t side,
                                 uint64_t protection, uint64_t ring);
 

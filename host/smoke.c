@@ -167,10 +167,45 @@ static void choices(void) {
     chosen("right, where it reaches", rpr_choose(5, 0, 2, 0x1d, RPR_RIGHT, SAFE, WRAP), RPR_LEFT, 3, 63, 1);
     chosen("right, regardless", rpr_choose(5, 0, 2, 0x1d, RPR_RIGHT, BOLD, WRAP), RPR_RIGHT, 2, 63, 0);
     chosen("the shorter, regardless", rpr_choose(5, 0, 2, 0, RPR_SIDE_DEFAULT, BOLD, STEER), RPR_RIGHT, 2, 2, 0);
-    chosen("a tie", rpr_choose(4, 3, 1, 0xf, RPR_SIDE_DEFAULT, SAFE, STEER), RPR_RIGHT, 2, 2, 0);
     chosen("the last link", rpr_choose(63, 62, 0, (uint64_t)1 << 62, RPR_LEFT, SAFE, STEER), RPR_RIGHT, 1, 1, 0);
     expect("P11", rpr_choose(5, 0, 2, 0x15, RPR_RIGHT, SAFE, STEER), RPR_NO_WAY);
     expect("P11, default", rpr_choose(5, 0, 2, 0x15, RPR_SIDE_DEFAULT, SAFE, WRAP), RPR_NO_WAY);
+}
+
+/* Four stations, 1 and 3: links 1 and 2 lie right of 1 and left of 3, links 3 and 0 on the other side. */
+static void ties(void) {
+    enum { SAFE = RPR_PROTECTED, BOLD = RPR_UNPROTECTED, STEER = RPR_STEERING, WRAP = RPR_WRAPPING };
+    chosen("a tie, from the lower", rpr_choose(4, 1, 3, 0xf, RPR_SIDE_DEFAULT, SAFE, STEER), RPR_RIGHT, 2, 2, 0);
+    chosen("a tie, from the higher", rpr_choose(4, 3, 1, 0xf, RPR_SIDE_DEFAULT, SAFE, STEER), RPR_LEFT, 2, 2, 0);
+    chosen("a tie, nothing specified", rpr_choose(4, 3, 1, 0xf, 0, 0, WRAP), RPR_LEFT, 2, 63, 1);
+    chosen("a tie, regardless", rpr_choose(4, 3, 1, 0x9, RPR_SIDE_DEFAULT, BOLD, STEER), RPR_LEFT, 2, 2, 0);
+    chosen("a tie, link 1 down, there", rpr_choose(4, 1, 3, 0xd, RPR_SIDE_DEFAULT, SAFE, STEER), RPR_LEFT, 2, 2, 0);
+    chosen("a tie, link 1 down, back", rpr_choose(4, 3, 1, 0xd, RPR_SIDE_DEFAULT, SAFE, STEER), RPR_RIGHT, 2, 2, 0);
+    chosen("a tie, right named", rpr_choose(4, 3, 1, 0xf, RPR_RIGHT, SAFE, STEER), RPR_RIGHT, 2, 2, 0);
+    chosen("two stations, there", rpr_choose(2, 0, 1, 0x3, RPR_SIDE_DEFAULT, SAFE, STEER), RPR_RIGHT, 1, 1, 0);
+    chosen("two stations, back", rpr_choose(2, 1, 0, 0x3, RPR_SIDE_DEFAULT, SAFE, STEER), RPR_LEFT, 1, 1, 0);
+    expect("a tie, links 1 and 3 down", rpr_choose(4, 3, 1, 0x5, RPR_SIDE_DEFAULT, SAFE, STEER), RPR_NO_WAY);
+}
+
+/* The two ends answer the same but for the side, which is the other. */
+static void together(uint64_t stations, uint64_t a, uint64_t b, uint64_t links, uint64_t protection) {
+    uint64_t there = rpr_choose(stations, a, b, links, RPR_SIDE_DEFAULT, protection, RPR_STEERING);
+    uint64_t back = rpr_choose(stations, b, a, links, RPR_SIDE_DEFAULT, protection, RPR_STEERING);
+    expect("a pair", rpr_refusal_of(there), 0);
+    expect("a pair", there ^ back, (RPR_LEFT ^ RPR_RIGHT) << 8);
+}
+
+/* Each two stations of a ring of 62, with each link cut in turn and at last with none: with one cut some side reaches. */
+static void pairs(void) {
+    enum { STATIONS = 62 };
+    uint64_t all = (UINT64_C(1) << STATIONS) - 1;
+    for (uint64_t a = 0; a < STATIONS; a++)
+        for (uint64_t b = 0; b < a; b++)
+            for (uint64_t cut = 0; cut <= STATIONS; cut++) {
+                uint64_t links = all & ~(UINT64_C(1) << cut);
+                together(STATIONS, a, b, links, RPR_PROTECTED);
+                together(STATIONS, a, b, links, RPR_UNPROTECTED);
+            }
 }
 
 static void refused_choices(void) {
@@ -214,7 +249,9 @@ int main(void) {
     settlements();
     a_million();
     choices();
+    ties();
+    pairs();
     refused_choices();
     paths();
-    return told("records and rings: the library answers as document 01 says");
+    return told("records and rings: the library answers as documents 01 and 02 say");
 }

@@ -1,7 +1,7 @@
 /*
  * What the smoke tests share: expected values, and slices that are lent with guard bytes around them.
  *
- * Expected values are written from document 01 by hand. After each call every slice is looked at: after a refusal none
+ * Expected values are written from documents 01 and 02 by hand. After each call every slice is looked at: after a refusal none
  * has changed, else at most the one that the call may write, and guards never.
  */
 #ifndef SMOKE_H

@@ -20,6 +20,7 @@ use Rattle.rates.proofs.Formulas.{smoothed-is, aged-is, ramped-is, allowance-is
 use Rattle.answer.specs.Bytes.{bitOf}
 use Rattle.ring.specs.declared.Way.the-variants.{Left}
 use Rattle.ring.specs.Links.{nextOf}
+use Rattle.ring.proofs.Rows.{tie-lower, tie-otherwise}
 use Rattle.station.specs.declared.Station.{Station}
 use Rattle.station.specs.Show.{heldOn}
 use Rattle.paper.specs.Names.{ShaperNames, QueueNames, GoingNames, ReadingNames, RateNames, PartNames, EntryNames, HistoryNames, RingNames, ByteNames, Names}
@@ -166,6 +167,13 @@ sides =
       left-last = left-last;
       no-hop = λ way stations at. refl;
       one-hop = λ way stations at n. refl;
+      others = (refl, refl);
+      tie-lower = tie-lower;
+      tie-otherwise = tie-otherwise;
+      no-link = λ way stations at. refl;
+      one-link = λ way stations at n. refl;
+      links-told = λ stations own r. refl;
+      byte-told = λ r k. refl;
       ends = λ delivered. refl;
       over = λ link rest. refl;
     }

@@ -18,11 +18,13 @@ use Rattle.fair.specs.declared.Fair.{Fair}
 use Rattle.fair.proofs.Age as interval
 use Rattle.fair.proofs.ReadBack.{frame-read-back}
 use Rattle.ring.specs.declared.Way.{Way}
-use Rattle.ring.specs.Choosing.{reachesOf, Between, Placed}
+use Rattle.ring.specs.Choosing.{reachesOf, Placed}
+use Rattle.ring.proofs.Distances.{between}
 use Rattle.ring.proofs.Hops.{arrives, not-before, run-on, run-ends}
 use Rattle.ring.proofs.Links.{joins-next, last-joins, last-link, both-ends}
 use Rattle.ring.proofs.Bits.{ahead-exactly}
 use Rattle.ring.proofs.Rows as ring
+use Rattle.ring.proofs.Pairs.{pair-together}
 use Rattle.wrap.proofs.Courses as course
 use Rattle.wrap.specs.declared.Outcome as wrap
 use Rattle.wrap.specs.Walking.{atHome, courseOf, sideOf, pathOf}
@@ -31,6 +33,7 @@ use Rattle.wrap.proofs.Exactly.{home-exactly}
 use Rattle.ring.proofs.Faults.{placed-free}
 use Rattle.wrap.proofs.Early.{delivered-early, one-hop-more}
 use Rattle.rpr.proofs.Told.{credit-of-told}
+use Rattle.rpr.proofs.Pairs as told
 use Rattle.rpr.proofs.Kept.{kept-lent}
 use Rattle.paper.specs.Second.{Ready, Selects, Ages, Joins, Reaches, Wraps, Chooses, Sends, Condition2}
 use Rattle.paper.proofs.Rules.{ticks, charges, enters, counts, tells, reads, writes, hears}
@@ -106,7 +109,7 @@ joins stations =
 reached : (stations own target links : ℕ) → Placed stations own target links → Reaches stations own target links
 unfolding reachesOf
 reached stations own target links place =
-    let b : Between stations own target = record { small = place .small; station = place .station; reached = place .reached } in
+    let b = between place in
     record {
       arrives = arrives stations own target b (place .differ);
       not-before = not-before stations own target b (place .differ);
@@ -173,6 +176,7 @@ second-condition =
       laid = lays;
       choice-told = choice-told;
       choice-refused = choice-refused;
+      pair-told = told.pair-together;
       path-refused = path-refused;
       path-told = path-told;
       events = traces;
@@ -198,6 +202,7 @@ second-condition =
       writing = writes;
       sending = sends;
       choice = chooses;
+      pairs = pair-together;
       links = joins;
       reach = reached;
       walk = walks;

@@ -9,6 +9,8 @@ use lib.ListN.{getD, set, length, take, drop}
 use Rattle.wire.specs.Wire.{le, be, digits, put, Bytes}
 use Rattle.slots.specs.Slots.{wordsAt}
 use Rattle.rpr.specs.Reading.{wordsFrom, framesHeld}
+use Rattle.rpr.specs.Told.{answerByte}
+use Rattle.rpr.specs.Pairs.{linksTold}
 use Rattle.shaper.specs.declared.Event.the-variants.{Waiting, Idle, Send}
 use Rattle.shaper.specs.Credit as shaper
 use Rattle.settings.specs.declared.Settings.{Settings}
@@ -40,8 +42,9 @@ use Rattle.fair.specs.Count.{withCounters}
 use Rattle.answer.specs.Bytes.{bitOf}
 use Rattle.ring.specs.declared.Way.{Way}
 use Rattle.ring.specs.declared.Way.the-variants.{Left, Right}
-use Rattle.ring.specs.Links.{nextOf, stationAfter}
-use Rattle.ring.specs.Choosing.{codeOf, Placed}
+use Rattle.ring.specs.Links.{otherOf, nextOf, linkOf, stationAfter}
+use Rattle.ring.specs.Choosing.{codeOf, tieOf, Placed}
+use Rattle.ring.specs.Pairs.{linksOf}
 use Rattle.wrap.specs.Walking.{Course, ended, across, sideOf}
 use Rattle.station.specs.declared.Station.{Station}
 use Rattle.station.specs.Answers.{withFlow, withFair, refusedOf, doneOf}
@@ -254,6 +257,16 @@ pub record RingNames : Type 0 where
   -- the station so many hops on
   pub no-hop : (way : Way) (stations at : ℕ) → stationAfter way stations at 0 ≡ at
   pub one-hop : (way : Way) (stations at n : ℕ) → stationAfter way stations at (suc n) ≡ stationAfter way stations (nextOf way stations at) n
+  -- the opposite side
+  pub others : (otherOf Left ≡ Right) × (otherOf Right ≡ Left)
+  -- On a tie: right if the own index is lower than the target's, otherwise left.
+  pub tie-lower : (own target : ℕ) → own < target → tieOf own target ≡ Right
+  pub tie-otherwise : (own target : ℕ) → target ≤ own → tieOf own target ≡ Left
+  -- the links that so many hops cross; by the number that rpr_choose answers, on the side of byte 1 as many hops as byte 2 says
+  pub no-link : (way : Way) (stations at : ℕ) → linksOf way stations at 0 ≡ []
+  pub one-link : (way : Way) (stations at n : ℕ) → linksOf way stations at (suc n) ≡ linkOf way stations at ∷ linksOf way stations (nextOf way stations at) n
+  pub links-told : (stations own r : ℕ) → linksTold stations own r ≡ linksOf (sideOf (answerByte r 1)) stations own (answerByte r 2)
+  pub byte-told : (r k : ℕ) → answerByte r k ≡ getD (digits 8 r) k 0
   -- a course that ends, and one that goes over a link and then on
   pub ends : (delivered : Bool) → ended delivered ≡ record { links = []; delivered = delivered }
   pub over : (link : ℕ) (rest : Course) → across link rest ≡ record { links = link ∷ rest .links; delivered = rest .delivered }

@@ -36,7 +36,8 @@ use Rattle.ring.specs.declared.Way.{Way}
 use Rattle.ring.specs.declared.Way.the-variants.{Left, Right}
 use Rattle.ring.specs.declared.Choice.the-variants.{Chosen, Refused}
 use Rattle.ring.specs.Links.{otherOf, nextOf, linkOf, aheadOf, reachOf, stationAfter}
-use Rattle.ring.specs.Choosing.{codeOf, distanceOf, reachesOf, alongOf, chooseOf, Placed}
+use Rattle.ring.specs.Choosing.{codeOf, distanceOf, tieOf, reachesOf, alongOf, chooseOf, Placed}
+use Rattle.ring.specs.Pairs.{Together}
 use Rattle.wrap.specs.declared.Outcome as wrap
 use Rattle.wrap.specs.Walking.{ended, across, atHome, opposite, courseOf, sideOf, pathOf}
 use Rattle.station.specs.declared.Station.{Station}
@@ -47,6 +48,8 @@ use Rattle.layout.specs.Layout.{stationLength}
 use Rattle.rpr.specs.Station.{startAnswer}
 use Rattle.rpr.specs.Lent.{Lending, memoryThrough, NoNewStart, startedIn, stationIn}
 use Rattle.rpr.specs.Told.{recordTold}
+use Rattle.rpr.specs.Ways.{chooseAnswer}
+use Rattle.rpr.specs.Pairs.{PairTold}
 use Rattle.rpr.specs.Says.{Keeps}
 use Rattle.paper.specs.Names.{Names}
 use Rattle.paper.specs.LentNames.{LentNames}
@@ -195,17 +198,18 @@ pub record Chooses (stations own target links ring : ℕ) : Type 0 where
       → chooseOf stations own target links (codeOf way) 1 ring ≡ Refused 8
   -- Unprotected: that side regardless.
   pub regardless : (way : Way) → chooseOf stations own target links (codeOf way) 2 ring ≡ alongOf way stations own target 2 ring
-  -- Default: the shorter side that reaches (unprotected: the shorter), right on a tie, 8 if none.
+  -- Default: the shorter side that reaches (unprotected: the shorter), 8 if none; on a tie right if the own index is lower than the target's, otherwise
+  -- left (document 02, A9).
   pub shorter : (way : Way) → distanceOf way stations own target < distanceOf (otherOf way) stations own target → reachesOf way stations own target links ≡ true
       → chooseOf stations own target links 3 1 ring ≡ alongOf way stations own target 1 ring
   pub only : (way : Way) → reachesOf way stations own target links ≡ true → reachesOf (otherOf way) stations own target links ≡ false
       → chooseOf stations own target links 3 1 ring ≡ alongOf way stations own target 1 ring
-  pub tie : distanceOf Left stations own target ≡ distanceOf Right stations own target → reachesOf Right stations own target links ≡ true
-      → chooseOf stations own target links 3 1 ring ≡ alongOf Right stations own target 1 ring
+  pub tie : distanceOf Left stations own target ≡ distanceOf Right stations own target → reachesOf (tieOf own target) stations own target links ≡ true
+      → chooseOf stations own target links 3 1 ring ≡ alongOf (tieOf own target) stations own target 1 ring
   pub none : reachesOf Left stations own target links ≡ false → reachesOf Right stations own target links ≡ false
       → chooseOf stations own target links 3 1 ring ≡ Refused 8
   pub unprotected-tie : distanceOf Left stations own target ≡ distanceOf Right stations own target
-      → chooseOf stations own target links 3 2 ring ≡ alongOf Right stations own target 2 ring
+      → chooseOf stations own target links 3 2 ring ≡ alongOf (tieOf own target) stations own target 2 ring
   pub unprotected-shorter : (way : Way) → distanceOf way stations own target < distanceOf (otherOf way) stations own target
       → chooseOf stations own target links 3 2 ring ≡ alongOf way stations own target 2 ring
 
@@ -243,6 +247,9 @@ pub record Condition2 : Type 0 where
   pub laid : Lays
   pub choice-told : ChoiceTold
   pub choice-refused : ChoiceRefused
+  -- of the two ends of a pair, by default or with nothing specified
+  pub pair-told : (stations a b links side protection ring : ℕ) → (side ≡ 0) ⊎ (side ≡ 3)
+      → PairTold stations a b (chooseAnswer stations a b links side protection ring) (chooseAnswer stations b a links side protection ring)
   pub path-told : PathTold
   pub path-refused : PathRefused
   -- What a call is to a shaper's record, by its answer; and what the host reads off the number that it got.
@@ -276,6 +283,9 @@ pub record Condition2 : Type 0 where
   pub writing : (a : Advert) → Writes a
   pub sending : (stations own target links ring : ℕ) → Sends stations own target links ring
   pub choice : (stations own target links ring : ℕ) → Placed stations own target links → ring ≤ 1 → Chooses stations own target links ring
+  -- Ties should not split a pair (document 02, A9): by default, or with nothing specified, the links from a to b are those from b to a, reversed.
+  pub pairs : (stations a b links side protection ring : ℕ) → (side ≡ 0) ⊎ (side ≡ 3)
+      → Together stations a b (chooseOf stations a b links side protection ring) (chooseOf stations b a links side protection ring)
   pub links : (stations : ℕ) → Joins stations
   pub reach : (stations own target links : ℕ) → Placed stations own target links → Reaches stations own target links
   pub walk : (stations links target : ℕ) (home : Way) → Wraps stations links target home

@@ -9,7 +9,7 @@ use Rattle.ring.specs.declared.Way.{Way}
 use Rattle.ring.specs.declared.Way.the-variants.{Left, Right}
 use Rattle.ring.specs.declared.Choice.the-variants.{Chosen}
 use Rattle.ring.specs.Choosing.{codeOf, wrappingOf, distanceOf, wayOf, alongOf, chooseOf, Between}
-use Rattle.ring.proofs.Distances.{whole-ring}
+use Rattle.ring.proofs.Distances.{between, whole-ring}
 use Rattle.ring.proofs.Faults.{chosen-means}
 
 -- the code of a side, the hops on it and the ttl
@@ -39,7 +39,7 @@ module _ (stations own target links side protection ring : ℕ) where
   chosen-small code distance ttl mark e =
       let m = chosen-means stations own target links side protection ring code distance ttl mark e in
       let p = m .0 in
-      let d = distance-small way stations own target (record { small = p .small; station = p .station; reached = p .reached }) in
+      let d = distance-small way stations own target (between p) in
       let t = of-each (λ (x : ℕ). x < 64) (wrappingOf ring) 63 far (λ q. omega arith) (λ q. d) in
       let same = m .1 in
       let is-code : code ≡ codeOf way = cc in

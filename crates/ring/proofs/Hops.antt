@@ -12,7 +12,7 @@ use Rattle.ring.specs.declared.Way.the-variants.{Left, Right}
 use Rattle.ring.specs.Links.{otherOf, nextOf, aheadOf, runOf, stationAfter}
 use Rattle.ring.specs.Choosing.{distanceOf, Between}
 use Rattle.ring.proofs.Around.{nextOf-lt}
-use Rattle.ring.proofs.Distances.{right-ahead, right-round, whole-ring}
+use Rattle.ring.proofs.Distances.{lower-or-higher, right-ahead, right-round, whole-ring}
 
 -- ---- the station so many hops on
 
@@ -62,13 +62,11 @@ module _ (n own target : ℕ) (b : Between n own target) (differ : own ≡ targe
   -- the target lies ahead, or past the last station
   either : ((own < target) × (right ≡ target - own)) ⊎ ((target < own) × (right ≡ target + (n - own)))
   either =
-      by-cases (le-or own target)
-      (λ h. by-cases (le-or target own)
-      (λ k. absurd (differ (omega arith)))
-      (λ k. inl (k, right-ahead n own target b k)))
+      by-cases (lower-or-higher own target differ)
+      (λ h. inl (h, right-ahead n own target b h))
       (λ h. inr (h, right-round n own target b h))
 
-  covered : (way : Way) → distanceOf way n own target ≤ n
+  pub covered : (way : Way) → distanceOf way n own target ≤ n
   covered Left = let w = whole-ring n own target b in omega arith
   covered Right = let w = whole-ring n own target b in omega arith
 

@@ -8,3 +8,4 @@ pub mod Hops
 pub mod Links
 pub mod Rows
 pub mod Bounds
+pub mod Pairs

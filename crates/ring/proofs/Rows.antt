@@ -2,10 +2,12 @@
 -- Assumes nothing.
 use Prim.Native.Nat.{ℕ, _≤_, _<_}
 use mathlib.Core.Bool.{Bool, true, false, cond, not, _&&_}
+use mathlib.Core.Logic.{_⊎_, inr}
 use mathlib.Core.Path.{_≡_, refl, sym, ap, _∙_}
 use native.Mathlib.Omega.{arith}
 use borrow.Author.Tests.{lt-ltb, le-ltb, eq-eqb, ne-eqb}
 use Rattle.decide.specs.Test.{test}
+use Rattle.decide.proofs.Cases.{by-cases}
 use Rattle.ring.specs.declared.Way.{Way}
 use Rattle.ring.specs.declared.Way.the-variants.{Left, Right}
 use Rattle.ring.specs.declared.Choice.{Choice}
@@ -69,6 +71,18 @@ module _ (stations own target links side protection ring : ℕ) (first : Way) (p
     goes-nowhere e =
         sym (opened ∙ rw (ne-eqb protection 2 protected, no-way reaches₀ first short (ap reaches₀ (sym opposite) ∙ e)))
 
+-- ---- the side of ties
+
+-- Right if the own index is lower than the target's,
+pub tie-lower : (own target : ℕ) → own < target → tieOf own target ≡ Right
+unfolding tieOf
+tie-lower own target h = rw (lt-ltb own target h)
+
+-- otherwise left.
+pub tie-otherwise : (own target : ℕ) → target ≤ own → tieOf own target ≡ Left
+unfolding tieOf
+tie-otherwise own target h = rw (le-ltb own target h)
+
 -- ---- the preferred side
 
 asked : (way : Way) (stations own target : ℕ) → preferredOf (codeOf way) stations own target ≡ way
@@ -76,20 +90,24 @@ unfolding preferredOf
 asked Left stations own target = refl
 asked Right stations own target = refl
 
-by-default : (stations own target : ℕ) → preferredOf 3 stations own target ≡ shorterOf stations own target
+-- default, or unspecified, which means default
+pub prefers : (side : ℕ) → (side ≡ 0) ⊎ (side ≡ 3) → (stations own target : ℕ) → preferredOf side stations own target ≡ shorterOf stations own target
 unfolding preferredOf
-by-default stations own target = refl
+prefers side s stations own target = by-cases s (λ e. rw e) (λ e. rw e)
+
+by-default : (stations own target : ℕ) → preferredOf 3 stations own target ≡ shorterOf stations own target
+by-default = prefers 3 (inr refl)
 
 module _ (stations own target : ℕ) where
   abbrev far : Way → ℕ
   far way = distanceOf way stations own target
 
-  shorter-is : (way : Way) → far way < far (otherOf way) → shorterOf stations own target ≡ way
+  pub shorter-is : (way : Way) → far way < far (otherOf way) → shorterOf stations own target ≡ way
   unfolding shorterOf
   shorter-is Left h = rw (le-ltb (far Right) (far Left) (omega arith), lt-ltb (far Left) (far Right) h)
   shorter-is Right h = rw (lt-ltb (far Right) (far Left) h)
 
-  tie-is : far Left ≡ far Right → shorterOf stations own target ≡ tieOf own target
+  pub tie-is : far Left ≡ far Right → shorterOf stations own target ≡ tieOf own target
   unfolding shorterOf
   tie-is e = rw (le-ltb (far Right) (far Left) (omega arith), le-ltb (far Left) (far Right) (omega arith))
 

@@ -35,9 +35,9 @@ unfoldable pub distanceOf : Way → ℕ → ℕ → ℕ → ℕ
 distanceOf Right stations own target = (target + (stations - own)) % stations
 distanceOf Left stations own target = stations - (target + (stations - own)) % stations
 
--- Right on a tie.
-abbrev pub tieOf : ℕ → ℕ → Way
-tieOf own target = Right
+-- On a tie: right if the own index is lower than the target's, otherwise left (document 02, A9).
+unfoldable pub tieOf : ℕ → ℕ → Way
+tieOf own target = cond (ltb own target) Right Left
 
 -- The shorter side.
 unfoldable pub shorterOf : ℕ → ℕ → ℕ → Way

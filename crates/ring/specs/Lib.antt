@@ -1,2 +1,3 @@
 pub mod Links
 pub mod Choosing
+pub mod Pairs

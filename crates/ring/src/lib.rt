@@ -131,11 +131,11 @@ fn shorter(stations: u64, own: u64, target: u64) -> Way
     tie(own, target)
 }
 
-// The side taken where both are equally long: right, whichever the two stations are.
+// The side taken where both are equally long: right from the lower index, left from the higher, so that both ends of a pair use the same links.
 fn tie(own: u64, target: u64) -> Way
     ensures { λ r. ⌜ r ≡ tieOf own target ⌝ }
 {
-    Way::Right
+    if own < target { Way::Right } else { Way::Left }
 }
 
 // Whether a side reaches the target.

@@ -5,6 +5,7 @@ pub mod Credit
 pub mod Promises
 pub mod Records
 pub mod Ways
+pub mod Pairs
 pub mod Given
 pub mod Written
 pub mod Chosen

@@ -18,7 +18,7 @@ use Rattle.wrap.proofs.Answers as Paths
 use Rattle.answer.specs.Bytes.{bitOf, chosenBytes, movedBytes}
 use Rattle.answer.proofs.Bytes.{packed-bytes, bit-most}
 use Rattle.rpr.specs.Ways.{choiceAnswer, chooseAnswer, movedAnswer, pathAnswer}
-use Rattle.rpr.specs.Shape.{Bears}
+use Rattle.rpr.specs.Shape.{alone, Bears}
 use Rattle.rpr.proofs.Shape.{mostNumber, first-most, digits-alone}
 
 -- ---- rpr_choose
@@ -50,6 +50,16 @@ module _ (stations own target links side protection ring : ℕ) where
       let b = bit-most mark in
       ap (λ (c : Choice). digits 8 (choiceAnswer c)) e
       ∙ packed-bytes (chosenBytes code distance ttl mark) (omega arith)
+
+  -- and where it is refused, the number stands alone
+  pub choose-refused-bytes : (n : ℕ) → chooseOf stations own target links side protection ring ≡ Choice.Refused n
+      → digits 8 (chooseAnswer stations own target links side protection ring) ≡ alone n
+  unfolding chooseAnswer
+  choose-refused-bytes n e =
+      let f : choiceNumber (chooseOf stations own target links side protection ring) ≡ n = ap choiceNumber e in
+      let g = Choosing.number-first stations own target links side protection ring in
+      let h = first-most (chooseFaults stations own target links side protection ring) refl in
+      ap (λ (c : Choice). digits 8 (choiceAnswer c)) e ∙ digits-alone n (omega arith)
 
 -- ---- rpr_path
 

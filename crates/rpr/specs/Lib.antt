@@ -5,5 +5,6 @@ pub mod Station
 pub mod Lent
 pub mod Says
 pub mod Told
+pub mod Pairs
 pub mod Pieces
 pub mod Reading

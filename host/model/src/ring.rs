@@ -1,6 +1,7 @@
 //! Ringlet choice and the path of a wrap-marked frame.
 
 use crate::refusal::Refusal;
+use std::cmp::Ordering;
 
 #[derive(Clone, Copy, Debug, PartialEq, Eq)]
 pub enum Side {
@@ -43,6 +44,16 @@ pub struct Path {
     pub delivered: bool,
     /// The links moved over, in order: one for each hop.
     pub links: Vec<usize>,
+}
+
+/// Document 02, A9: "Change document 01's default tie: right if the own index is lower
+/// than the target's, otherwise left." So both ends of a tie use the same links.
+fn on_a_tie(own: usize, target: usize) -> Side {
+    if own < target {
+        Side::Right
+    } else {
+        Side::Left
+    }
 }
 
 impl Ring {
@@ -119,24 +130,35 @@ impl Ring {
         run
     }
 
+    /// The links that so many hops from own to this side cross, in order.
+    pub fn crossed(&self, own: usize, side: Side, hops: usize) -> Vec<usize> {
+        let mut at = own;
+        let mut links = Vec::new();
+        for _ in 0..hops {
+            links.push(self.link_ahead(at, side));
+            at = self.next(at, side);
+        }
+        links
+    }
+
     fn reaches(&self, own: usize, target: usize, side: Side) -> bool {
         self.reach(own, side) >= self.distance(own, target, side)
     }
 
-    /// The shorter of both sides, "right on a tie".
+    /// The shorter of both sides; "With equal distance both ways" the tie's.
     fn shorter(&self, own: usize, target: usize) -> Side {
         let left = self.distance(own, target, Side::Left);
         let right = self.distance(own, target, Side::Right);
-        if left < right {
-            Side::Left
-        } else {
-            Side::Right
+        match left.cmp(&right) {
+            Ordering::Less => Side::Left,
+            Ordering::Greater => Side::Right,
+            Ordering::Equal => on_a_tie(own, target),
         }
     }
 
     /// "Protected left or right: that side if it reaches, else the other if it
     /// reaches, else 8. Unprotected: that side regardless. Default: the shorter side
-    /// that reaches (unprotected: the shorter), right on a tie, 8 if none."
+    /// that reaches (unprotected: the shorter), [...] 8 if none."
     fn side(&self, own: usize, target: usize, wish: Wish, protected: bool) -> Option<Side> {
         let first = match wish {
             Wish::This(side) => side,

@@ -41,20 +41,20 @@ fn p10() {
     assert_eq!(choice, chosen(Side::Left, 3));
 }
 
-/// "the shorter side that reaches (unprotected: the shorter), right on a tie"
+/// "the shorter side that reaches (unprotected: the shorter)"; ties are in `ties.rs`.
 #[test]
-fn ties_and_the_shorter_side() {
+fn the_shorter_side() {
     for protected in [true, false] {
-        let choice = ring(4, &[]).choose((0, 2), Wish::Default, protected, false);
-        assert_eq!(choice, chosen(Side::Right, 2));
         let choice = ring(4, &[]).choose((0, 3), Wish::Default, protected, false);
         assert_eq!(choice, chosen(Side::Left, 1));
+        let choice = ring(4, &[]).choose((3, 0), Wish::Default, protected, false);
+        assert_eq!(choice, chosen(Side::Right, 1));
     }
-    let broken = ring(4, &[1]);
-    let choice = broken.choose((0, 2), Wish::Default, true, false);
-    assert_eq!(choice, chosen(Side::Left, 2));
-    let choice = broken.choose((0, 2), Wish::Default, false, false);
-    assert_eq!(choice, chosen(Side::Right, 2));
+    let broken = ring(4, &[3]);
+    let choice = broken.choose((0, 3), Wish::Default, true, false);
+    assert_eq!(choice, chosen(Side::Right, 3));
+    let choice = broken.choose((0, 3), Wish::Default, false, false);
+    assert_eq!(choice, chosen(Side::Left, 1));
 }
 
 /// "Protected left or right: that side if it reaches, else the other if it reaches"

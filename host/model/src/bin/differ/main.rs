@@ -16,6 +16,7 @@ mod calls {
 }
 mod record;
 mod ring;
+mod ring_defaults;
 #[cfg(feature = "station")]
 mod station;
 

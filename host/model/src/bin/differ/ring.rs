@@ -1,18 +1,22 @@
 //! Ringlet choice and path: every small ring, then random rings and random arguments.
 
 use crate::calls::{rpr_choose, rpr_path};
+use crate::ring_defaults::Defaults;
 use model::host;
 use model::random::Random;
 use model::report::Outcome;
 use model::tally::{self, Tally};
 
+/// The most stations of a small ring.
+pub const SMALL: u64 = 6;
+
 /// The arguments that both calls share.
 #[derive(Clone, Copy)]
-struct Place {
-    stations: u64,
-    own: u64,
-    target: u64,
-    links: u64,
+pub struct Place {
+    pub stations: u64,
+    pub own: u64,
+    pub target: u64,
+    pub links: u64,
 }
 
 impl Place {
@@ -36,8 +40,12 @@ fn same(call: String, expected: u64, got: u64) -> Outcome<()> {
     ))
 }
 
-/// Calls rpr_choose; the answer.
-fn choose(place: Place, [side, protection, ring]: [u64; 3]) -> Outcome<u64> {
+pub fn show_choose(place: Place, [side, protection, ring]: [u64; 3]) -> String {
+    format!("choose {} {side} {protection} {ring}", place.show())
+}
+
+/// What the library answers to rpr_choose.
+pub fn ask(place: Place, [side, protection, ring]: [u64; 3]) -> u64 {
     let Place {
         stations,
         own,
@@ -45,10 +53,21 @@ fn choose(place: Place, [side, protection, ring]: [u64; 3]) -> Outcome<u64> {
         links,
     } = place;
     // SAFETY: numbers alone cross.
-    let got = unsafe { rpr_choose(stations, own, target, links, side, protection, ring) };
+    unsafe { rpr_choose(stations, own, target, links, side, protection, ring) }
+}
+
+/// Calls rpr_choose; the answer.
+fn choose(place: Place, codes: [u64; 3]) -> Outcome<u64> {
+    let Place {
+        stations,
+        own,
+        target,
+        links,
+    } = place;
+    let got = ask(place, codes);
+    let [side, protection, ring] = codes;
     let expected = host::choose(stations, own, target, links, side, protection, ring);
-    let call = || format!("choose {} {side} {protection} {ring}", place.show());
-    same(call(), expected, got).map(|()| got)
+    same(show_choose(place, codes), expected, got).map(|()| got)
 }
 
 /// Calls rpr_path; the answer.
@@ -83,11 +102,11 @@ fn every_code(place: Place) -> Outcome<u64> {
     Ok(calls)
 }
 
-/// Every ring of 1 to 6 stations with every link word and index, and one beyond each.
+/// Every ring of 1 to `SMALL` stations with every link word and index, and one beyond each.
 /// They aren't in the tally: most are refused. Answers how many calls that was.
 fn every_small_ring() -> Outcome<u64> {
     let mut calls = 0;
-    for stations in 1..=6 {
+    for stations in 1..=SMALL {
         for links in 0..=1 << stations {
             for own in 0..=stations {
                 for target in 0..=stations {
@@ -132,10 +151,14 @@ fn links(random: &mut Random, stations: u64) -> u64 {
     links & all
 }
 
+/// Two stations of a ring; of rings that have ties at least one in three gives one.
 fn place(random: &mut Random) -> Place {
     let stations = random.often_extreme(2, 63) as u64;
     let own = random.below(stations as usize) as u64;
-    let away = 1 + random.below(stations as usize - 1) as u64;
+    let away = match stations % 2 == 0 && random.one_in(3) {
+        true => stations / 2,
+        false => 1 + random.below(stations as usize - 1) as u64,
+    };
     let target = (own + away) % stations;
     let links = links(random, stations);
     Place {
@@ -149,6 +172,7 @@ fn place(random: &mut Random) -> Place {
 struct Trial {
     random: Random,
     tally: Tally,
+    defaults: Defaults,
 }
 
 impl Trial {
@@ -200,6 +224,9 @@ impl Trial {
         if self.random.one_in(2) {
             let answer = choose(place, codes)?;
             self.tally.count("rpr_choose", answer, false);
+            if [0, 3].contains(&codes[0]) {
+                self.defaults.look(place, codes, answer)?;
+            }
         } else {
             let answer = path(place, home)?;
             self.tally.count("rpr_path", answer, false);
@@ -207,7 +234,8 @@ impl Trial {
         Ok(())
     }
 
-    fn rounds(&mut self, calls: u64) -> Outcome<()> {
+    /// So many random calls, after every small ring. What was never seen.
+    fn rounds(&mut self, calls: u64) -> Outcome<Vec<String>> {
         println!("{} calls about every small ring", every_small_ring()?);
         while self.tally.calls() < calls {
             match self.random.one_in(20) {
@@ -215,7 +243,7 @@ impl Trial {
                 false => self.round()?,
             }
         }
-        Ok(())
+        Ok(self.defaults.missing())
     }
 }
 
@@ -224,12 +252,14 @@ fn raw_stations(place: Place) -> u64 {
     place.stations | 1 << 32
 }
 
-/// The tally of so many random calls, and the first difference.
+/// The tally of so many random calls, and the first difference or what was never seen.
 pub fn run(seed: u64, calls: u64) -> (Tally, Outcome<Vec<String>>) {
     let mut trial = Trial {
         random: Random::new(seed),
         tally: Tally::new(tally::OF_RINGS),
+        defaults: Defaults::default(),
     };
     let outcome = trial.rounds(calls);
-    (trial.tally, outcome.map(|()| Vec::new()))
+    println!("{}", trial.defaults);
+    (trial.tally, outcome)
 }
