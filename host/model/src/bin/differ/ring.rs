@@ -57,17 +57,19 @@ pub fn ask(place: Place, [side, protection, ring]: [u64; 3]) -> u64 {
 }
 
 /// Calls rpr_choose; the answer.
-fn choose(place: Place, codes: [u64; 3]) -> Outcome<u64> {
-    let Place {
-        stations,
-        own,
-        target,
-        links,
-    } = place;
-    let got = ask(place, codes);
+fn choose(at: Place, codes: [u64; 3]) -> Outcome<u64> {
     let [side, protection, ring] = codes;
-    let expected = host::choose(stations, own, target, links, side, protection, ring);
-    same(show_choose(place, codes), expected, got).map(|()| got)
+    let expected = host::choose(
+        at.stations,
+        at.own,
+        at.target,
+        at.links,
+        side,
+        protection,
+        ring,
+    );
+    let got = ask(at, codes);
+    same(show_choose(at, codes), expected, got).map(|()| got)
 }
 
 /// Calls rpr_path; the answer.
