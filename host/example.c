@@ -147,7 +147,7 @@ static void choose_pair(void) {
     carried_out("choose", back);
     must(rpr_choice_side(there) == RPR_RIGHT && rpr_choice_side(back) == RPR_LEFT, "the lower index goes right");
     must(rpr_choice_distance(there) == 8 && rpr_choice_distance(back) == 8, "8 hops either way");
-    printf("From 2 to 10 it is right, from 10 to 2 left: the same %u links.\n\n", rpr_choice_distance(there));
+    printf("The masters, stations 2 and 10 of 16, talk over the same %u links.\n\n", rpr_choice_distance(there));
 }
 
 /* C waits when B or C waits. */
