@@ -8,7 +8,7 @@
 
 #include "calls.h"
 
-enum { N = RPR_STATION_LENGTH, CALLS = 11 };
+enum { N = RPR_STATION_LENGTH, CALLS = 12 };
 
 /* Numbers at which a range of document 01 ends; their neighbours are tried too. */
 static const uint32_t fixed[] = {0,   1,   2,    16,   63,    64,    128,   192,     193,       255,        256,       512,
@@ -17,7 +17,7 @@ static const uint32_t fixed[] = {0,   1,   2,    16,   63,    64,    128,   192,
 /* Frames that a station hears from a neighbour: one on each ringlet, of which one is its own. */
 static const uint8_t heard[2][RPR_FRAME_LENGTH] = {{250, 0x20, 0, 0, 0, 0, 0, 9, 0, 0, 0, 50}, {250, 0xa0, 0, 0, 0, 0, 0, 9, 0, 0, 0, 50}};
 
-static unsigned long tried, good;
+static unsigned long tried, good, lacking;
 
 static uint64_t ask(const struct calls *side, int call, uint8_t *s, uint8_t *room) {
     switch (call) {
@@ -32,6 +32,7 @@ static uint64_t ask(const struct calls *side, int call, uint8_t *s, uint8_t *roo
         case 8: return side->age(s, N);
         case 9: return side->read_frame(s, N, heard[0], RPR_FRAME_LENGTH);
         case 10: return side->read_frame(s, N, heard[1], RPR_FRAME_LENGTH);
+        case 11: return side->offer_client(s, N, RPR_CLASS_B, 40, 3);
         default: return side->write_frame(s, N, room, RPR_FRAME_LENGTH);
     }
 }
@@ -45,6 +46,7 @@ static uint64_t compare(const uint8_t *station, int call, size_t place) {
     uint64_t answer = ask(&library, call, ours, room[0]), other = ask(&plain, call, theirs, room[1]);
     int same = memcmp(ours, theirs, N) == 0 && memcmp(room[0], room[1], RPR_READING_LENGTH) == 0;
     int kept = rpr_refusal_of(answer) == 0 || memcmp(ours, station, N) == 0;
+    lacking += rpr_shortfall_of(answer) > 0;
     if (answer == other && same && kept) return answer;
     printf("call %d, changed at %zu: answer %#llx, plain C %#llx%s%s\n", call, place, (unsigned long long)answer, (unsigned long long)other,
            same ? "" : "; lent bytes differ", kept ? "" : "; a refusal wrote");
@@ -89,21 +91,34 @@ static void each_end(uint8_t *station, const uint32_t *words) {
     }
 }
 
-/* A station that has credit and has heard of congestion, with frames in the secondary queue and in the stage; where it is busy,
- * in the other queues too, which go first. */
-static void live(uint8_t *station, const uint32_t *settings, int busy) {
-    uint8_t bytes[RPR_SETTINGS_LENGTH];
-    uint64_t refused;
-    memcpy(bytes, settings, sizeof bytes);
-    refused = rpr_start(bytes, sizeof bytes, station, N);
+/* Stations to change, which have heard of congestion. Busy: credit, and frames in each queue and the stage. Staged: in the secondary
+ * queue and the stage alone, whose turn comes last. Short: a free stage and too little credit, A, B, C and D each lacking something else. */
+enum state { BUSY, STAGED, SHORT };
+static const struct {
+    int sample;
+    enum state state;
+} stations[] = {{0, BUSY}, {1, STAGED}, {2, BUSY}, {1, SHORT}};
+
+static uint64_t fill(uint8_t *station, enum state state) {
+    uint64_t refused = 0;
     for (int i = 0; i < 4; i++) refused |= rpr_tick(station, N, 1, 1, 1);
     refused |= rpr_offer_client(station, N, RPR_CLASS_C, 64, 63) & 0xff;
     for (int i = 0; i < 2; i++) {
         refused |= rpr_offer_transit(station, N, RPR_CLASS_B, 64, 3, 1);
-        if (!busy) continue;
+        if (state != BUSY) continue;
         refused |= rpr_offer_transit(station, N, RPR_CLASS_A, 64, 3, 0);
         refused |= rpr_offer_control(station, N, 64);
     }
+    return refused;
+}
+
+static void live(uint8_t *station, const uint32_t *settings, enum state state) {
+    static const uint32_t credits[] = {65536, 65000, 300, 64000, 65530}; /* of M to D, the first words of a station */
+    uint8_t bytes[RPR_SETTINGS_LENGTH];
+    memcpy(bytes, settings, sizeof bytes);
+    uint64_t refused = rpr_start(bytes, sizeof bytes, station, N);
+    if (state == SHORT) memcpy(station, credits, sizeof credits);
+    else refused |= fill(station, state);
     refused |= rpr_read_frame(station, N, heard[1 - settings[2]], RPR_FRAME_LENGTH);
     refused |= rpr_age(station, N);
     if (refused != 0) puts("a station to change is refused"), exit(1);
@@ -111,11 +126,12 @@ static void live(uint8_t *station, const uint32_t *settings, int busy) {
 
 int main(void) {
     static uint8_t station[N];
-    for (int i = 0; i < SAMPLES; i++) {
-        live(station, sample_settings[i], i != 1);
+    for (size_t i = 0; i < sizeof stations / sizeof stations[0]; i++) {
+        const uint32_t *settings = sample_settings[stations[i].sample];
+        live(station, settings, stations[i].state);
         each_byte(station);
-        each_end(station, sample_settings[i]);
+        each_end(station, settings);
     }
-    printf("%lu stations, %lu of them in range: the library and plain C do the same\n", tried, good);
-    return 0;
+    printf("%lu stations, %lu of them in range, %lu offers short of credit: the library and plain C do the same\n", tried, good, lacking);
+    return lacking > 0 ? 0 : 1;
 }

@@ -35,6 +35,8 @@ struct host {
     struct rpr_settings settings;
     uint8_t station[RPR_STATION_LENGTH]; /* the library's, lent for each call */
     unsigned waiting[CLASSES];           /* client frames that wait to be offered */
+    unsigned not_before[CLASSES];        /* the tick before which no credit can permit the next one */
+    uint32_t most_short;                 /* the most bytes of credit that an offer lacked, since it was last logged */
     unsigned passed;                     /* transit frames taken in so far */
     unsigned put_off[REFUSALS];          /* offers that were refused for now, by number */
     unsigned long taken[ORIGINS];        /* bytes that the station took in, by where it keeps them */
@@ -108,7 +110,7 @@ static void start(struct host *host) {
     host->settings = (struct rpr_settings){
         .own_address_high = 0x0200, .own_address_low = 0x5e000001, .own_ringlet = 0, .mtu = MTU,
         .m = {.lo_limit = MTU, .hi_limit = 6000, .amount = 100},
-        .a = {.lo_limit = MTU, .hi_limit = 6000, .amount = 200},
+        .a = {.lo_limit = MTU, .hi_limit = 6000, .amount = 30},
         .b = {.lo_limit = MTU, .hi_limit = 6000, .amount = 200},
         .c = {.lo_limit = MTU, .hi_limit = 12000, .amount = 1300},
         .d = {.lo_limit = MTU, .hi_limit = 12000, .amount = 3000},
@@ -121,12 +123,13 @@ static void start(struct host *host) {
     printf("A station of %zu bytes, started.\n", sizeof host->station);
 }
 
-/* A refusal is a number, and nothing that was lent has changed. */
+/* A refusal has a number, and nothing that was lent has changed. */
 static void meet_a_refusal(struct host *host) {
     uint8_t before[RPR_STATION_LENGTH];
     memcpy(before, host->station, sizeof before);
     uint64_t answer = rpr_offer_client(host->station, sizeof host->station, RPR_CLASS_C, MTU + 1, 5);
-    must(answer == RPR_RANGE && memcmp(before, host->station, sizeof before) == 0, "a frame over the mtu is refused");
+    must(rpr_refusal_of(answer) == RPR_RANGE, "a frame over the mtu is refused");
+    must(memcmp(before, host->station, sizeof before) == 0, "a refusal leaves every byte");
     printf("A frame of %d bytes: refused %u, %s.\n", MTU + 1, rpr_refusal_of(answer), rpr_refusal_text(answer));
 }
 
@@ -158,13 +161,25 @@ static void tick(struct host *host) {
     carried_out("tick", rpr_tick(host->station, sizeof host->station, a, b, c));
 }
 
+/* Turned down by a shaper: the answer says how many bytes are missing. A tick adds at most the amount to a shaper that
+ * the frame needs, so before missing / amount ticks, rounded up, it cannot be permitted, and is not offered. Class B
+ * may be, by its own share: the bytes are missing for its attempt as excess. So it is offered each time. */
+static void wait_for_credit(struct host *host, unsigned class, unsigned now, uint32_t missing) {
+    const struct rpr_settings *s = &host->settings;
+    uint32_t amount = class == RPR_CLASS_A ? s->a.amount : s->c.amount > s->d.amount ? s->c.amount : s->d.amount;
+    must(missing > 0 && amount > 0, "a shaper that turns a frame down lacks something, and ticks bring it");
+    if (class != RPR_CLASS_B) host->not_before[class] = now + (missing + amount - 1) / amount;
+    if (host->most_short < missing) host->most_short = missing;
+}
+
 /* Offers the next client frame of a class. Refusals 5, 6 and 7 mean: later. An eligible frame is charged to C. */
-static void offer_client(struct host *host, unsigned class) {
+static void offer_client(struct host *host, unsigned class, unsigned now) {
     const struct client *frame = &clients[class];
     uint64_t answer = rpr_offer_client(host->station, sizeof host->station, class, frame->size, frame->hops);
     unsigned number = rpr_refusal_of(answer);
     if (number == RPR_STAGE_FULL || number == RPR_NO_PERMIT || number == RPR_FAIR_RATE) {
         host->put_off[number]++;
+        if (number == RPR_NO_PERMIT) wait_for_credit(host, class, now, rpr_shortfall_of(answer));
         return;
     }
     carried_out("offer_client", answer);
@@ -209,9 +224,10 @@ static void tell(const struct host *host) {
 
 /* ---- a minute of traffic ---- */
 
-/* Client and control frames that come in a tick. The bulk copy rests in each fourth second. */
+/* Client and control frames that come in a tick; heartbeats in pairs, so that the second has to wait for credit. The
+ * bulk copy rests in each fourth second. */
 static void arrive(struct host *host, unsigned second, unsigned now) {
-    if (now % 10 == 0) host->waiting[RPR_CLASS_A]++;
+    if (now % 10 == 0) host->waiting[RPR_CLASS_A] += 2;
     if (now % 2 == 0) host->waiting[RPR_CLASS_B]++;
     if (second % 4 != 2 && host->waiting[RPR_CLASS_C] < 4) host->waiting[RPR_CLASS_C]++;
     if (now % 50 != 0) return;
@@ -230,7 +246,7 @@ static void run_second(struct host *host, unsigned second) {
         for (unsigned slot = now * SENDS_PER_TICK; slot < (now + 1) * SENDS_PER_TICK; slot++) {
             if (slot % 10 < load) take_transit(host);
             for (unsigned class = RPR_CLASS_A; class < CLASSES; class++)
-                if (host->waiting[class] > 0) offer_client(host, class);
+                if (host->waiting[class] > 0 && now >= host->not_before[class]) offer_client(host, class, now);
             send_next(host);
         }
         if ((now + 1) % host->settings.ticks_per_interval == 0)
@@ -245,16 +261,19 @@ static void check_bytes(const struct host *host) {
     for (unsigned i = 0; i < ORIGINS; i++) must(host->taken[i] == host->sent[i] + held[i], "taken in = sent + held");
 }
 
-static void print_reading(const struct host *host, unsigned second) {
+/* The reading, and the most bytes that an offer was short since the last one. */
+static void print_reading(struct host *host, unsigned second) {
     static const char *const congestion[2][2] = {{"no", "downstream"}, {"here", "both"}};
     struct rpr_reading r = show(host);
-    printf("%6u  %8u  %9u  %9u  %7u  %6u  %-10s  ", second, r.credit_c, r.secondary.bytes, r.smoothed.add_rate,
-           r.allowed_rate, r.allowed_rate_congested, congestion[r.locally_congested][r.downstream_congested]);
+    printf("%6u  %8u  %5u  %9u  %9u  %7u  %6u  %-10s  ", second, r.credit_c, host->most_short, r.secondary.bytes,
+           r.smoothed.add_rate, r.allowed_rate, r.allowed_rate_congested,
+           congestion[r.locally_congested][r.downstream_congested]);
     tell(host);
+    host->most_short = 0;
 }
 
 static void run_minute(struct host *host) {
-    puts("second  credit C  secondary  lpAddRate  allowed  beyond  congested   fairness frame told");
+    puts("second  credit C  short  secondary  lpAddRate  allowed  beyond  congested   fairness frame told");
     for (unsigned second = 0; second < SECONDS; second++) {
         if (second == SECONDS / 2) begin_piece(host, &host->pieces[1]);
         run_second(host, second);

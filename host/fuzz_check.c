@@ -5,6 +5,8 @@
 #define _DEFAULT_SOURCE
 #include "fuzz.h"
 
+#include "plain_layout.h"
+
 #include <stdio.h>
 #include <stdlib.h>
 #include <string.h>
@@ -14,7 +16,8 @@
 #define REFUSES(a, b, c, d) (1u << (a) | 1u << (b) | 1u << (c) | 1u << (d))
 #define BYTE(at, most) ((uint64_t)(most) << 8 * (at))
 
-/* Of each call: the refusals it can give, and the bits its answer may have where it is carried out. */
+/* Of each call: the refusals it can give, and the bits its answer may have where it is carried out. Refused with 6 it says how
+ * far short: 1 to 65,537. */
 static const struct {
     unsigned refusals;
     uint64_t bits;
@@ -158,16 +161,18 @@ int in_range(const uint8_t *station) {
     abort();
 }
 
-/* The number of the refusal. The answer's form: a refusal that the call can give and nothing else, or only bits that its answer
- * has. A call that takes nothing refuses nothing. */
+/* The number of the refusal. The answer's form: a refusal that the call can give and nothing else but how far short, or only
+ * bits that its answer has. A call that takes nothing refuses nothing. */
 static unsigned check_answer(const struct request *r, uint64_t answer) {
     unsigned number = signatures[r->call].parameters[0].kind == NONE ? 0 : rpr_refusal_of(answer);
     if (number == 0) {
         if ((answer & ~promised[r->call].bits) != 0) fail(r, answer, "a stray bit in the answer");
-    } else if (answer != number) {
+    } else if ((answer ^ number) != (uint64_t)rpr_shortfall_of(answer) << 32) {
         fail(r, answer, "a refusal with other bytes");
     } else if (number >= REFUSALS || (promised[r->call].refusals >> number & 1) == 0) {
         fail(r, answer, "a refusal that the call can't give");
+    } else if (number == RPR_NO_PERMIT && (rpr_shortfall_of(answer) < 1 || rpr_shortfall_of(answer) > 65537)) {
+        fail(r, answer, "a shortfall that no shaper has");
     }
     return number;
 }
@@ -208,6 +213,23 @@ static void check_pair(const struct request *r, uint64_t answer, unsigned number
     if ((answer ^ back) != (number == 0 ? (RPR_LEFT ^ RPR_RIGHT) << 8 : 0)) fail(r, answer, "the two ends of a pair part");
 }
 
+/* A frame that shapers turned down: with the bytes missing added to the credits it is not, and with one less it still is. B's own
+ * share, of which the answer does not speak, is taken away. */
+static void check_short(const struct request *r, uint64_t answer) {
+    uint32_t missing = rpr_shortfall_of(answer);
+    if (missing == 0) return;
+    for (uint32_t less = 0; less < 2; less++) {
+        uint8_t raised[RPR_STATION_LENGTH];
+        memcpy(raised, r->slices[0].bytes, sizeof raised);
+        for (unsigned shaper = A; shaper <= D; shaper++) {
+            uint64_t credit = shaper == B ? 0 : (uint64_t)word(raised + CREDITS, shaper) + missing - less;
+            put(raised + CREDITS + 4 * shaper, (uint32_t)least(credit, setting(raised, HI_LIMIT + 3 * shaper)));
+        }
+        uint64_t again = rpr_offer_client(raised, sizeof raised, r->numbers[1], r->numbers[2], r->numbers[3]);
+        if ((rpr_refusal_of(again) == RPR_NO_PERMIT) != (less == 1)) fail(r, answer, "not the least amount");
+    }
+}
+
 /* Plain C answers the same and leaves the same bytes. */
 static void check_plain(const struct request *r, uint64_t answer) {
     static uint8_t theirs[PARAMETERS][MOST_LENGTH];
@@ -235,6 +257,7 @@ unsigned make(struct request *r) {
     for (int i = 0; i < PARAMETERS; i++)
         if (signatures[r->call].parameters[i].holds == HOLDS_station) check_station(r, answer, i);
     check_pair(r, answer, number);
+    check_short(r, answer);
     check_plain(r, answer);
     tally[r->call][number]++;
     for (int i = 0; i < PARAMETERS; i++)

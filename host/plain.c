@@ -44,6 +44,12 @@ static int permits(const uint8_t *station, unsigned shaper) {
     return word(station + CREDITS, shaper) > setting(station, LO_LIMIT + 3 * shaper);
 }
 
+/* The bytes that a shaper lacks before it permits. */
+static uint64_t lacks(const uint8_t *station, unsigned shaper) {
+    uint64_t above = (uint64_t)setting(station, LO_LIMIT + 3 * shaper) + 1;
+    return permits(station, shaper) ? 0 : above - word(station + CREDITS, shaper);
+}
+
 static void charge(uint8_t *station, unsigned shaper, uint32_t size) {
     uint8_t *credit = station + CREDITS + 4 * shaper;
     put(credit, get(credit) - size);
@@ -105,6 +111,12 @@ static int passes_congestion(const uint8_t *station, uint64_t hops) {
     return fair(station, DOWNSTREAM) == 1 && hops > 256 - fair(station, RECEIVED_TTL);
 }
 
+/* Refused with 6, and the larger of what two shapers lack. */
+static uint64_t refused_short(const uint8_t *station, unsigned shaper, unsigned other) {
+    uint64_t one = lacks(station, shaper), two = lacks(station, other);
+    return (one > two ? one : two) << 32 | 6;
+}
+
 /* A client frame goes to the stage and is charged to two shapers; one that is named twice is charged once. */
 static uint64_t to_stage(uint8_t *station, unsigned shaper, unsigned other, uint32_t frame) {
     put(station + STAGE, frame);
@@ -119,10 +131,10 @@ uint64_t plain_offer_client(void *lent, size_t length, uint64_t class, uint64_t 
     if (number != 0) return number;
     if (!frame_ok(setting(station, MTU), class, size, hops)) return 3;
     if (get(station + STAGE) != 0) return 5;
-    if (class == 0) return permits(station, A) ? to_stage(station, A, A, frame_word(class, size, hops, 0)) : 6;
-    if (!permits(station, D)) return 6;
+    if (class == 0) return permits(station, A) ? to_stage(station, A, A, frame_word(class, size, hops, 0)) : refused_short(station, A, A);
+    if (!permits(station, D)) return refused_short(station, C, D);
     if (class == 1 && permits(station, B)) return to_stage(station, B, D, frame_word(class, size, hops, 0));
-    if (!permits(station, C)) return 6;
+    if (!permits(station, C)) return refused_short(station, C, D);
     if (passes_congestion(station, hops) && fair(station, ADD_RATE_CONGESTED) + size > fair(station, ALLOWED_RATE_CONGESTED)) return 7;
     return to_stage(station, C, D, frame_word(class, size, hops, 1));
 }

@@ -1,4 +1,4 @@
-/* The bytes of a station, for plain C alone: where things stand, and how its words are read and written. */
+/* The bytes of a station, for plain C and what the fuzz target changes of credits: where things stand, and how words are read and written. */
 #ifndef PLAIN_LAYOUT_H
 #define PLAIN_LAYOUT_H
 

@@ -8,8 +8,9 @@
  * Slices.    A slice is a pointer and then a length in bytes, at any alignment. A pointer is never null, even where
  *            the length is 0. A slice lent for writing (not const) overlaps no other slice of the call.
  * Answers.   Every call but rpr_version and rpr_station_length answers one uint64_t, read as eight bytes, byte 0 the
- *            lowest. Byte 0 is 0 where the call was carried out, else the number of a refusal, and then every other byte
- *            is 0 and every lent byte is as it was. The functions at the end of this header take an answer apart.
+ *            lowest. Byte 0 is 0 where the call was carried out, else the number of a refusal, and then every lent byte
+ *            is as it was and every other byte 0, but that a 6 says how far short: compare byte 0 with a number, not
+ *            the whole answer. The functions at the end of this header take an answer apart.
  * Memory.    The library keeps, allocates and prints nothing. A station is RPR_STATION_LENGTH bytes of the host's. It
  *            holds no address: between calls it may be copied, moved and stored. Its layout is the library's own.
  * Threads.   There is no global state: calls may run at the same time, as long as no byte that one of them may write
@@ -26,7 +27,7 @@
 #include <stdint.h>
 
 /* The version of this interface. The first number grows where a host has to change what it calls or lends. */
-#define RPR_VERSION "1.2"
+#define RPR_VERSION "1.3"
 
 #ifdef __cplusplus
 extern "C" {
@@ -66,7 +67,7 @@ enum rpr_refusal {
     /* Not now: the same call may be carried out after a tick, a selection, an aging interval or a fairness frame. */
     RPR_NO_ROOM = 4,    /* a frame's size exceeds the queue's space */
     RPR_STAGE_FULL = 5, /* the stage already holds a frame */
-    RPR_NO_PERMIT = 6,  /* a needed shaper doesn't permit */
+    RPR_NO_PERMIT = 6,  /* a needed shaper doesn't permit; rpr_shortfall_of says how far short */
     RPR_FAIR_RATE = 7,  /* the congested fair rate would be passed */
 
     /* About the ring, records and frames as they are. */
@@ -193,7 +194,7 @@ RPR_LENT uint64_t rpr_tick(void *station, size_t station_length, uint64_t a_wait
 
 /* Offers a client frame: class (enum rpr_class), size (16 to mtu) and hops to its destination (1 to 63). Its shapers
  * are charged and it goes to the stage. Answers the mark that it got, fairness eligible or not: rpr_mark_of. Refuses 2,
- * 1, 3 (class, size or hops), 5, 6, 7. (The parameter is class_ because class is a word of C++.) */
+ * 1, 3 (class, size or hops), 5, 6 (rpr_shortfall_of), 7. (The parameter is class_ because class is a word of C++.) */
 RPR_LENT uint64_t rpr_offer_client(void *station, size_t station_length, uint64_t class_, uint64_t size, uint64_t hops);
 
 /* Takes in a frame that passes through, with the mark that it bears: RPR_YES for fairness eligible, which only B and C
@@ -332,35 +333,40 @@ RPR_LENT uint64_t rpr_settle(const void *summary, size_t summary_length, uint64_
 
 /* ---- taking an answer apart ---- */
 
-/* Of any call's answer: the number of the refusal, or RPR_CARRIED_OUT. */
+/* Of any call's answer: the number of the refusal, or RPR_CARRIED_OUT. The functions below look at it first. */
 static inline unsigned rpr_refusal_of(uint64_t answer) { return (unsigned)(answer & 0xff); }
+#define RPR_IF(number) (rpr_refusal_of(answer) == (number) ? answer : 0) /* the answer that has this number */
 
-/* The functions below read the answer of the call that they are named for; of a refusal they give 0. */
+/* rpr_offer_client refused with 6: the bytes missing, 1 to 65,537; 0 of any other answer, and up to version 1.2. It is
+ * the least amount whose addition would make the credit of each needed shaper exceed its lo_limit: A for class A, C and
+ * D for class C, and for class B too, which was tried as excess; its own share, B and D, may permit it sooner. */
+static inline uint32_t rpr_shortfall_of(uint64_t answer) { return (uint32_t)(RPR_IF(RPR_NO_PERMIT) >> 32); }
 
-/* rpr_offer_client: RPR_YES where the frame is marked fairness eligible. */
-static inline unsigned rpr_mark_of(uint64_t answer) { return (unsigned)(answer >> 32 & 0xff); }
+/* The others read the answer of the call that they are named for; of a refusal they give 0.
+ * rpr_offer_client: RPR_YES where the frame is marked fairness eligible. */
+static inline unsigned rpr_mark_of(uint64_t answer) { return (unsigned)(RPR_IF(0) >> 32 & 0xff); }
 
 /* rpr_select: where the frame comes from (enum rpr_origin), its class (enum rpr_class), its hops, whether it is marked
  * fairness eligible, and its size. */
-static inline unsigned rpr_selected_origin(uint64_t answer) { return (unsigned)(answer >> 8 & 0xff); }
-static inline unsigned rpr_selected_class(uint64_t answer) { return (unsigned)(answer >> 16 & 0xff); }
-static inline unsigned rpr_selected_hops(uint64_t answer) { return (unsigned)(answer >> 24 & 0xff); }
-static inline unsigned rpr_selected_eligible(uint64_t answer) { return (unsigned)(answer >> 32 & 0xff); }
-static inline unsigned rpr_selected_size(uint64_t answer) { return (unsigned)(answer >> 48); }
+static inline unsigned rpr_selected_origin(uint64_t answer) { return (unsigned)(RPR_IF(0) >> 8 & 0xff); }
+static inline unsigned rpr_selected_class(uint64_t answer) { return (unsigned)(RPR_IF(0) >> 16 & 0xff); }
+static inline unsigned rpr_selected_hops(uint64_t answer) { return (unsigned)(RPR_IF(0) >> 24 & 0xff); }
+static inline unsigned rpr_selected_eligible(uint64_t answer) { return (unsigned)(RPR_IF(0) >> 32 & 0xff); }
+static inline unsigned rpr_selected_size(uint64_t answer) { return (unsigned)(RPR_IF(0) >> 48); }
 
 /* rpr_choose: RPR_LEFT or RPR_RIGHT, the hops to the target on that side, the ttl, and RPR_YES for the wrap mark. */
-static inline unsigned rpr_choice_side(uint64_t answer) { return (unsigned)(answer >> 8 & 0xff); }
-static inline unsigned rpr_choice_distance(uint64_t answer) { return (unsigned)(answer >> 16 & 0xff); }
-static inline unsigned rpr_choice_ttl(uint64_t answer) { return (unsigned)(answer >> 24 & 0xff); }
-static inline unsigned rpr_choice_wrap_mark(uint64_t answer) { return (unsigned)(answer >> 32 & 0xff); }
+static inline unsigned rpr_choice_side(uint64_t answer) { return (unsigned)(RPR_IF(0) >> 8 & 0xff); }
+static inline unsigned rpr_choice_distance(uint64_t answer) { return (unsigned)(RPR_IF(0) >> 16 & 0xff); }
+static inline unsigned rpr_choice_ttl(uint64_t answer) { return (unsigned)(RPR_IF(0) >> 24 & 0xff); }
+static inline unsigned rpr_choice_wrap_mark(uint64_t answer) { return (unsigned)(RPR_IF(0) >> 32 & 0xff); }
 
 /* rpr_path: RPR_YES where delivered, and the hops moved. */
-static inline unsigned rpr_path_delivered(uint64_t answer) { return (unsigned)(answer >> 8 & 0xff); }
-static inline unsigned rpr_path_hops(uint64_t answer) { return (unsigned)(answer >> 16 & 0xff); }
+static inline unsigned rpr_path_delivered(uint64_t answer) { return (unsigned)(RPR_IF(0) >> 8 & 0xff); }
+static inline unsigned rpr_path_hops(uint64_t answer) { return (unsigned)(RPR_IF(0) >> 16 & 0xff); }
 
 /* rpr_settle: RPR_YES where every send was permitted, and the credit at the end, 0 where not permitted. */
-static inline unsigned rpr_settled_permitted(uint64_t answer) { return (unsigned)(answer >> 8 & 0xff); }
-static inline uint32_t rpr_settled_end_credit(uint64_t answer) { return (uint32_t)(answer >> 32); }
+static inline unsigned rpr_settled_permitted(uint64_t answer) { return (unsigned)(RPR_IF(0) >> 8 & 0xff); }
+static inline uint32_t rpr_settled_end_credit(uint64_t answer) { return (uint32_t)(RPR_IF(0) >> 32); }
 
 /* What a refusal says, in short: of an answer, or of a refusal's number. */
 static inline const char *rpr_refusal_text(uint64_t answer) {
@@ -384,6 +390,7 @@ static inline const char *rpr_refusal_text(uint64_t answer) {
 #undef RPR_HOLDS
 #undef RPR_ANSWERS
 #undef RPR_LENT
+#undef RPR_IF
 
 #ifdef __cplusplus
 }

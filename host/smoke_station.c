@@ -1,4 +1,4 @@
-/* Starts a station and calls what brings frames in and out, as a host would; says what differs from document 01. */
+/* Starts a station and calls what brings frames in and out, as a host would; says what differs from documents 01 and 02. */
 #include "smoke_station.h"
 
 static void credits(const char *what, uint32_t m, uint32_t a, uint32_t b, uint32_t c, uint32_t d) {
@@ -18,7 +18,7 @@ static void fresh(void) {
     want.local_fair_rate = want.allowed_rate = want.allowed_rate_congested = 10000;
     want.own_rate = 3333;
     want.received_ttl = 255;
-    expect("the version", rpr_version(), 256 * 1 + 2);
+    expect("the version", rpr_version(), 256 * 1 + 3);
     expect("the station's length", rpr_station_length(), RPR_STATION_LENGTH);
     start(&plain);
     struct rpr_reading got = show();
@@ -151,9 +151,9 @@ static void wrong_clients(void) {
 static void clients(void) {
     start(&plain);
     wrong_clients();
-    client("A at loLimit", A, 64, 9, RPR_NO_PERMIT);
-    client("B at loLimit", B, 64, 9, RPR_NO_PERMIT);
-    client("C at loLimit", C, 64, 9, RPR_NO_PERMIT);
+    client("A at loLimit", A, 64, 9, SHORT(1));
+    client("B at loLimit", B, 64, 9, SHORT(1));
+    client("C at loLimit", C, 64, 9, SHORT(1));
     tick(1, 1, 1, 0); /* 161, 172, 183, 194 */
     client("A", A, 64, 9, 0);
     client("a full stage", B, 64, 9, RPR_STAGE_FULL);
@@ -164,18 +164,90 @@ static void clients(void) {
     client("B within its share", B, 60, 3, 0);
     selects("B within its share", RPR_FROM_STAGE, B, 3, 0, 60);
     credits("A and B have paid", 100, 97, 112, 183, 134);
-    client("B, D lacks", B, 60, 3, RPR_NO_PERMIT);
+    client("B, D lacks: 141 - 134", B, 60, 3, SHORT(7));
     tick(0, 0, 1, 0); /* A 110, B 120, C 236, D 188 */
     client("B beyond its share", B, 60, 3, MARKED);
     selects("B beyond its share", RPR_FROM_STAGE, B, 3, 1, 60);
     credits("C and D have paid", 100, 110, 120, 176, 128);
-    client("C, D lacks", C, 64, 20, RPR_NO_PERMIT);
+    client("C, D lacks: 141 - 128", C, 64, 20, SHORT(13));
     tick(0, 0, 1, 0); /* C 229, D 182 */
     client("C", C, 64, 20, MARKED);
     selects("C", RPR_FROM_STAGE, C, 20, 1, 64);
     selects_nothing("an empty station");
     credits("after C", 100, 110, 120, 165, 118);
     rates("eligible frames are counted", show().counted, (struct rpr_rates){124, 0, 0, 0});
+}
+
+/* A station whose ticks add so much to A, B, C and D. */
+static void start_adding(uint32_t a, uint32_t b, uint32_t c, uint32_t d) {
+    struct rpr_settings s = plain;
+    s.a.amount = a;
+    s.b.amount = b;
+    s.c.amount = c;
+    s.d.amount = d;
+    start(&s);
+}
+
+/* How far short: the least amount whose addition would make each credit exceed loLimit, the larger of two, and for B
+ * that of the excess attempt. */
+static void shortfalls(void) {
+    start_adding(1, 10, 30, 20);
+    tick(1, 1, 1, 0); /* A 111, B 130, C 160, D 160 */
+    client("A at loLimit + 1", A, 64, 9, 0);
+    selects("A", RPR_FROM_STAGE, A, 9, 0, 64);
+    client("A at 47: 111 - 47", A, 64, 9, SHORT(64));
+    client("B within its share", B, 64, 9, 0); /* B 66, D 96 */
+    client("a full stage says no more", B, 64, 9, RPR_STAGE_FULL);
+    client("nor does a wrong frame", B, 65, 9, RPR_RANGE);
+    selects("B", RPR_FROM_STAGE, B, 9, 0, 64);
+    client("B lacks 55, D 45, C nothing: D's", B, 64, 9, SHORT(45));
+    client("C the same", C, 64, 9, SHORT(45));
+    tick(1, 1, 1, 0);
+    tick(1, 1, 1, 0); /* A 49, B 86, C 220, D 136 */
+    client("5 are missing", C, 64, 9, SHORT(5));
+    tick(0, 0, 1, 0); /* A 50, B 96, C 250, D 156 */
+    client("not any more", C, 64, 9, MARKED); /* C 186, D 92 */
+    selects("C", RPR_FROM_STAGE, C, 9, 1, 64);
+    for (int i = 0; i < 3; i++) tick(0, 0, 1, 0); /* B 120, C 276, D 152 */
+    client("B beyond its share", B, 64, 9, MARKED);
+    selects("B", RPR_FROM_STAGE, B, 9, 1, 64);
+    start_adding(1, 10, 20, 10);
+    tick(0, 0, 1, 0); /* C 150, D 150 */
+    client("C", C, 64, 9, MARKED);
+    selects("C", RPR_FROM_STAGE, C, 9, 1, 64);
+    client("C lacks 131 - 86, D 141 - 86: D's", C, 64, 9, SHORT(55));
+    start_adding(1, 10, 10, 54);
+    tick(0, 0, 1, 0); /* B 120, C 140, D 194 */
+    client("C", C, 64, 9, MARKED);
+    selects("C", RPR_FROM_STAGE, C, 9, 1, 64);
+    client("C lacks 131 - 76, D 141 - 130: C's", C, 64, 9, SHORT(55));
+    client("B lacks 1 of its own, which is not told", B, 64, 9, SHORT(55));
+}
+
+/* The largest loLimit and frames: a shortfall of more than a byte. */
+static void shortfall_of_largest(void) {
+    static const struct rpr_shaper most = {65536, 1048576, 1};
+    struct rpr_settings s = plain;
+    s.mtu = s.control_queue = s.primary_queue = 9216;
+    s.secondary_queue = 2 * 9216;
+    s.m = s.a = s.b = s.c = s.d = most;
+    start(&s);
+    tick(1, 1, 1, 0);
+    client("A at 65,537", A, 9216, 9, 0);
+    selects("A", RPR_FROM_STAGE, A, 9, 0, 9216);
+    client("A at 56,321", A, 16, 9, SHORT(9216));
+}
+
+/* The answers of calls, taken apart: what a refusal says is not taken for what was carried out, nor the other way. */
+static void taken_apart(void) {
+    expect("a shortfall", rpr_shortfall_of(SHORT(65537)), 65537);
+    expect("of a mark there is none", rpr_shortfall_of(MARKED), 0);
+    expect("nor of another refusal", rpr_shortfall_of(RPR_STAGE_FULL), 0);
+    expect("a mark", rpr_mark_of(MARKED), RPR_YES);
+    expect("a shortfall is no mark", rpr_mark_of(SHORT(1)), 0);
+    expect("nor a frame", rpr_selected_eligible(SHORT(1)) | rpr_selected_size(SHORT(65536)), 0);
+    expect("nor a wrap mark", rpr_choice_wrap_mark(SHORT(1)), 0);
+    expect("nor a credit", rpr_settled_end_credit(SHORT(1)), 0);
 }
 
 /* ---- queues and selection ---- */
@@ -269,9 +341,12 @@ int main(void) {
     no_stations();
     ticks();
     clients();
+    shortfalls();
+    shortfall_of_largest();
+    taken_apart();
     queues();
     selection();
     rows();
     slots();
-    return told("stations: the library answers as document 01 says");
+    return told("stations: the library answers as documents 01 and 02 say");
 }

@@ -11,6 +11,9 @@ enum { A = RPR_CLASS_A, B = RPR_CLASS_B, C = RPR_CLASS_C };
 /* The answer of a client offer whose frame is marked fairness eligible: byte 4 is 1. */
 #define MARKED ((uint64_t)1 << 32)
 
+/* The answer of a client offer that shapers turn down: byte 0 is 6, bytes 4 to 7 the bytes missing. */
+#define SHORT(missing) (RPR_NO_PERMIT | (uint64_t)(missing) << 32)
+
 /* Every word differs from its neighbours, so that none is taken for another. Weight x unit is 3; C's amount, 53, is
  * below 10,000 / (4 x 10). */
 static const struct rpr_settings plain = {

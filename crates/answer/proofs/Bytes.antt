@@ -3,11 +3,12 @@
 use Prim.Native.Nat.{ℕ, zero, suc, _+_, _*_, _/_, _%_, _^_, _<_, _≤_}
 use mathlib.Core.Bool.{Bool, true, false}
 use mathlib.Core.List.{List, [], _∷_}
-use mathlib.Core.Path.{_≡_, refl, ap}
+use mathlib.Core.Path.{_≡_, refl, sym, ap, _∙_}
 use native.Mathlib.Omega.{arith}
 use native.Mathlib.Nat.{pow-suc}
 use lib.ListN.{length}
 use Rattle.wire.specs.Wire.{digits}
+use Rattle.wire.proofs.Numbers.{digits-mod}
 use Rattle.answer.specs.Bytes.{packed, bitOf}
 
 abbrev pub EachByte : List ℕ → Type 0
@@ -27,6 +28,10 @@ pub packed-digits : (n v : ℕ) → v < 256 ^ n → packed (digits n v) ≡ v
 unfolding digits
 packed-digits zero v h = omega arith
 packed-digits (suc n) v h = omega (arith, packed-digits n (v / 256) (omega (arith, pow-suc 256 n)))
+
+-- one that does not is cut to them
+pub packed-cut : (v : ℕ) → packed (digits 4 v) ≡ v % 4294967296
+packed-cut v = ap packed (sym (digits-mod 4 v)) ∙ packed-digits 4 (v % 4294967296) (omega arith)
 
 pub bit-most : (b : Bool) → bitOf b ≤ 1
 unfolding bitOf

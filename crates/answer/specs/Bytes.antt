@@ -1,4 +1,4 @@
--- What a carried out call answers, byte by byte. Byte 0 is the lowest, and 0.
+-- What a call answers, byte by byte. Byte 0 is the lowest, and 0 where the call was carried out.
 -- Assumes nothing.
 use Prim.Native.Nat.{ℕ, _+_, _*_, _%_}
 use mathlib.Core.Bool.{Bool, true, false}
@@ -31,6 +31,10 @@ permittedBytes credit = (0 ∷ 1 ∷ 0 ∷ 0 ∷ []) ++ digits 4 credit
 -- rpr_offer_client. Byte 4: the mark that the frame got, eligible or not.
 abbrev pub markBytes : ℕ → List ℕ
 markBytes mark = 0 ∷ 0 ∷ 0 ∷ 0 ∷ mark ∷ 0 ∷ 0 ∷ 0 ∷ []
+
+-- rpr_offer_client, refused. Byte 0: the number; bytes 4 to 7: what it says beside it, with 6 the shortfall.
+abbrev pub refusedBytes : ℕ → ℕ → List ℕ
+refusedBytes number detail = (number ∷ 0 ∷ 0 ∷ 0 ∷ []) ++ digits 4 detail
 
 -- rpr_select. Byte 1 origin, 2 class, 3 hops, 4 eligible, 5 is 0, 6 and 7 size.
 abbrev pub selectedBytes : ℕ → Frame → List ℕ

@@ -1,8 +1,8 @@
-// The numbers that the host's calls answer where they were carried out, read as eight bytes: byte 0, the lowest, is 0, and the others say what was found. Each
+// The numbers that the host's calls answer, read as eight bytes: byte 0, the lowest, is 0 where the call was carried out, and the others say what was found. Each
 // value is cut to the bytes that it has, so that none runs into another's, whatever is given.
 ghost use mathlib.Core.Path.{_≡_};
 ghost use mathlib.Core.List.{[], _∷_};
-ghost use Rattle.answer.specs.Bytes.{packed, bitOf, chosenBytes, movedBytes, permittedBytes, markBytes, selectedBytes};
+ghost use Rattle.answer.specs.Bytes.{packed, bitOf, chosenBytes, movedBytes, permittedBytes, markBytes, refusedBytes, selectedBytes};
 use queue::Frame;
 
 // A one at byte 1.
@@ -46,6 +46,13 @@ pub fn marked(mark: u32) -> u64
     ensures { λ r. ⌜ r ≡ packed (markBytes mark) ⌝ }
 {
     four(0, 0, 0, mark as u64)
+}
+
+// A client's frame that was refused: byte 0 the number, 4 to 7 what it says beside it.
+pub fn refused(number: u8, detail: u64) -> u64
+    ensures { λ r. ⌜ r ≡ packed (refusedBytes number detail) ⌝ }
+{
+    number as u64 + BYTE_4 * (detail % 4294967296)
 }
 
 // A frame that goes next: byte 1 where it comes from, 2 class, 3 hops, 4 the mark, 6 and 7 size.

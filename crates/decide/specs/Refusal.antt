@@ -52,7 +52,7 @@ numberOf (row f) = f .number
 unfoldable pub firstOf : List Fault → ℕ
 firstOf fs = numberOf (first fs)
 
--- Each [refusal] returns its number alone: what a call comes to by the number of its rows. At 0 it is carried out, at any other number it is the
+-- Each [refusal] returns its number: what a call comes to by the number of its rows. At 0 it is carried out, at any other number it is the
 -- refusal, which is made of that number; what the refusal leaves stands in `refused`.
 unfoldable pub refusedOr : {A : Type 0} → (ℕ → A) → ℕ → A → A
 refusedOr refused zero done = done

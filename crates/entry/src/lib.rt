@@ -10,7 +10,8 @@ use queue::Frame;
 use shaper::Shaper;
 use station::Station;
 
-// What most calls answer: 0 or the number of the refusal. `detail`, here and below, is what a refusal says beside its number: 0, as none says more.
+// What most calls answer: 0 or the number of the refusal. `detail`, here and below, is what a refusal says beside its number: of 6 how far short the shapers are,
+// else 0.
 pub struct Brief {
     pub number: u8,
     pub detail: u64,
@@ -38,7 +39,7 @@ pub fn shaper_tick(s: &mut Shaper, waiting: bool, amount: u32)
     *s = (*s).tick(waiting, amount);
 }
 
-// A send of this size through a shaper: 6 where it does not permit.
+// A send of this size through a shaper: 6, and how far short, where it does not permit.
 pub fn shaper_charge(s: &mut Shaper, size: u32) -> Brief
     ensures { λ r. ⌜ (r ≡ chargeBriefOf (chargeOf (now (s .entry)) size)) × (now (s .exit) ≡ chargeOf (now (s .entry)) size .shaper) ⌝ }
 {

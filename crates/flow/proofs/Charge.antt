@@ -1,7 +1,7 @@
 -- Permissions and charges, shaper by shaper.
 -- Assumes nothing.
 use Prim.Native.Nat.{ℕ}
-use mathlib.Core.Bool.{Bool, true, cond, _&&_, and-true, false≢true}
+use mathlib.Core.Bool.{true, cond, and-true, false≢true}
 use mathlib.Core.List.{List, [], _∷_}
 use mathlib.Core.Logic.{⊎-elim}
 use mathlib.Core.Path.{_≡_, refl, sym, ap, _∙_}
@@ -40,12 +40,9 @@ module _ (s : Settings) (c : Credits) where
   charge-one C z = refl
   charge-one D z = refl
 
-  -- what code asks of one and of two
+  -- what is asked of one
   pub permits-one : (w : Which) → permitsOf s c w ≡ permitsAll s c (w ∷ [])
   permits-one w = sym (and-true (permitsOf s c w))
-
-  pub permits-two : (w v : Which) → (permitsOf s c w && permitsOf s c v) ≡ permitsAll s c (w ∷ v ∷ [])
-  permits-two w v = ap (λ (b : Bool). permitsOf s c w && b) (permits-one v)
 
   -- where all permit, the first does and the others do
   pub permits-first : (w : Which) (ws : List Which) → permitsAll s c (w ∷ ws) ≡ true → permitsOf s c w ≡ true

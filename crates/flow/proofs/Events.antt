@@ -117,12 +117,12 @@ module _ (s : Settings) (f : Flow) where
   pub client-feeds : (class size hops : ℕ) (over : Bool) → (16 ≤ size) × (size ≤ s .mtu)
       → Feeds s f (clientOf s f class size hops over .flow) (clientEvents class size (clientOf s f class size hops over))
   client-feeds class size hops over h =
-      by-cases (true-or-false (stageHolds f)) (λ e. refused 5 refl (client-full w s f class size hops over e))
+      by-cases (true-or-false (stageHolds f)) (λ e. refused 5 0 refl (client-full w s f class size hops over e))
       (λ e. by-cases (true-or-false (permitsAll s (f .credits) (needsOf w)))
       (λ p. by-cases (true-or-false (eqb (markOf w) 1 && over))
-      (λ o. refused 7 refl (client-over w s f class size hops over e p o))
+      (λ o. refused 7 0 refl (client-over w s f class size hops over e p o))
       (λ o. subst Fed (sym (client-taken w s f class size hops over e p o)) (rw (way-back s (f .credits) class) (charge-feeds _ (needsOf w) size h p refl))))
-      (λ p. refused 6 refl (client-barred w s f class size hops over e p)))
+      (λ p. refused 6 _ refl (client-barred w s f class size hops over e p)))
     where
       w : Way
       w = wayOf s (f .credits) class
@@ -130,8 +130,8 @@ module _ (s : Settings) (f : Flow) where
       Fed : Client → Type 0
       Fed r = Feeds s f (r .flow) (clientEvents class size r)
 
-      refused : (n : ℕ) → eqb n 0 ≡ false → clientAs w s f class size hops over ≡ refusedOf f n → Fed (clientAs w s f class size hops over)
-      refused n z e = subst Fed (sym e) (rw z (none-feeds f refl))
+      refused : (n detail : ℕ) → eqb n 0 ≡ false → clientAs w s f class size hops over ≡ refusedOf f n detail → Fed (clientAs w s f class size hops over)
+      refused n detail z e = subst Fed (sym e) (rw z (none-feeds f refl))
 
   -- ---- selection
 

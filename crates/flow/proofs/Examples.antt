@@ -95,6 +95,12 @@ pub record Examples : Type 0 where
   pub own-rate : clientOf settings (flow (credits 101 200 200) [] [] [] 0) 1 40 3 false .mark ≡ 0
   pub own-pays : clientOf settings (flow (credits 101 200 200) [] [] [] 0) 1 40 3 false .flow .credits ≡ record { m = 101; a = 101; b = 61; c = 200; d = 160 }
   pub d-lacks : clientOf settings (flow (credits 101 200 100) [] [] [] 0) 1 40 3 false .number ≡ 6
+  -- How far short: D lacks 1. At credits of 50, 60 and 90, A and B lack 51, C 41 and D 11: A is told its own, and B, tried as excess, the larger of C's and D's;
+  -- with C and D exchanged the same.
+  pub d-short : clientOf settings (flow (credits 101 200 100) [] [] [] 0) 1 40 3 false .detail ≡ 1
+  pub a-short : clientOf settings (flow (credits 50 60 90) [] [] [] 0) 0 40 3 false .detail ≡ 51
+  pub excess-short : clientOf settings (flow (credits 50 60 90) [] [] [] 0) 1 40 3 false .detail ≡ 41
+  pub d-larger : clientOf settings (flow (credits 50 90 60) [] [] [] 0) 2 40 3 false .detail ≡ 41
 
 pub examples : Examples
 unfolding test tickOf selectOf wayOf refusedOr firstOf first pushed emptyQueue spaceOf queue.firstFrame queue.taken
@@ -123,4 +129,8 @@ examples =
       own-rate = refl;
       own-pays = refl;
       d-lacks = refl;
+      d-short = refl;
+      a-short = refl;
+      excess-short = refl;
+      d-larger = refl;
     }

@@ -1,5 +1,6 @@
 pub mod Range
 pub mod Charge
+pub mod Short
 pub mod Held
 pub mod Tick
 pub mod Offer

@@ -25,6 +25,7 @@ use Rattle.flow.specs.declared.Way.the-variants.{ClassA, ClassB, Excess}
 use Rattle.flow.specs.declared.Which.{Which}
 use Rattle.flow.specs.declared.Which.the-variants.{B, C, D}
 use Rattle.flow.specs.Which.{permitsOf, permitsAll}
+use Rattle.flow.specs.Short.{shortAll}
 use Rattle.flow.specs.Parts.{queueOf, capacityOf, stageHolds}
 use Rattle.flow.specs.Offer.{enterFaults, notEnteredOf, appendedOf, enterOf, queueFor, needsOf, markOf, wayOf, clientFaults, clientFrame, refusedOf, laidOf, clientAs, clientOf}
 use Rattle.flow.specs.Events.{wayBack}
@@ -110,18 +111,19 @@ module _ (s : Settings) (c : Credits) where
 
 module _ (w : Way) (s : Settings) (f : Flow) (class size hops : ℕ) (over : Bool) where
   -- 5 where the stage holds a frame
-  pub client-full : stageHolds f ≡ true → clientAs w s f class size hops over ≡ refusedOf f 5
+  pub client-full : stageHolds f ≡ true → clientAs w s f class size hops over ≡ refusedOf f 5 0
   unfolding refusedOr
   client-full e = rw (in-order (clientFaults s f w over) refl, e)
 
-  -- else 6 where a needed shaper does not permit
-  pub client-barred : stageHolds f ≡ false → permitsAll s (f .credits) (needsOf w) ≡ false → clientAs w s f class size hops over ≡ refusedOf f 6
+  -- else 6 where a needed shaper does not permit, and how far short they are
+  pub client-barred : stageHolds f ≡ false → permitsAll s (f .credits) (needsOf w) ≡ false
+      → clientAs w s f class size hops over ≡ refusedOf f 6 (shortAll s (f .credits) (needsOf w))
   unfolding refusedOr
   client-barred e p = rw (in-order (clientFaults s f w over) refl, e, p)
 
   -- else 7 where an eligible frame would pass the congested fair rate
   pub client-over : stageHolds f ≡ false → permitsAll s (f .credits) (needsOf w) ≡ true → (eqb (markOf w) 1 && over) ≡ true
-      → clientAs w s f class size hops over ≡ refusedOf f 7
+      → clientAs w s f class size hops over ≡ refusedOf f 7 0
   unfolding refusedOr
   client-over e p o = rw (in-order (clientFaults s f w over) refl, e, p, o)
 
@@ -142,9 +144,9 @@ lacking s c w e = ap (λ (b : Bool). permitsOf s c w && (b && true)) e ∙ and-f
 
 module _ (s : Settings) (f : Flow) (size hops : ℕ) (over : Bool) (e : stageHolds f ≡ false) (d : permitsOf s (f .credits) D ≡ false) where
   -- for client B, which then is excess and lacks D as such
-  pub b-lacks-d : clientOf s f 1 size hops over ≡ refusedOf f 6
+  pub b-lacks-d : clientOf s f 1 size hops over ≡ refusedOf f 6 (shortAll s (f .credits) (C ∷ D ∷ []))
   b-lacks-d = rw (way-b-failing s (f .credits) (lacking s (f .credits) B d)) (client-barred Excess s f 1 size hops over e (lacking s (f .credits) C d))
 
   -- and for client C
-  pub c-lacks-d : clientOf s f 2 size hops over ≡ refusedOf f 6
+  pub c-lacks-d : clientOf s f 2 size hops over ≡ refusedOf f 6 (shortAll s (f .credits) (C ∷ D ∷ []))
   c-lacks-d = rw (way-c s (f .credits)) (client-barred Excess s f 2 size hops over e (lacking s (f .credits) C d))

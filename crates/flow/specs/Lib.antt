@@ -1,4 +1,5 @@
 pub mod Which
+pub mod Short
 pub mod Parts
 pub mod Range
 pub mod Tick

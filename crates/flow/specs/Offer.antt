@@ -8,6 +8,7 @@ use Rattle.decide.specs.Refusal.{Fault, fault, firstOf, refusedOr}
 use Rattle.queue.specs.declared.Frame.{Frame}
 use Rattle.queue.specs.Frame.{FrameOk, wordOf}
 use Rattle.queue.specs.Queue.{pushed, spaceOf}
+use Rattle.shaper.specs.Short.{detailOf}
 use Rattle.settings.specs.declared.Settings.{Settings}
 use Rattle.settings.specs.Range.{SettingsOk}
 use Rattle.flow.specs.declared.Client.{Client}
@@ -21,6 +22,7 @@ use Rattle.flow.specs.declared.Way.the-variants.{ClassA, ClassB, Excess}
 use Rattle.flow.specs.declared.Which.{Which}
 use Rattle.flow.specs.declared.Which.the-variants.{A, B, C, D}
 use Rattle.flow.specs.Which.{permitsAll, sends, fed}
+use Rattle.flow.specs.Short.{shortAll}
 use Rattle.flow.specs.Parts.{queueOf, capacityOf, boundsOf, stageHolds, withCredits, withStage, withQueue}
 use Rattle.flow.specs.Range.{FlowOk}
 
@@ -91,9 +93,9 @@ clientFaults s f w over =
 abbrev pub clientFrame : Way → ℕ → ℕ → ℕ → Frame
 clientFrame w class size hops = record { size = size; hops = hops; class = class; mark = markOf w }
 
--- a refusal changes nothing
-abbrev pub refusedOf : Flow → ℕ → Client
-refusedOf f n = record { number = n; detail = 0; mark = 0; flow = f }
+-- a refusal changes nothing; it is a number, and what it says beside it
+abbrev pub refusedOf : Flow → ℕ → ℕ → Client
+refusedOf f n detail = record { number = n; detail = detail; mark = 0; flow = f }
 
 -- the frame lies in the stage, and the shapers that it needs are charged
 abbrev pub laidOf : Settings → Flow → Way → Frame → Client
@@ -105,10 +107,11 @@ laidOf s f w x =
       flow = withStage (withCredits f (fed s (f .credits) (sends (needsOf w) (x .size)))) (wordOf x);
     }
 
--- a client frame that goes this way
+-- a client frame that goes this way; 6 says how far short the shapers are that this way needs
 abbrev pub clientAs : Way → Settings → Flow → ℕ → ℕ → ℕ → Bool → Client
 clientAs w s f class size hops over =
-    refusedOr (refusedOf f) (firstOf (clientFaults s f w over)) (laidOf s f w (clientFrame w class size hops))
+    refusedOr (λ n. refusedOf f n (detailOf n (shortAll s (f .credits) (needsOf w)))) (firstOf (clientFaults s f w over))
+    (laidOf s f w (clientFrame w class size hops))
 
 abbrev pub clientOf : Settings → Flow → ℕ → ℕ → ℕ → Bool → Client
 clientOf s f class size hops over = clientAs (wayOf s (f .credits) class) s f class size hops over

@@ -9,6 +9,7 @@ ghost use Rattle.shaper.specs.Credit.{next};
 ghost use Rattle.shaper.specs.Credit as shaper;
 ghost use Rattle.settings.specs.Range.{limitsOf};
 ghost use Rattle.flow.specs.Which.{bucketOf, creditOf, withCredit, permitsOf, sends, fed};
+ghost use Rattle.flow.specs.Short.{shortOf};
 ghost use Rattle.flow.specs.Parts.{queueOf, capacityOf, boundsOf, stageHolds, withQueue};
 ghost use Rattle.flow.specs.Range.{creditsOk, stageOk, flowOk};
 ghost use Rattle.flow.specs.Tick.{startOf, tickOf};
@@ -66,7 +67,7 @@ pub enum Way {
 }
 
 // What an offer to a queue answers: 0, or 4 where the frame exceeds its space, and the flow afterwards. `detail`, here and below, is what a refusal says
-// beside its number: 0, as none says more.
+// beside its number: of 6 how far short the shapers are, else 0.
 pub struct Entered {
     pub number: u8,
     pub detail: u64,
@@ -221,9 +222,9 @@ impl Credits {
             & (self.d <= shapers.d.hi)
     }
 
-    // Whether a shaper permits a send.
-    fn permits(self, settings: Settings, which: Which) -> bool
-        ensures { λ r. ⌜ r ≡ permitsOf settings self which ⌝ }
+    // How far short a shaper is of permitting a send, 0 where it permits.
+    fn short(self, settings: Settings, which: Which) -> u64
+        ensures { λ r. ⌜ r ≡ shortOf settings self which ⌝ }
     {
         let bucket = which.bucket(settings);
         shaper::ask(self.credit(which), bucket.lo)

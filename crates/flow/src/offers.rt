@@ -1,7 +1,9 @@
 // Frames in: transit and control frames into the queues, client frames into the stage.
 ghost use mathlib.Core.Path.{_≡_};
 ghost use mathlib.Core.Bool.{true};
+ghost use mathlib.Core.List.{[], _∷_};
 ghost use Rattle.flow.specs.Which.{permitsAll, sends, fed};
+ghost use Rattle.flow.specs.Short.{shortAll};
 ghost use Rattle.flow.specs.Offer.{Offered, enterOf, queueFor, transitOf, controlFrame, controlOf, needsOf, markOf, wayOf, refusedOf, clientOf};
 use crate::Client;
 use crate::Credits;
@@ -48,16 +50,17 @@ impl Flow {
         ensures { λ r. ⌜ r ≡ clientOf settings self class size hops over ⌝ }
     {
         if self.stage_holds() {
-            return self.refused(5);
+            return self.refused(5, 0);
         }
         let credits = self.credits;
         let way = credits.way(settings, class);
-        if !credits.admits(settings, way) {
-            return self.refused(6);
+        let short = credits.short_all(settings, way);
+        if 0 < short {
+            return self.refused(6, short);
         }
         let mark = way.mark();
         if (mark == MARKED) & over {
-            return self.refused(7);
+            return self.refused(7, 0);
         }
         let paid = credits.pay(settings, way, size);
         let frame = Frame {
@@ -78,13 +81,13 @@ impl Flow {
         }
     }
 
-    // Turns a client frame down by this number: nothing is changed.
-    fn refused(self, number: u8) -> Client
-        ensures { λ r. ⌜ r ≡ refusedOf self number ⌝ }
+    // Turns a client frame down by this number, and says this beside it: nothing is changed.
+    fn refused(self, number: u8, detail: u64) -> Client
+        ensures { λ r. ⌜ r ≡ refusedOf self number detail ⌝ }
     {
         Client {
             number: number,
-            detail: 0,
+            detail: detail,
             mark: 0,
             flow: self,
         }
@@ -122,21 +125,28 @@ impl Credits {
         if class == CLASS_A {
             return Way::ClassA;
         }
-        if (class == CLASS_B) & self.admits(settings, Way::ClassB) {
+        if (class == CLASS_B) & (self.short_all(settings, Way::ClassB) == 0) {
             return Way::ClassB;
         }
         Way::Excess
     }
 
-    // Whether every shaper that a way needs permits.
-    fn admits(self, settings: Settings, way: Way) -> bool
-        ensures { λ r. ⌜ r ≡ permitsAll settings self (needsOf way) ⌝ }
+    // How far short the shapers are that a way needs, where there are two the larger; 0 where each permits.
+    fn short_all(self, settings: Settings, way: Way) -> u64
+        ensures { λ r. ⌜ r ≡ shortAll settings self (needsOf way) ⌝ }
     {
         match way {
-            Way::ClassA => self.permits(settings, Which::A),
-            Way::ClassB => self.permits(settings, Which::B) & self.permits(settings, Which::D),
-            Way::Excess => self.permits(settings, Which::C) & self.permits(settings, Which::D),
+            Way::ClassA => self.short(settings, Which::A),
+            Way::ClassB => self.short_of_two(settings, Which::B, Which::D),
+            Way::Excess => self.short_of_two(settings, Which::C, Which::D),
         }
+    }
+
+    // How far short two shapers are: the larger shortfall.
+    fn short_of_two(self, settings: Settings, one: Which, other: Which) -> u64
+        ensures { λ r. ⌜ r ≡ shortAll settings self (one ∷ other ∷ []) ⌝ }
+    {
+        decide::larger(self.short(settings, one), self.short(settings, other))
     }
 
     // The credits after a frame of this size is charged to every shaper that its way needs, and that permits it.

@@ -160,8 +160,8 @@ impl Sight {
         let first = self.control.first();
         let primary = self.primary.space(room.primary);
         let secondary = self.secondary.space(room.secondary);
-        let permitted = shaper::ask(credits.m, shapers.m.lo);
-        (first.size <= primary) & (first.size <= secondary) & permitted
+        let short = shaper::ask(credits.m, shapers.m.lo);
+        (first.size <= primary) & (first.size <= secondary) & (short == 0)
     }
 
     // Whether the secondary queue has no space for the longest frame.
@@ -179,8 +179,8 @@ impl Sight {
         let shapers = settings.shapers;
         let credits = self.credits;
         let holds = self.secondary.holds_frame();
-        let permitted = shaper::ask(credits.d, shapers.d.lo);
-        holds & permitted
+        let short = shaper::ask(credits.d, shapers.d.lo);
+        holds & (short == 0)
     }
 
     // Whether the stage holds a frame.

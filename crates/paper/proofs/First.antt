@@ -1,10 +1,10 @@
 -- The first condition holds: by each call's own laws in `rpr`, its rows are in order, and each applies exactly when its reason holds.
 -- Assumes nothing.
-use Prim.Native.Nat.{ℕ, _+_, _<_}
+use Prim.Native.Nat.{ℕ, _+_, _%_, _<_}
 use mathlib.Core.Bool.{true, not}
-use mathlib.Core.List.{List, _∷_, _++_}
+use mathlib.Core.List.{List, [], _∷_, _++_}
 use mathlib.Core.Logic.{_↔_}
-use mathlib.Core.Path.{_≡_, refl, sym, subst, _∙_}
+use mathlib.Core.Path.{_≡_, refl, sym, ap, subst, _∙_}
 use native.Mathlib.Omega.{arith}
 use lib.Dec.{eqb}
 use lib.ListN.{length}
@@ -37,10 +37,15 @@ use Rattle.wrap.proofs.Exactly.{home-exactly}
 use Rattle.advert.specs.Frame.{advertLength, whole, advertIn}
 use Rattle.flow.specs.declared.Line.{Line}
 use Rattle.flow.specs.declared.Line.the-variants.{Control}
+use Rattle.flow.specs.declared.Way.{Way}
+use Rattle.flow.specs.declared.Way.the-variants.{ClassA, Excess}
 use Rattle.flow.specs.Which.{permitsAll}
+use Rattle.flow.specs.Short.{shortAll, AllExceed}
 use Rattle.flow.specs.Parts.{queueOf, capacityOf, boundsOf}
 use Rattle.flow.specs.Offer.{queueFor, controlFrame, needsOf, markOf}
 use Rattle.flow.proofs.Held.{staged}
+use Rattle.flow.proofs.Offer.{way-a}
+use Rattle.flow.proofs.Short.{short-least, tried-excess}
 use Rattle.fair.specs.Range.{ttlOk}
 use Rattle.fair.specs.Advertise.{ownRinglet, ownAddress}
 use Rattle.fair.proofs.Count.{over-exactly}
@@ -48,6 +53,7 @@ use Rattle.station.specs.Range.{stationOk}
 use Rattle.station.specs.Calls.{flagsOk, rangeFault}
 use Rattle.station.specs.Offers.{givenFrame, wayFor, overFor}
 use Rattle.station.proofs.Range as range
+use Rattle.station.proofs.Short.{short-denied}
 use Rattle.layout.specs.Layout.{stationLength, stationAt}
 use Rattle.layout.specs.Reading.{readingLength}
 use Rattle.sheet.specs.Sheet.{sheetLength, summaryAt}
@@ -64,15 +70,17 @@ use Rattle.rpr.proofs.Station as station
 use Rattle.paper.specs.Reasons.{RefusedWhen, OtherLength, StationOut, startRefused, tickRefused, offerRefused, clientRefused, stationRefused}
 use Rattle.paper.specs.Reasons.{readRefused, roomRefused, Spaces, CarriedOut, placeRefused, chooseRefused, pathRefused, joinRefused, settleRefused}
 use Rattle.paper.specs.Acts.{YesNo}
-use Rattle.paper.specs.First.{Refuses, RefusesLent, Tested, Condition1}
+use Rattle.paper.specs.First.{Refuses, RefusesLent, ReturnsShort, RefusesClient, Tested, Condition1}
 use Rattle.paper.proofs.Earliest.{refuses-record}
 use Rattle.paper.proofs.Reasons.{refuses-alone, Meant, none, row, tried, denies, faulted, tests, tested, equal, below, both-exactly, flags-exactly}
 
 -- ---- by the rows
 
+by-rows : {given : ℕ → Type 0} {byte : ℕ} (rows : List Fault) → byte ≡ firstOf rows → inOrder rows ≡ true → Meant rows given → given byte
+by-rows {given} {byte} rows is ordered meant = subst given (sym (is ∙ in-order rows ordered)) (tried meant)
+
 refuses : {given : ℕ → Type 0} {answer : ℕ} (rows : List Fault) → Bears (firstOf rows) answer → inOrder rows ≡ true → Meant rows given → Refuses given answer
-refuses {given} {answer} rows bears ordered meant =
-    record { number = subst given (sym (bears .byte-0 ∙ in-order rows ordered)) (tried meant); alone = refuses-alone bears }
+refuses rows bears ordered meant = record { number = by-rows rows (bears .byte-0) ordered meant; alone = refuses-alone bears }
 
 lent : {given : ℕ → Type 0} {answer : ℕ} {before after : List ℕ} (rows : List Fault) → Bears (firstOf rows) answer × (0 < firstOf rows → after ≡ before)
     → inOrder rows ≡ true → Meant rows given → RefusesLent given answer before after
@@ -139,18 +147,55 @@ module _ (xs : List ℕ) where
   unfolding offerControlAnswer offerControlAfter
   control size = offer Control (controlFrame size)
 
-  client : (class size hops : ℕ) → RefusesLent (clientRefused xs class size hops) (offerClientAnswer xs class size hops) xs (offerClientAfter xs class size hops)
-  client class size hops =
-      let st = stationAt xs in
-      let way = wayFor st class in
-      let permits = permitsAll (st .settings) (st .flow .credits) (needsOf way) in
-      lent (offerClientRows xs class size hops) (station.offer-client-leaves xs class size hops) refl
-      (on-station
-      (row (frame-out (boundsOf (st .settings)) (givenFrame class size hops 0))
-      (row (staged (st .flow))
-      (row (denies permits (λ e. e, λ e. e))
-      (row (both-exactly (eqb (markOf way) 1) (overFor st size hops) (equal (markOf way) 1) (over-exactly (st .fair) size hops))
-      none)))))
+  module _ (class size hops : ℕ) where
+    abbrev told : ℕ
+    told = offerClientAnswer xs class size hops
+
+    client-number : clientRefused xs class size hops (told % 256)
+    client-number =
+        let st = stationAt xs in
+        let way = wayFor st class in
+        let permits = permitsAll (st .settings) (st .flow .credits) (needsOf way) in
+        by-rows (offerClientRows xs class size hops) (station.offer-client-leaves xs class size hops .0 .byte-0) refl
+        (on-station
+        (row (frame-out (boundsOf (st .settings)) (givenFrame class size hops 0))
+        (row (staged (st .flow))
+        (row (denies permits (λ e. e, λ e. e))
+        (row (both-exactly (eqb (markOf way) 1) (overFor st size hops) (equal (markOf way) 1) (over-exactly (st .fair) size hops))
+        none)))))
+
+    -- 6 returns the least amount for the shapers of the way that was tried
+    short-for : (way : Way) {exceed : ℕ → Type 0} → told % 256 ≡ 6 → wayFor (stationAt xs) class ≡ way
+        → ((x : ℕ) → AllExceed (stationAt xs .settings) (stationAt xs .flow .credits) x (needsOf way) ↔ exceed x) → ReturnsShort exceed told
+    short-for way e is same =
+        let s = stationAt xs .settings in
+        let c = stationAt xs .flow .credits in
+        let says = rw is at (station.offer-client-short xs class size hops e) in
+        let least = short-least s c (needsOf way) in
+        record {
+          short = shortAll s c (needsOf way);
+          bytes = says .bytes;
+          least = λ x. (λ h. same x .0 (least x .1 h), λ h. least x .0 (same x .1 h));
+          fits = (says .least, says .most);
+        }
+
+    excess : told % 256 ≡ 6 → (class ≡ 0 → ⊥) → wayFor (stationAt xs) class ≡ Excess
+    excess e n =
+        let st = stationAt xs in
+        tried-excess (st .settings) (st .flow .credits) class n (short-denied st class size hops (station.offer-client-six xs class size hops e))
+
+    client : RefusesClient xs class size hops told (offerClientAfter xs class size hops)
+    client =
+        let leaves = station.offer-client-leaves xs class size hops in
+        let st = stationAt xs in
+        let given : 0 < told % 256 → 0 < firstOf (offerClientRows xs class size hops) = subst (λ (n : ℕ). 0 < n) (leaves .0 .byte-0) in
+        record {
+          number = client-number;
+          short-a = λ e a. short-for ClassA e (ap (wayFor st) a ∙ way-a (st .settings) (st .flow .credits)) (λ x. (λ h. h .0, λ h. (h, tt)));
+          short-excess = λ e n. short-for Excess e (excess e n) (λ x. (λ h. (h .0, h .1 .0), λ h. (h .0, (h .1, tt))));
+          alone = λ p n. leaves .0 .others (given p) (λ s. n (leaves .0 .byte-0 ∙ s)) ∙ ap (λ (m : ℕ). m ∷ 0 ∷ 0 ∷ 0 ∷ 0 ∷ 0 ∷ 0 ∷ 0 ∷ []) (sym (leaves .0 .byte-0));
+          stays = λ p. leaves .1 (given p);
+        }
 
   selected : RefusesLent (stationRefused xs) (selectAnswer xs) xs (selectAfter xs)
   selected = lent (selectRows xs) (station.select-leaves xs) refl (on-station none)

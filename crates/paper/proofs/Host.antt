@@ -1,6 +1,6 @@
 -- What the host is told and finds, by the laws of `rpr`: byte 0 is the number of the station's own rows behind the length, and the bytes that a call leaves hold
 -- the station that its step left. Assumes nothing.
-use Prim.Native.Nat.{ℕ, _%_, _<_}
+use Prim.Native.Nat.{ℕ}
 use mathlib.Core.Bool.{true}
 use mathlib.Core.List.{List, [], _∷_, _++_}
 use mathlib.Core.Path.{_≡_, refl, sym, ap, subst, _∙_}
@@ -25,10 +25,11 @@ use Rattle.station.specs.declared.Selected.{Selected}
 use Rattle.station.specs.declared.Client.{Client}
 use Rattle.station.specs.declared.Done.{Done}
 use Rattle.station.specs.Calls.{tickFaults, selectFaults, ageFaults, tickOf, selectOf, ageOf}
-use Rattle.station.specs.Offers.{givenFrame, offerFaults, offerClientFaults, staging, turnedOf, takenOf, offerClientOf, offerTransitOf, offerControlOf}
+use Rattle.station.specs.Offers.{givenFrame, offerFaults, offerClientFaults, staging, takenOf, offerClientOf, offerTransitOf, offerControlOf}
 use Rattle.station.specs.Hear.{hearFaults, changedOf, hearOf}
 use Rattle.station.proofs.Range.{facts-in-range}
 use Rattle.station.proofs.Calls.{select-done, age-done}
+use Rattle.station.proofs.Short.{client-short}
 use Rattle.station.specs.History as history
 use Rattle.station.proofs.Refused.{call-exactly}
 use Rattle.layout.specs.Layout.{stationLength, stationAt}
@@ -60,16 +61,16 @@ module _ (xs : List ℕ) (k : Keeps xs (stationAt xs)) where
   st = stationAt xs
 
   -- byte 0 is the number of the rows behind the length
-  number-told : {answer n : ℕ} (fs : List Fault) → ranked fs ≡ true → Bears (firstOf (otherLength stationLength xs ∷ fs)) answer → RefusedExactly n fs → answer % 256 ≡ n
-  number-told {answer} {n} fs r bears exactly =
-      bears .byte-0 ∙ right-length stationLength xs fs (k .whole) ∙ exact-number fs (firstOf fs) n (refused-exactly fs r (firstOf fs) refl) exactly
+  number-told : {byte n : ℕ} (fs : List Fault) → ranked fs ≡ true → byte ≡ firstOf (otherLength stationLength xs ∷ fs) → RefusedExactly n fs → byte ≡ n
+  number-told {byte} {n} fs r is exactly =
+      is ∙ right-length stationLength xs fs (k .whole) ∙ exact-number fs (firstOf fs) n (refused-exactly fs r (firstOf fs) refl) exactly
 
   -- a call that says nothing more
   plainly : {answer n : ℕ} {after : List ℕ} {next : Station} (fs : List Fault) → ranked fs ≡ true → Bears (firstOf (otherLength stationLength xs ∷ fs)) answer
       → answer ≡ answerOf (otherLength stationLength xs ∷ fs) 0 → RefusedExactly n fs → Keeps after next → Serves answer after n nothingMore next
   unfolding digits
   plainly {answer} fs r bears is exactly keeps =
-      let number = number-told fs r bears exactly in
+      let number = number-told fs r (bears .byte-0) exactly in
       record {
         numbered = number;
         says = λ z. ap (λ (a : ℕ). digits 8 a) (laws.carried-said (otherLength stationLength xs ∷ fs) answer 0 bears is (number ∙ z) .1);
@@ -112,17 +113,25 @@ module _ (xs : List ℕ) (k : Keeps xs (stationAt xs)) where
       Serves (offerClientAnswer xs class size hops) (leftBy (offerClient class size hops) xs) (r .number) (0 ∷ 0 ∷ 0 ∷ r .mark ∷ 0 ∷ 0 ∷ 0 ∷ []) (r .station)
   client class size hops =
       let fs = offerClientFaults st class size hops in
-      let number = number-told fs refl (laws.offer-client-leaves xs class size hops .0) (call-exactly (history.offerClient class size hops) st) in
+      let number = number-told fs refl (laws.offer-client-leaves xs class size hops .0 .byte-0) (call-exactly (history.offerClient class size hops) st) in
       record {
         numbered = number;
         says = λ z.
             let taken = takenOf st (staging st class size hops) in
             let none = exact-number fs _ _ (refused-exactly fs refl _ refl) (call-exactly (history.offerClient class size hops) st) ∙ z in
-            let marked = ap (λ (r : Client). r .mark) (carried-by (turnedOf st) taken (firstOf fs) none)
+            let marked = ap (λ (r : Client). r .mark) (carried-by _ taken (firstOf fs) none)
             ∙ laws.client-mark xs class size hops (number ∙ z) in
             laws.offer-client-bytes xs class size hops (number ∙ z) ∙ ap (λ (m : ℕ). 0 ∷ 0 ∷ 0 ∷ 0 ∷ m ∷ 0 ∷ 0 ∷ 0 ∷ []) (sym marked);
         keeps = call-keeps k (offerClient class size hops) _ refl;
       }
+
+  -- refused with 6 it is told what the station said beside it
+  barred : (class size hops : ℕ)
+      → let r = offerClientOf st class size hops in
+      r .number ≡ 6 → digits 8 (offerClientAnswer xs class size hops) ≡ (6 ∷ 0 ∷ 0 ∷ 0 ∷ []) ++ digits 4 (r .detail)
+  barred class size hops e =
+      laws.offer-client-short xs class size hops (client class size hops .numbered ∙ e) .bytes
+      ∙ ap (λ (d : ℕ). (6 ∷ 0 ∷ 0 ∷ 0 ∷ []) ++ digits 4 d) (sym (client-short st class size hops e))
 
   chosen :
       let r = selectOf st in
@@ -130,7 +139,7 @@ module _ (xs : List ℕ) (k : Keeps xs (stationAt xs)) where
       ((r .origin ∷ r .frame .class ∷ r .frame .hops ∷ r .frame .mark ∷ 0 ∷ []) ++ digits 2 (r .frame .size)) (r .station)
   chosen =
       let done = select-done st (facts-in-range st (k .in-range)) in
-      let number = number-told (selectFaults st) refl (laws.select-leaves xs .0) (call-exactly history.select st) ∙ ap (λ (r : Selected). r .number) done in
+      let number = number-told (selectFaults st) refl (laws.select-leaves xs .0 .byte-0) (call-exactly history.select st) ∙ ap (λ (r : Selected). r .number) done in
       record {
         numbered = number;
         says = λ z. laws.select-bytes xs number
@@ -158,6 +167,7 @@ module _ (xs : List ℕ) (k : Keeps xs (stationAt xs)) where
       record {
         tick = ticked;
         offer-client = client;
+        offer-client-short = barred;
         offer-transit = transit;
         offer-control = control;
         select = chosen;

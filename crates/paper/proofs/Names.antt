@@ -7,6 +7,7 @@ use mathlib.Core.Path.{_≡_, refl, ap, _∙_}
 use native.Mathlib.Nat.{mod-eq-of-lt, add-mod-right}
 use native.Mathlib.Omega.{arith}
 use borrow.Author.Tests.{eq-eqb, ne-eqb, ltb-true, lt-ltb}
+use Rattle.shaper.proofs.Short.{shortfall-least}
 use Rattle.wire.specs.Wire.{le, be, digits, put}
 use Rattle.slots.specs.Slots.{wordsAt}
 use Rattle.queue.specs.Queue.{framesFrom, framesOf, firstFrame, taken, sizes}
@@ -41,6 +42,7 @@ shapers =
       credits = λ c. (refl, refl, refl, refl, refl);
       limits = λ s w. refl;
       permitted = λ credit lo. (ltb-true lo credit, lt-ltb lo credit);
+      missing = λ credit lo x. let least = shortfall-least credit lo x in (least .1, least .0);
       ticks = λ x. (refl, refl);
       nobody = λ w. refl;
       first = first;
@@ -118,7 +120,7 @@ anew st =
       heard = λ a. refl;
       done = refl;
       refused = λ n. refl;
-      turned = λ n. refl;
+      turned = λ n detail. refl;
     }
 
 entries : EntryNames

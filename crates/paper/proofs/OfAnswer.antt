@@ -10,5 +10,6 @@ functions =
       moved = λ delivered hops. by-equation;
       permitted = λ credit. by-equation;
       marked = λ mark. by-equation;
+      refused = λ number detail. by-equation;
       selected = λ origin frame. by-equation;
     }

@@ -10,12 +10,14 @@ use Rattle.settings.specs.declared.Settings.{Settings}
 use Rattle.shaper.specs.declared.Event.the-variants.{Send}
 use Rattle.shaper.specs.Credit.{endCredit}
 use Rattle.shaper.proofs.Credit.{permits-exactly}
+use Rattle.shaper.proofs.Short.{shortfall-least, permits-short}
 use Rattle.flow.specs.declared.Credits.{Credits}
 use Rattle.flow.specs.declared.Which.{Which}
 use Rattle.flow.specs.Which.{bucketOf, creditOf, limitsFor, member, sends, fed}
 use Rattle.flow.proofs.Range.{credit-fed}
 use Rattle.flow.proofs.Tick as waiting
 use Rattle.flow.proofs.Offer as offer
+use Rattle.flow.proofs.Short as short
 use Rattle.fair.specs.declared.Fair.{Fair}
 use Rattle.advert.specs.declared.Advert.{Advert}
 use Rattle.advert.specs.Frame.{whole, advertBytes, AdvertFits, parsedOf}
@@ -29,7 +31,7 @@ use Rattle.station.specs.Range.{StationOk}
 use Rattle.station.specs.Calls.{flagsOk, shareFor}
 use Rattle.station.proofs.Tick as tick
 use Rattle.station.proofs.Hear.{frame-found}
-use Rattle.paper.specs.Rules.{Ticks, Charges, Enters, Counts, Tells, Reads, Writes, Hears}
+use Rattle.paper.specs.Rules.{Ticks, Charges, Lacks, Enters, Counts, Tells, Reads, Writes, Hears}
 
 pub ticks : (st : Station) → StationOk st → (a b c : ℕ) → Holds (flagsOk a b c) → Ticks st a b c
 ticks st ok a b c flags =
@@ -60,6 +62,18 @@ charges s c =
         → creditOf (fed s c (sends ws size)) w ≡ endCredit (limitsFor s w) (creditOf c w) (cond b (Send size ∷ []) [])
     charge ws size w e =
         credit-fed s c (sends ws size) w ∙ ap (λ (b : Bool). endCredit (limitsFor s w) (creditOf c w) (cond b (Send size ∷ []) [])) e
+
+pub lacks : (s : Settings) (c : Credits) → Lacks s c
+lacks s c =
+    record {
+      least = λ w x. let least = shortfall-least (creditOf c w) (bucketOf s w .lo) x in (least .1, least .0);
+      nothing = λ w. permits-short (creditOf c w) (bucketOf s w .lo);
+      one = short.short-one s c;
+      two = short.short-two s c;
+      client-a = short.short-a s c;
+      client-b = short.short-b s c;
+      client-c = short.short-c s c;
+    }
 
 pub enters : Enters
 enters =

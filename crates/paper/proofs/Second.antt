@@ -36,7 +36,7 @@ use Rattle.rpr.proofs.Told.{credit-of-told}
 use Rattle.rpr.proofs.Pairs as told
 use Rattle.rpr.proofs.Kept.{kept-lent}
 use Rattle.paper.specs.Second.{Ready, Selects, Ages, Joins, Reaches, Wraps, Chooses, Sends, Condition2}
-use Rattle.paper.proofs.Rules.{ticks, charges, enters, counts, tells, reads, writes, hears}
+use Rattle.paper.proofs.Rules.{ticks, charges, lacks, enters, counts, tells, reads, writes, hears}
 use Rattle.station.proofs.Interval.{holds-till-interval}
 use Rattle.queue.proofs.Word.{word-frame, frame-fits, word-not-empty}
 use Rattle.paper.proofs.Reasons.{tests, flags-exactly}
@@ -190,6 +190,7 @@ second-condition =
       listening = listens;
       ticks = λ st ok a b c flags. ticks st ok a b c (flags-exactly a b c .1 flags);
       charges = charges;
+      lacks = lacks;
       entry = enters;
       words = λ b x most ok. let held : BoundsOk b = record { mtu-most = most } in (word-frame x (frame-fits held ok), λ e. let some = word-not-empty held ok in omega arith);
       selection = selects;

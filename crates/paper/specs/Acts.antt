@@ -22,6 +22,7 @@ use Rattle.flow.specs.declared.Way.{Way}
 use Rattle.flow.specs.declared.Which.{Which}
 use Rattle.flow.specs.declared.Which.the-variants.{M, D}
 use Rattle.flow.specs.Which.{bucketOf, creditOf, permitsAll, sends, fed}
+use Rattle.flow.specs.Short.{shortAll}
 use Rattle.flow.specs.Parts.{queueOf, capacityOf, boundsOf, withCredits, withStage}
 use Rattle.flow.specs.Tick.{waits}
 use Rattle.flow.specs.Offer.{queueFor, wayOf, needsOf, markOf, clientFrame}
@@ -108,11 +109,12 @@ Passes f size hops = ((f .received .downstream ≡ 1) × (256 - f .received .ttl
 -- A client's frame in range, where it goes in this way. A client gives no mark.
 pub record Stages (st : Station) (class size hops : ℕ) (way : Way) : Type 0 where
   -- The stage holds one client frame.
-  pub full : Staged (st .flow) → offerClientOf st class size hops ≡ turnedOf st 5
-  -- Client A needs .. A. Client B needs .. B and D .. Excess B and C need C and D.
-  pub barred : (Staged (st .flow) → ⊥) → (Permits st way → ⊥) → offerClientOf st class size hops ≡ turnedOf st 6
+  pub full : Staged (st .flow) → offerClientOf st class size hops ≡ turnedOf st 5 0
+  -- Client A needs .. A. Client B needs .. B and D .. Excess B and C need C and D. A turn-down carries the bytes missing.
+  pub barred : (Staged (st .flow) → ⊥) → (Permits st way → ⊥)
+      → offerClientOf st class size hops ≡ turnedOf st 6 (shortAll (st .settings) (st .flow .credits) (needsOf way))
   -- If downstream congested, an eligible client frame with hops > hopsToCongestion gets 7 when addRateCongested + size > allowedRateCongested.
-  pub passing : (Staged (st .flow) → ⊥) → Permits st way → markOf way ≡ 1 → Passes (st .fair) size hops → offerClientOf st class size hops ≡ turnedOf st 7
+  pub passing : (Staged (st .flow) → ⊥) → Permits st way → markOf way ≡ 1 → Passes (st .fair) size hops → offerClientOf st class size hops ≡ turnedOf st 7 0
   -- Else the frame lies in the stage, with its mark, and each needed shaper has one send of its size.
   pub taken : (Staged (st .flow) → ⊥) → Permits st way → ((markOf way ≡ 1) × Passes (st .fair) size hops → ⊥)
       → offerClientOf st class size hops
@@ -194,7 +196,7 @@ pub record Traces (st : Station) (w : Which) (r : Answer) : Type 0 where
 
 -- The number r that a host got for a call on this station, read as eight bytes, byte 0 the lowest: which answer it is, and so what the call was to a shaper.
 pub record ReadsOff (st : Station) (w : Which) (r : ℕ) : Type 0 where
-  -- Byte 0 is 0 where the call was carried out, else the refusal number. Byte 1 origin, 4 eligible, 6 and 7 size.
+  -- Byte 0 is 0 where the call was carried out, else the refusal number. Then byte 1 origin, 4 eligible, 6 and 7 size; of a refusal a record asks none of them.
   pub number : readOff r .number ≡ r % 256
   pub origin : readOff r .origin ≡ r / 256 % 256
   pub mark : readOff r .mark ≡ r / 4294967296 % 256

@@ -25,7 +25,7 @@ pub record Lost (st : Station) : Type 0 where
   pub tick : (a b c : ℕ) → tickOf st a b c ≡ refusedOf st 1
   pub transit : (class size hops eligible : ℕ) → offerTransitOf st class size hops eligible ≡ refusedOf st 1
   pub control : (size : ℕ) → offerControlOf st size ≡ refusedOf st 1
-  pub client : (class size hops : ℕ) → offerClientOf st class size hops ≡ turnedOf st 1
+  pub client : (class size hops : ℕ) → offerClientOf st class size hops ≡ turnedOf st 1 0
   pub select : selectOf st ≡ record { number = 1; detail = 0; origin = 0; frame = frameOf 0; station = st }
   pub age : ageOf st ≡ refusedOf st 1
   pub tell : tellOf st ≡ record { number = 1; detail = 0; advert = record { ringlet = 0; ttl = 0; high = 0; low = 0; rate = 0 } }
@@ -39,7 +39,7 @@ pub record Unfit (st : Station) : Type 0 where
       → offerTransitOf st class size hops eligible ≡ refusedOf st 3
   pub control : (size : ℕ) → (FrameOk (boundsOf (st .settings)) (record { size = size; hops = 1; class = 0; mark = 0 }) → ⊥) → offerControlOf st size ≡ refusedOf st 3
   pub client : (class size hops : ℕ) → (FrameOk (boundsOf (st .settings)) (record { size = size; hops = hops; class = class; mark = 0 }) → ⊥)
-      → offerClientOf st class size hops ≡ turnedOf st 3
+      → offerClientOf st class size hops ≡ turnedOf st 3 0
   -- 4: a frame's size exceeds the queue's space.
   pub transit-full : (class size hops eligible : ℕ) → FrameOk (boundsOf (st .settings)) (record { size = size; hops = hops; class = class; mark = eligible })
       → spaceOf (queueOf (st .flow) (queueFor (st .settings) class)) (capacityOf (st .settings) (queueFor (st .settings) class)) < size

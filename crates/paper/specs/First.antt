@@ -4,10 +4,11 @@
 -- field below says so: a function of this language is accepted only where it is proved to end and to be defined.
 -- "Bad settings, frames or records get document 01's refusal number, first fault first, and station and lent memory then stay exactly as before": below. What
 -- each number is given for is said in `Reasons`, as facts.
+-- "Refusal 6 returns its number and this shortfall": in `RefusesClient`.
 -- Assumes nothing.
-use Prim.Native.Nat.{ℕ, _%_, _≤_, _<_}
+use Prim.Native.Nat.{ℕ, _+_, _%_, _≤_, _<_}
 use mathlib.Core.Bool.{true}
-use mathlib.Core.List.{List, [], _∷_}
+use mathlib.Core.List.{List, [], _∷_, _++_}
 use mathlib.Core.Logic.{_⊎_, _↔_}
 use mathlib.Core.Path.{_≡_}
 use lib.ListN.{length}
@@ -37,6 +38,9 @@ use Rattle.queue.specs.Frame.{hopsOk, frameOk, FrameOk}
 use Rattle.queue.specs.Range.{AllOk, queueOk, QueueOk}
 use Rattle.advert.specs.Frame.{advertLength}
 use Rattle.flow.specs.declared.Line.the-variants.{Control}
+use Rattle.flow.specs.declared.Which.{Which}
+use Rattle.flow.specs.declared.Which.the-variants.{A, C, D}
+use Rattle.flow.specs.Which.{bucketOf, creditOf}
 use Rattle.flow.specs.Offer.{queueFor}
 use Rattle.sheet.specs.Sheet.{sheetLength}
 use Rattle.layout.specs.Reading.{readingLength}
@@ -48,7 +52,7 @@ use Rattle.rpr.specs.Station.{selectAnswer, selectAfter, readFrameAnswer, readF
 use Rattle.paper.specs.Reasons.{CarriedOut, placeRefused, OtherLength, Spaces, startRefused, tickRefused, offerRefused, clientRefused, stationRefused, readRefused, roomRefused}
 use Rattle.paper.specs.Reasons.{chooseRefused, pathRefused, RecordRefused, joinRefused, settleRefused}
 
--- Byte 0 of the answer is the number that is given. Each returns its number alone: where it is not 0, every other byte is 0.
+-- Byte 0 of the answer is the number that is given. Each returns its number alone, but a client's 6 (`RefusesClient`): where it is not 0, every other byte is 0.
 pub record Refuses (given : ℕ → Type 0) (answer : ℕ) : Type 0 where
   pub number : given (answer % 256)
   pub alone : 0 < answer % 256 → digits 8 answer ≡ answer % 256 ∷ 0 ∷ 0 ∷ 0 ∷ 0 ∷ 0 ∷ 0 ∷ 0 ∷ []
@@ -57,6 +61,27 @@ pub record Refuses (given : ℕ → Type 0) (answer : ℕ) : Type 0 where
 pub record RefusesLent (given : ℕ → Type 0) (answer : ℕ) (before after : List ℕ) : Type 0 where
   pub refuses : Refuses given answer
   pub stays : 0 < answer % 256 → after ≡ before
+
+-- What 6 returns beside its number, in bytes 4 to 7: the least amount whose addition would make each credit exceed its loLimit, 1 to 65,537.
+pub record ReturnsShort (exceed : ℕ → Type 0) (answer : ℕ) : Type 0 where
+  pub short : ℕ
+  pub bytes : digits 8 answer ≡ (6 ∷ 0 ∷ 0 ∷ 0 ∷ []) ++ digits 4 short
+  pub least : (x : ℕ) → (short ≤ x) ↔ exceed x
+  pub fits : (1 ≤ short) × (short ≤ 65537)
+
+-- with x added, the credit of this shaper exceeds its loLimit
+abbrev pub Exceeds : Station → Which → ℕ → Type 0
+Exceeds st w x = bucketOf (st .settings) w .lo < creditOf (st .flow .credits) w + x
+
+-- rpr_offer_client: 6 returns its number and this shortfall, every other its number alone.
+pub record RefusesClient (station : List ℕ) (class size hops answer : ℕ) (after : List ℕ) : Type 0 where
+  pub number : clientRefused station class size hops (answer % 256)
+  -- Client A needs A.
+  pub short-a : answer % 256 ≡ 6 → class ≡ 0 → ReturnsShort (Exceeds (stationAt station) A) answer
+  -- Where two shapers are needed, the larger; for client B that of the excess attempt, which needs C and D. Client C is excess.
+  pub short-excess : answer % 256 ≡ 6 → (class ≡ 0 → ⊥) → ReturnsShort (λ x. Exceeds (stationAt station) C x × Exceeds (stationAt station) D x) answer
+  pub alone : 0 < answer % 256 → (answer % 256 ≡ 6 → ⊥) → digits 8 answer ≡ answer % 256 ∷ 0 ∷ 0 ∷ 0 ∷ 0 ∷ 0 ∷ 0 ∷ 0 ∷ []
+  pub stays : 0 < answer % 256 → after ≡ station
 
 -- rpr_summarize: a wrong room is 2 first, then the record's earliest fault.
 pub record RefusesRecord (bytes room : List ℕ) : Type 0 where
@@ -96,7 +121,7 @@ pub record Condition1 : Type 0 where
   pub start : (settings station : List ℕ) → RefusesLent (startRefused settings station) (startAnswer settings station) station (startAfter settings station)
   pub tick : (station : List ℕ) (a b c : ℕ) → RefusesLent (tickRefused station a b c) (tickAnswer station a b c) station (tickAfter station a b c)
   pub offer-client : (station : List ℕ) (class size hops : ℕ)
-      → RefusesLent (clientRefused station class size hops) (offerClientAnswer station class size hops) station (offerClientAfter station class size hops)
+      → RefusesClient station class size hops (offerClientAnswer station class size hops) (offerClientAfter station class size hops)
   pub offer-transit : (station : List ℕ) (class size hops eligible : ℕ)
       → RefusesLent (offerRefused station (queueFor (stationAt station .settings) class) (record { size = size; hops = hops; class = class; mark = eligible })) (offerTransitAnswer station class size hops eligible)
       station (offerTransitAfter station class size hops eligible)

@@ -51,6 +51,10 @@ pub record Hosts (xs : List ℕ) (st : Station) : Type 0 where
   pub offer-client : (class size hops : ℕ)
       → let r = offerClientOf st class size hops in
       Serves (offerClientAnswer xs class size hops) (offerClientAfter xs class size hops) (r .number) (0 ∷ 0 ∷ 0 ∷ r .mark ∷ 0 ∷ 0 ∷ 0 ∷ []) (r .station)
+  -- Refused with 6, bytes 4 to 7: the shortfall.
+  pub offer-client-short : (class size hops : ℕ)
+      → let r = offerClientOf st class size hops in
+      r .number ≡ 6 → digits 8 (offerClientAnswer xs class size hops) ≡ (6 ∷ 0 ∷ 0 ∷ 0 ∷ []) ++ digits 4 (r .detail)
   pub offer-transit : (class size hops eligible : ℕ)
       → let r = offerTransitOf st class size hops eligible in
       Serves (offerTransitAnswer xs class size hops eligible) (offerTransitAfter xs class size hops eligible) (r .number) nothingMore (r .station)

@@ -13,6 +13,7 @@ use Rattle.rpr.specs.Told.{answerByte}
 use Rattle.rpr.specs.Pairs.{linksTold}
 use Rattle.shaper.specs.declared.Event.the-variants.{Waiting, Idle, Send}
 use Rattle.shaper.specs.Credit as shaper
+use Rattle.shaper.specs.Short.{shortfall}
 use Rattle.settings.specs.declared.Settings.{Settings}
 use Rattle.settings.specs.Range.{usualOf}
 use Rattle.queue.specs.declared.Frame.{Frame}
@@ -72,6 +73,8 @@ pub record ShaperNames : Type 0 where
   pub limits : (s : Settings) (w : Which) → limitsFor s w ≡ record { mtu = s .mtu; lo = bucketOf s w .lo; hi = bucketOf s w .hi }
   -- A send is permitted only while credit > loLimit.
   pub permitted : (credit lo : ℕ) → (shaper.permits credit lo ≡ true) ↔ (lo < credit)
+  -- The bytes missing: the least amount whose addition would make the credit exceed loLimit.
+  pub missing : (credit lo x : ℕ) → (shortfall credit lo ≤ x) ↔ (lo < credit + x)
   -- a tick's event
   pub ticks : (x : ℕ) → (shaper.tickOf true x ≡ Waiting x) × (shaper.tickOf false x ≡ Idle x)
   -- who is among those that are charged,
@@ -208,7 +211,7 @@ pub record PartNames (st : Station) : Type 0 where
   pub heard : (a : Advert) → changedOf st a ≡ withFair st (heardOf (st .fair) a)
   pub done : doneOf st ≡ record { number = 0; detail = 0; station = st }
   pub refused : (n : ℕ) → refusedOf st n ≡ record { number = n; detail = 0; station = st }
-  pub turned : (n : ℕ) → turnedOf st n ≡ record { number = n; detail = 0; mark = 0; station = st }
+  pub turned : (n detail : ℕ) → turnedOf st n detail ≡ record { number = n; detail = detail; mark = 0; station = st }
 
 -- What an entry point answers, beside the station behind the reference.
 pub record EntryNames : Type 0 where

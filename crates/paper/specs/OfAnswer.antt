@@ -1,7 +1,7 @@
 -- Public functions of `answer`, by name: two answers that meet the contract are equal.
 -- Assumes nothing.
 use Prim.Native.Nat.{ℕ}
-use Rattle.answer.specs.Bytes.{chosenBytes, markBytes, movedBytes, packed, permittedBytes, selectedBytes}
+use Rattle.answer.specs.Bytes.{chosenBytes, markBytes, movedBytes, packed, permittedBytes, refusedBytes, selectedBytes}
 use Rattle.queue.specs.declared.Frame.{Frame}
 use mathlib.Core.Bool.{Bool}
 use mathlib.Core.Path.{_≡_}
@@ -16,5 +16,7 @@ pub record Functions : Type 0 where
   pub permitted : (credit : ℕ) → Determined (λ (r : ℕ). r ≡ packed (permittedBytes credit))
   -- marked
   pub marked : (mark : ℕ) → Determined (λ (r : ℕ). r ≡ packed (markBytes mark))
+  -- refused
+  pub refused : (number detail : ℕ) → Determined (λ (r : ℕ). r ≡ packed (refusedBytes number detail))
   -- selected
   pub selected : (origin : ℕ) (frame : Frame) → Determined (λ (r : ℕ). r ≡ packed (selectedBytes origin frame))

@@ -2,9 +2,9 @@
 -- Assumes nothing.
 use Prim.Native.Nat.{ℕ}
 use Rattle.decide.specs.Test.{test}
-use Rattle.shaper.specs.Credit.{permits}
 use Rattle.shaper.specs.Limits.{limitsOk, sameLimits}
 use Rattle.shaper.specs.Shaper.{chargeOf, freshOf, tickedOf}
+use Rattle.shaper.specs.Short.{shortfall}
 use Rattle.shaper.specs.declared.Charged.{Charged}
 use Rattle.shaper.specs.declared.Limits.{Limits}
 use Rattle.shaper.specs.declared.Shaper.{Shaper}
@@ -18,7 +18,7 @@ pub record Functions : Type 0 where
   -- Limits::same
   pub limits-same : (self other : Limits) → Determined (λ (r : Bool). r ≡ test (sameLimits self other))
   -- ask
-  pub ask : (credit lo : ℕ) → Determined (λ (r : Bool). r ≡ permits credit lo)
+  pub ask : (credit lo : ℕ) → Determined (λ (r : ℕ). r ≡ shortfall credit lo)
   -- Shaper::fresh
   pub shaper-fresh : (limits : Limits) → Determined (λ (r : Shaper). r ≡ freshOf limits)
   -- Shaper::tick

@@ -1,6 +1,6 @@
 -- Rules of document 01 for shapers, frames in, counting and fairness frames, row by row, for the second condition.
 -- Assumes nothing.
-use Prim.Native.Nat.{ℕ, _+_, _*_, _-_, _/_, _%_, _≤_, _<_, min}
+use Prim.Native.Nat.{ℕ, _+_, _*_, _-_, _/_, _%_, _≤_, _<_, min, max}
 use mathlib.Core.Bool.{true, false, _&&_}
 use mathlib.Core.List.{List, [], _∷_}
 use mathlib.Core.Logic.{_⊎_, _↔_}
@@ -15,6 +15,7 @@ use Rattle.flow.specs.declared.Which.{Which}
 use Rattle.flow.specs.declared.Which.the-variants.{M, A, B, C, D}
 use Rattle.flow.specs.declared.Way.the-variants.{ClassA, ClassB, Excess}
 use Rattle.flow.specs.Which.{bucketOf, creditOf, permitsOf, permitsAll, member, sends, fed}
+use Rattle.flow.specs.Short.{shortOf, shortAll}
 use Rattle.flow.specs.Tick.{waits}
 use Rattle.flow.specs.Offer.{queueFor, wayOf, needsOf, markOf}
 use Rattle.flow.specs.Frames.{Holding, Staged}
@@ -62,6 +63,20 @@ pub record Charges (s : Settings) (c : Credits) : Type 0 where
   -- then the size is taken off each that is charged, and no other.
   pub charged : (ws : List Which) (size : ℕ) (w : Which) → member w ws ≡ true → creditOf (fed s c (sends ws size)) w ≡ creditOf c w - size
   pub spared : (ws : List Which) (size : ℕ) (w : Which) → member w ws ≡ false → creditOf (fed s c (sends ws size)) w ≡ creditOf c w
+
+-- How far short.
+pub record Lacks (s : Settings) (c : Credits) : Type 0 where
+  -- A shaper's shortfall is the least amount whose addition would make the credit exceed loLimit:
+  pub least : (w : Which) (x : ℕ) → (shortOf s c w ≤ x) ↔ (bucketOf s w .lo < creditOf c w + x)
+  -- 0 exactly where it permits.
+  pub nothing : (w : Which) → (permitsOf s c w ≡ true) ↔ (shortOf s c w ≡ 0)
+  -- Where two shapers are needed, the larger shortfall.
+  pub one : (w : Which) → shortAll s c (w ∷ []) ≡ shortOf s c w
+  pub two : (v w : Which) → shortAll s c (v ∷ w ∷ []) ≡ max (shortOf s c v) (shortOf s c w)
+  -- Client A needs A. For client B, that of the excess attempt, which needs C and D; client C is excess.
+  pub client-a : shortAll s c (needsOf (wayOf s c 0)) ≡ shortOf s c A
+  pub client-b : permitsAll s c (needsOf (wayOf s c 1)) ≡ false → shortAll s c (needsOf (wayOf s c 1)) ≡ max (shortOf s c C) (shortOf s c D)
+  pub client-c : shortAll s c (needsOf (wayOf s c 2)) ≡ max (shortOf s c C) (shortOf s c D)
 
 -- ---- frames in
 

@@ -53,7 +53,7 @@ use Rattle.rpr.specs.Pairs.{PairTold}
 use Rattle.rpr.specs.Says.{Keeps}
 use Rattle.paper.specs.Names.{Names}
 use Rattle.paper.specs.LentNames.{LentNames}
-use Rattle.paper.specs.Rules.{Ticks, Charges, Enters, Counts, Tells, Reads, Writes, Hears}
+use Rattle.paper.specs.Rules.{Ticks, Charges, Lacks, Enters, Counts, Tells, Reads, Writes, Hears}
 use Rattle.paper.specs.Acts.{least, Starts, YesNo, Acts, Traces, ReadsOff}
 use Rattle.paper.specs.ByValue.{Lost, Unfit, Listens}
 use Rattle.paper.specs.Host.{Lays, Hosts, SettingsWords, Begins, ChoiceTold, ChoiceRefused, PathTold, PathRefused}
@@ -262,12 +262,13 @@ pub record Condition2 : Type 0 where
   pub calls : (st : Station) → StationOk st → Acts st
   -- Calls keep a station in range, by value too.
   pub kept : (st : Station) → StationOk st → (c : Call) → StationOk (step c st .station)
-  -- By value too, a refusal is its number and leaves the station.
+  -- By value too, a refusal is its number and leaves the station; a client's 5, 6 and 7 stand in `Acts`.
   pub lost : (st : Station) → (StationOk st → ⊥) → Lost st
   pub unfit : (st : Station) → StationOk st → Unfit st
   pub listening : (st : Station) (frame : List ℕ) → Listens st frame
   pub ticks : (st : Station) → StationOk st → (a b c : ℕ) → YesNo a × YesNo b × YesNo c → Ticks st a b c
   pub charges : (s : Settings) (c : Credits) → Charges s c
+  pub lacks : (s : Settings) (c : Credits) → Lacks s c
   pub entry : Enters
   -- The word of a slot or of the stage holds its frame.
   pub words : (b : Bounds) (x : Frame) → b .mtu ≤ 9216 → FrameOk b x → (frameOf (wordOf x) ≡ x) × (wordOf x ≡ 0 → ⊥)

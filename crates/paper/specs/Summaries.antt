@@ -48,9 +48,9 @@ pub record OneShaper (s : Shaper) : Type 0 where
   pub fresh : freshOf (s .limits) ≡ record { limits = s .limits; credit = s .limits .lo }
   pub waiting : (x : ℕ) → tickedOf s true x ≡ record { limits = s .limits; credit = min (s .credit + x) (s .limits .hi) }
   pub idle : (x : ℕ) → tickedOf s false x ≡ record { limits = s .limits; credit = min (s .credit + x) (s .limits .lo) }
-  -- A send is permitted exactly when credit > loLimit, then the size is taken off; else 6.
+  -- A send is permitted exactly when credit > loLimit, then the size is taken off; else 6, and the bytes missing.
   pub charged : (z : ℕ) → s .limits .lo < s .credit → chargeOf s z ≡ record { number = 0; detail = 0; shaper = record { limits = s .limits; credit = s .credit - z } }
-  pub refused : (z : ℕ) → s .credit ≤ s .limits .lo → chargeOf s z ≡ record { number = 6; detail = 0; shaper = s }
+  pub refused : (z : ℕ) → s .credit ≤ s .limits .lo → chargeOf s z ≡ record { number = 6; detail = s .limits .lo + 1 - s .credit; shaper = s }
 
 -- The bytes that ticks brought, and the bytes that were sent.
 pub record Sums (es : List Event) : Type 0 where

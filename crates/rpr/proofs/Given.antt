@@ -14,6 +14,7 @@ use Rattle.settings.specs.Range.{settingsOk}
 use Rattle.advert.specs.declared.Advert.{Advert}
 use Rattle.advert.specs.Frame.{advertBytes}
 use Rattle.flow.specs.declared.Flow.{Flow}
+use Rattle.wire.specs.Wire.{digits}
 use Rattle.station.specs.declared.Station.{Station}
 use Rattle.station.specs.declared.Done.{Done}
 use Rattle.station.specs.declared.Client.{Client}
@@ -24,14 +25,14 @@ use Rattle.station.specs.declared.Shown.{Shown}
 use Rattle.station.specs.Range.{stationOk}
 use Rattle.station.specs.Answers.{withFlow, refusedOf, doneOf, chosenOf, notChosenOf}
 use Rattle.station.specs.Calls.{startFaults, selectFaults, freshOf}
-use Rattle.station.specs.Offers.{turnedOf, takenOf}
+use Rattle.station.specs.Offers.{shortFor, turnedFor, takenOf}
 use Rattle.station.specs.Hear.{notToldOf}
 use Rattle.station.specs.Show.{notShownOf}
 use Rattle.settings.specs.Words.{settingsLength}
 use Rattle.layout.specs.Layout.{stationLength, stationBytes}
 use Rattle.layout.specs.Reading.{readingBytes}
 use Rattle.answer.specs.Bytes.{packed, markBytes, selectedBytes}
-use Rattle.rpr.specs.Shape.{answerOf, afterOf, otherLength}
+use Rattle.rpr.specs.Shape.{answerOf, shortTold, shortAnswerOf, afterOf, otherLength}
 use Rattle.rpr.proofs.Shape.{wrong-length, right-length, refused}
 
 -- the answer, and the lent bytes afterwards
@@ -42,12 +43,23 @@ Gives rows said old new r after = (r ≡ answerOf rows said) × (after ≡ after
 abbrev pub HandedBack : ℕ → ℕ → List ℕ → List ℕ → ℕ → List ℕ → Type 0
 HandedBack n said old new r after = (r ≡ refusedOr (λ m. m) n said) × (after ≡ refusedOr (λ m. old) n new)
 
+-- The same of a call whose 6 says how far short.
+abbrev pub GivesShort : List Fault → ℕ → ℕ → List ℕ → List ℕ → ℕ → List ℕ → Type 0
+GivesShort rows short said old new r after = (r ≡ shortAnswerOf rows short said) × (after ≡ afterOf rows old new)
+
+abbrev pub HandedShort : ℕ → ℕ → ℕ → List ℕ → List ℕ → ℕ → List ℕ → Type 0
+HandedShort short n said old new r after = (r ≡ refusedOr (shortTold short) n said) × (after ≡ refusedOr (λ m. old) n new)
+
 -- ---- a slice of another length
 
 module _ (n : ℕ) (xs : List ℕ) (faults : List Fault) (said : ℕ) (old new : List ℕ) where
   -- 2 before all else
   pub not-whole : (length xs ≡ n → ⊥) → Gives (otherLength n xs ∷ faults) said old new 2 old
   not-whole h = refused (otherLength n xs ∷ faults) said old new 1 (wrong-length n xs faults h)
+
+  pub not-whole-short : (short : ℕ) → (length xs ≡ n → ⊥) → GivesShort (otherLength n xs ∷ faults) short said old new 2 old
+  unfolding shortAnswerOf afterOf refusedOr digits
+  not-whole-short short h = rw (wrong-length n xs faults h) (refl, refl)
 
   -- also behind a slice of the right length
   pub then-not-whole : (m : ℕ) (ys : List ℕ) → length ys ≡ m → (length xs ≡ n → ⊥) → Gives (otherLength m ys ∷ otherLength n xs ∷ faults) said old new 2 old
@@ -61,6 +73,10 @@ module _ (n : ℕ) (xs : List ℕ) (faults : List Fault) (e : length xs ≡ n) (
   unfolding answerOf afterOf
   whole-gives b = rw (right-length n xs faults e) b
 
+  pub whole-gives-short : (short : ℕ) → HandedShort short (firstOf faults) said old new r after → GivesShort (otherLength n xs ∷ faults) short said old new r after
+  unfolding shortAnswerOf afterOf
+  whole-gives-short short b = rw (right-length n xs faults e) b
+
   pub then-whole-gives : (m : ℕ) (ys : List ℕ) → length ys ≡ m → HandedBack (firstOf faults) said old new r after → Gives (otherLength m ys ∷ otherLength n xs ∷ faults) said old new r after
   unfolding answerOf afterOf
   then-whole-gives m ys f b = rw (right-length m ys (otherLength n xs ∷ faults) f, right-length n xs faults e) b
@@ -73,36 +89,37 @@ takenAs st mark f = takenOf st (record { number = 0; detail = 0; mark = mark; fl
 
 module _ (old : List ℕ) {r : ℕ} {after : List ℕ} where
   -- handed back by the answer's own number, it is handed back by that of the rows
-  back : {A : Type 0} (number said : A → ℕ) (new : A → List ℕ) (refused : ℕ → A) (done : A) → ((m : ℕ) → number (refused m) ≡ m) → number done ≡ 0
-      → (n : ℕ) (d : A) → d ≡ refusedOr refused n done → HandedBack (number d) (said d) old (new d) r after → HandedBack n (said done) old (new done) r after
-  back number said new refused done bears none n d h b = (
-    b .0 ∙ handed-on number refused done bears none (λ m. m) said n d h,
+  back : {A : Type 0} (tells : ℕ → ℕ) (number said : A → ℕ) (new : A → List ℕ) (refused : ℕ → A) (done : A) → ((m : ℕ) → number (refused m) ≡ m) → number done ≡ 0
+      → (n : ℕ) (d : A) → d ≡ refusedOr refused n done → (r ≡ refusedOr tells (number d) (said d)) × (after ≡ refusedOr (λ m. old) (number d) (new d))
+      → (r ≡ refusedOr tells n (said done)) × (after ≡ refusedOr (λ m. old) n (new done))
+  back tells number said new refused done bears none n d h b = (
+    b .0 ∙ handed-on number refused done bears none tells said n d h,
     b .1 ∙ handed-on number refused done bears none (λ m. old) new n d h,
   )
 
   pub done-back : (n : ℕ) (st next : Station) (d : Done) → d ≡ refusedOr (refusedOf st) n (doneOf next)
       → HandedBack (d .number) 0 old (stationBytes (d .station)) r after → HandedBack n 0 old (stationBytes next) r after
-  done-back n st next = back (λ (d : Done). d .number) (λ d. 0) (λ (d : Done). stationBytes (d .station)) _ _ (λ m. refl) refl n
+  done-back n st next = back (λ m. m) (λ (d : Done). d .number) (λ d. 0) (λ (d : Done). stationBytes (d .station)) _ _ (λ m. refl) refl n
 
-  pub taken-back : (n : ℕ) (st : Station) (mark : ℕ) (f : Flow) (d : Client) → d ≡ refusedOr (turnedOf st) n (takenAs st mark f)
-      → HandedBack (d .number) (packed (markBytes (d .mark))) old (stationBytes (d .station)) r after
-      → HandedBack n (packed (markBytes mark)) old (stationBytes (withFlow st f)) r after
-  taken-back n st mark f =
-      back (λ (d : Client). d .number) (λ (d : Client). packed (markBytes (d .mark))) (λ (d : Client). stationBytes (d .station)) _ _ (λ m. refl) refl n
+  pub taken-back : (class n : ℕ) (st : Station) (mark : ℕ) (f : Flow) (d : Client) → d ≡ refusedOr (turnedFor st class) n (takenAs st mark f)
+      → HandedShort (shortFor st class) (d .number) (packed (markBytes (d .mark))) old (stationBytes (d .station)) r after
+      → HandedShort (shortFor st class) n (packed (markBytes mark)) old (stationBytes (withFlow st f)) r after
+  taken-back class n st mark f =
+      back (shortTold (shortFor st class)) (λ (d : Client). d .number) (λ (d : Client). packed (markBytes (d .mark))) (λ (d : Client). stationBytes (d .station)) _ _ (λ m. refl) refl n
 
   pub chosen-back : (n : ℕ) (st : Station) (d : Selected) → d ≡ refusedOr (notChosenOf st) n (chosenOf st)
       → HandedBack (d .number) (packed (selectedBytes (d .origin) (d .frame))) old (stationBytes (d .station)) r after
       → HandedBack n (packed (selectedBytes (chosenOf st .origin) (chosenOf st .frame))) old (stationBytes (chosenOf st .station)) r after
   chosen-back n st =
-      back (λ (d : Selected). d .number) (λ (d : Selected). packed (selectedBytes (d .origin) (d .frame))) (λ (d : Selected). stationBytes (d .station)) _ _ (λ m. refl) refl n
+      back (λ m. m) (λ (d : Selected). d .number) (λ (d : Selected). packed (selectedBytes (d .origin) (d .frame))) (λ (d : Selected). stationBytes (d .station)) _ _ (λ m. refl) refl n
 
   pub told-back : (n : ℕ) (a : Advert) (d : Told) → d ≡ refusedOr notToldOf n (record { number = 0; detail = 0; advert = a })
       → HandedBack (d .number) 0 old (advertBytes (d .advert)) r after → HandedBack n 0 old (advertBytes a) r after
-  told-back n a = back (λ (d : Told). d .number) (λ d. 0) (λ (d : Told). advertBytes (d .advert)) _ _ (λ m. refl) refl n
+  told-back n a = back (λ m. m) (λ (d : Told). d .number) (λ d. 0) (λ (d : Told). advertBytes (d .advert)) _ _ (λ m. refl) refl n
 
   pub shown-back : (n : ℕ) (reading : Reading) (d : Shown) → d ≡ refusedOr notShownOf n (record { number = 0; detail = 0; reading = reading })
       → HandedBack (d .number) 0 old (readingBytes (d .reading)) r after → HandedBack n 0 old (readingBytes reading) r after
-  shown-back n reading = back (λ (d : Shown). d .number) (λ d. 0) (λ (d : Shown). readingBytes (d .reading)) _ _ (λ m. refl) refl n
+  shown-back n reading = back (λ m. m) (λ (d : Shown). d .number) (λ d. 0) (λ (d : Shown). readingBytes (d .reading)) _ _ (λ m. refl) refl n
 
 -- ---- start
 

@@ -1,4 +1,5 @@
--- The laws of every call, whatever its rows: a slice of another length is 2 before all else; a refusal is its number alone, and leaves the lent bytes.
+-- The laws of every call, whatever its rows: a slice of another length is 2 before all else; a refusal is its number, alone but for what 6 says to a client's
+-- frame, and leaves the lent bytes.
 -- Assumes nothing.
 use Prim.Native.Nat.{ℕ, suc, _%_, _≤_, _<_, max}
 use mathlib.Core.Bool.{Bool, true, false, cond, not, _&&_}
@@ -15,8 +16,10 @@ use Rattle.decide.proofs.Cases.{true-or-false, of-each}
 use Rattle.decide.proofs.Refusal.{carried-out}
 use Rattle.decide.proofs.Refused.{of-answer, carried-by, refused-by, number-by}
 use Rattle.wire.specs.Wire.{digits}
+use Rattle.shaper.specs.Short.{detailOf}
+use Rattle.answer.specs.Bytes.{refusedBytes}
 use Rattle.answer.proofs.Bytes.{packed-bytes}
-use Rattle.rpr.specs.Shape.{answerOf, afterOf, otherLength, alone, Bears}
+use Rattle.rpr.specs.Shape.{answerOf, shortTold, shortAnswerOf, afterOf, otherLength, alone, Bears, BearsShort, LeavesShort}
 
 -- ---- lengths
 
@@ -97,6 +100,11 @@ pub digits-alone : (n : ℕ) → n ≤ mostNumber → digits 8 n ≡ alone n
 unfolding digits
 digits-alone n h = ap (λ (v : ℕ). digits 8 v) (omega arith) ∙ packed-bytes (alone n) (omega arith)
 
+-- the same with what 6 says beside it
+digits-short : (n short : ℕ) → n ≤ mostNumber → digits 8 (shortTold short n) ≡ refusedBytes n (detailOf n short)
+unfolding digits
+digits-short n short h = packed-bytes (refusedBytes n (detailOf n short)) (omega arith)
+
 -- ---- refusals
 
 module _ (rows : List Fault) (said : ℕ) (old new : List ℕ) where
@@ -118,8 +126,25 @@ bears n said h b =
     (λ z. record { byte-0 = b ∙ sym z; others = λ p. absurd (omega arith) })
     (λ p. record { byte-0 = omega arith; others = λ q. digits-alone n h })
 
+bears-short : (short n said : ℕ) → n ≤ mostNumber → said % 256 ≡ 0 → BearsShort short n (refusedOr (shortTold short) n said)
+unfolding digits
+bears-short short n said h b =
+    of-answer _ _ (BearsShort short n) n
+    (λ z. record { byte-0 = b ∙ sym z; six = λ e. absurd (omega arith); others = λ p e. absurd (omega arith) })
+    (λ p. record {
+      byte-0 = omega arith;
+      six = λ e. digits-short n short h ∙ ap (λ (m : ℕ). refusedBytes m (detailOf m short)) e;
+      others = λ q e. digits-short n short h ∙ ap (λ (b : Bool). refusedBytes n (cond b short 0)) (ne-eqb n 6 e);
+    })
+
 -- Each refusal returns its number alone and leaves all lent bytes untouched.
 pub refused-leaves : (rows : List Fault) (said : ℕ) (old new : List ℕ) → firstOf rows ≤ mostNumber → said % 256 ≡ 0 →
     Bears (firstOf rows) (answerOf rows said) × (0 < firstOf rows → afterOf rows old new ≡ old)
 unfolding answerOf afterOf
 refused-leaves rows said old new h b = (bears (firstOf rows) said h b, refused-by _ _ _)
+
+-- Where 6 says how far short, the others are their number alone still.
+pub short-leaves : (rows : List Fault) (short said : ℕ) (old new : List ℕ) → firstOf rows ≤ mostNumber → said % 256 ≡ 0
+    → LeavesShort rows short (shortAnswerOf rows short said) old (afterOf rows old new)
+unfolding shortAnswerOf afterOf
+short-leaves rows short said old new h b = (bears-short short (firstOf rows) said h b, refused-by _ _ _)

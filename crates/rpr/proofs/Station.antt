@@ -1,5 +1,5 @@
 -- What a host may rely on of the calls on a station: which number is answered and when, that a refusal leaves all, and what the answer's bytes say where the
--- call was carried out. Assumes nothing.
+-- call was carried out, or refused with 6. Assumes nothing.
 use Prim.Native.Nat.{ℕ, _%_}
 use mathlib.Core.Bool.{true, true≢false}
 use mathlib.Core.List.{List, [], _∷_, _++_}
@@ -7,10 +7,12 @@ use mathlib.Core.Logic.{inl, inr}
 use mathlib.Core.Path.{_≡_, refl, sym, ap, _∙_}
 use native.Mathlib.Omega.{arith}
 use borrow.Author.Tests.{not-false}
-use Rattle.decide.specs.Test.{test}
+use lib.ListN.{length}
+use Rattle.decide.specs.Test.{test, split, _≡?_}
 use Rattle.decide.specs.Refusal.{Fault, firstOf, RefusedExactly}
 use Rattle.decide.proofs.Refusal.{refused-exactly, free-carried}
-use Rattle.decide.proofs.Refused.{carried-by}
+use Rattle.decide.proofs.Cases.{by-cases}
+use Rattle.decide.proofs.Refused.{carried-by, number-by}
 use Rattle.wire.specs.Wire.{digits}
 use Rattle.queue.specs.declared.Frame.{Frame}
 use Rattle.flow.specs.declared.Client.{Client}
@@ -19,17 +21,19 @@ use Rattle.flow.specs.Offer.{markOf}
 use Rattle.flow.proofs.Offer.{mark-most}
 use Rattle.station.specs.Range.{stationOk}
 use Rattle.station.specs.Answers.{chosenOf}
-use Rattle.station.specs.Offers.{wayFor, staging}
+use Rattle.station.specs.declared.Client as station
+use Rattle.station.specs.Offers.{wayFor, offerClientFaults, staging, shortFor, offerClientOf}
 use Rattle.station.proofs.Range.{in-range-facts}
-use Rattle.layout.specs.Layout.{stationAt}
+use Rattle.station.proofs.Short.{short-range}
+use Rattle.layout.specs.Layout.{stationLength, stationAt}
 use Rattle.answer.specs.Bytes.{packed, markBytes, selectedBytes}
 use Rattle.answer.proofs.Bytes.{packed-bytes}
-use Rattle.rpr.specs.Shape.{answerOf, afterOf, Leaves, Carried, Bears}
+use Rattle.rpr.specs.Shape.{answerOf, shortAnswerOf, afterOf, Leaves, LeavesShort, SaysShort, Carried, Bears}
 use Rattle.rpr.specs.Station.{startRows, startAnswer, startAfter, tickRows, tickAnswer, tickAfter, ageRows, ageAnswer, ageAfter}
 use Rattle.rpr.specs.Station.{offerClientRows, offerClientAnswer, offerClientAfter, offerRows, offerAnswer, offerAfter}
 use Rattle.rpr.specs.Station.{selectRows, selectAnswer, selectAfter, readFrameRows, readFrameAnswer, readFrameAfter}
 use Rattle.rpr.specs.Station.{writeFrameRows, writeFrameAnswer, writeFrameAfter, showRows, showAnswer, showAfter}
-use Rattle.rpr.proofs.Shape.{numbered, first-most, free, refused-leaves}
+use Rattle.rpr.proofs.Shape.{wrong-length, right-length, numbered, first-most, free, refused-leaves, short-leaves}
 use Rattle.rpr.proofs.Chosen.{chosen-small}
 
 leaves : (rows : List Fault) (said : ℕ) (old new : List ℕ) → numbered rows ≡ true → said % 256 ≡ 0 → Leaves rows (answerOf rows said) old (afterOf rows old new)
@@ -60,9 +64,12 @@ module _ (xs : List ℕ) where
   -- ---- rpr_offer_client
 
   module _ (class size hops : ℕ) where
-    pub offer-client-leaves : Leaves (offerClientRows xs class size hops) (offerClientAnswer xs class size hops) xs (offerClientAfter xs class size hops)
+    -- 6 says how far short, and every other refusal is its number alone
+    pub offer-client-leaves : LeavesShort (offerClientRows xs class size hops) (shortFor (stationAt xs) class) (offerClientAnswer xs class size hops) xs (offerClientAfter xs class size hops)
     unfolding offerClientAnswer offerClientAfter
-    offer-client-leaves = leaves (offerClientRows xs class size hops) _ xs _ refl (omega arith)
+    offer-client-leaves =
+        let rows = offerClientRows xs class size hops in
+        short-leaves rows (shortFor (stationAt xs) class) _ xs _ (first-most rows refl) (omega arith)
 
     pub offer-client-refused-exactly : RefusedExactly (offerClientAnswer xs class size hops % 256) (offerClientRows xs class size hops)
     offer-client-refused-exactly = refused-exactly (offerClientRows xs class size hops) refl _ (offer-client-leaves .0 .byte-0)
@@ -151,8 +158,10 @@ module _ (xs : List ℕ) where
   module _ (class size hops : ℕ) (z : Carried (offerClientAnswer xs class size hops)) where
     client-said : (firstOf (offerClientRows xs class size hops) ≡ 0)
         × (offerClientAnswer xs class size hops ≡ packed (markBytes (staging (stationAt xs) class size hops .mark)))
-    unfolding offerClientAnswer
-    client-said = carried-said (offerClientRows xs class size hops) (offerClientAnswer xs class size hops) _ (offer-client-leaves xs class size hops .0) refl z
+    unfolding offerClientAnswer shortAnswerOf
+    client-said =
+        let none = sym (offer-client-leaves xs class size hops .0 .byte-0) ∙ z in
+        (none, carried-by _ _ _ none)
 
     pub client-mark : staging (stationAt xs) class size hops .mark ≡ markOf (wayFor (stationAt xs) class)
     client-mark =
@@ -166,3 +175,22 @@ module _ (xs : List ℕ) where
         let w = wayFor (stationAt xs) class in
         ap (λ (n : ℕ). digits 8 n) (client-said .1 ∙ ap (λ (m : ℕ). packed (markBytes m)) client-mark)
         ∙ packed-bytes (markBytes (markOf w)) (omega (arith, mark-most w))
+
+  module _ (class size hops : ℕ) (e : offerClientAnswer xs class size hops % 256 ≡ 6) where
+    counts : firstOf (offerClientRows xs class size hops) ≡ 6
+    counts = sym (offer-client-leaves xs class size hops .0 .byte-0) ∙ e
+
+    -- 6 is the station's own answer: bytes of another length are 2
+    pub offer-client-six : offerClientOf (stationAt xs) class size hops .number ≡ 6
+    offer-client-six =
+        let rows = offerClientFaults (stationAt xs) class size hops in
+        number-by (λ (r : station.Client). r .number) _ _ (λ m. refl) refl _
+        ∙ by-cases (split (length xs ≡? stationLength))
+        (λ h. sym (right-length stationLength xs rows h) ∙ counts)
+        (λ h. let two = wrong-length stationLength xs rows h in absurd (omega (arith, two, counts)))
+
+    -- rpr_offer_client, refused with 6: bytes 4 to 7 are exactly how far short the needed shapers are
+    pub offer-client-short : SaysShort (offerClientAnswer xs class size hops) (shortFor (stationAt xs) class)
+    offer-client-short =
+        let range = short-range (stationAt xs) class size hops offer-client-six in
+        record { bytes = offer-client-leaves xs class size hops .0 .six counts; least = range .0; most = range .1 }

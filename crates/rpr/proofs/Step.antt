@@ -11,7 +11,7 @@ use lib.ListN.{length}
 use Rattle.decide.specs.Test.{test, split, _≡?_}
 use Rattle.decide.specs.Refusal.{firstOf, refusedOr}
 use Rattle.decide.proofs.Cases.{by-cases, true-or-false}
-use Rattle.decide.proofs.Refused.{of-answer}
+use Rattle.decide.proofs.Refused.{of-answer, number-by}
 use Rattle.wire.specs.Wire.{digits, Bytes}
 use Rattle.settings.specs.Range.{settingsOk, SettingsOk}
 use Rattle.settings.specs.Words.{settingsAt, settingsLength}
@@ -22,9 +22,11 @@ use Rattle.queue.specs.Frame.{frameOf}
 use Rattle.station.specs.declared.Station.{Station}
 use Rattle.station.specs.Range.{StationOk}
 use Rattle.station.specs.Calls.{freshOf, tickOf, selectOf, ageOf}
-use Rattle.station.specs.Offers.{offerClientOf, offerTransitOf, offerControlOf}
+use Rattle.station.specs.declared.Client.{Client}
+use Rattle.station.specs.Offers.{offerClientFaults, offerClientOf, offerTransitOf, offerControlOf}
 use Rattle.station.specs.Hear.{hearOf, tellOf}
 use Rattle.station.specs.Show.{showOf}
+use Rattle.station.specs.History as station
 use Rattle.station.specs.History.{Call, step, after}
 use Rattle.station.proofs.Range.{fresh-ok}
 use Rattle.station.proofs.Kept.{range-kept}
@@ -41,9 +43,9 @@ use Rattle.rpr.specs.Station.{offerClientAnswer, offerClientAfter, offer
 use Rattle.rpr.specs.Station.{selectAnswer, selectAfter, readFrameAnswer, readFrameAfter, writeFrameAnswer, showAnswer}
 use Rattle.rpr.specs.Lent.{LentCall, start, tick, offerClient, offerTransit, offerControl, select, age, readFrame, writeFrame, show}
 use Rattle.rpr.specs.Lent.{answerTo, leftBy, callsOf, StartsWith, NewStart}
-use Rattle.rpr.proofs.Shape.{number-alone, free}
-use Rattle.rpr.proofs.Given.{not-whole, then-not-whole, whole-gives, then-whole-gives, done-back, taken-back, chosen-back, told-back, shown-back, start-refused, start-done}
-use Rattle.rpr.specs.Says.{Keeps, saidOf, answerGiven, bytesLeft, RoomFits, CallSays, StartSays, LentSays}
+use Rattle.rpr.proofs.Shape.{number-alone, first-most, free}
+use Rattle.rpr.proofs.Given.{not-whole, not-whole-short, then-not-whole, whole-gives, whole-gives-short, then-whole-gives, done-back, taken-back, chosen-back, told-back, shown-back, start-refused, start-done}
+use Rattle.rpr.specs.Says.{Keeps, answerGiven, bytesLeft, RoomFits, CallSays, StartSays, LentSays}
 
 -- ---- lent other bytes
 
@@ -55,7 +57,7 @@ lent-short xs h (start settings b) =
     (λ e. then-not-whole _ xs _ _ _ _ _ settings e h)
     (λ e. not-whole _ settings _ _ _ _ e)
 lent-short xs h (tick a b c) = not-whole _ xs _ _ _ _ h
-lent-short xs h (offerClient class size hops) = not-whole _ xs _ _ _ _ h
+lent-short xs h (offerClient class size hops) = not-whole-short _ xs _ _ _ _ _ h
 lent-short xs h (offerTransit class size hops eligible) = not-whole _ xs _ _ _ _ h
 lent-short xs h (offerControl size) = not-whole _ xs _ _ _ _ h
 lent-short xs h select = not-whole _ xs _ _ _ _ h
@@ -75,6 +77,22 @@ frame-said origin x = omega arith
 
 alone-1 : (n said : ℕ) → said % 256 ≡ 0 → refusedOr (λ m. m) n said ≡ 1 → n ≡ 1
 alone-1 n said low = of-answer _ _ (λ (a : ℕ). a ≡ 1 → n ≡ 1) n (λ z e. absurd (omega arith)) (λ h e. e)
+
+-- 1 is answered by the number 1 alone, by a client's frame too, whose 6 says more
+given-1 : (call : Call) (st : Station) → answerGiven call st ≡ 1 → step call st .answer .number ≡ 1
+given-1 (station.tick a b c) st = alone-1 _ _ (omega arith)
+given-1 (station.offerClient class size hops) st =
+    let rows = offerClientFaults st class size hops in
+    let number : offerClientOf st class size hops .number ≡ firstOf rows = number-by (λ (r : Client). r .number) _ _ (λ m. refl) refl _ in
+    let small = first-most rows refl in
+    of-answer _ _ (λ (a : ℕ). a ≡ 1 → offerClientOf st class size hops .number ≡ 1) _ (λ z e. absurd (omega arith)) (λ p e. omega (arith, number, small, e))
+given-1 (station.offerTransit class size hops eligible) st = alone-1 _ _ (omega arith)
+given-1 (station.offerControl size) st = alone-1 _ _ (omega arith)
+given-1 station.select st = alone-1 _ _ (omega arith)
+given-1 station.age st = alone-1 _ _ (omega arith)
+given-1 (station.hear frame bytes) st = alone-1 _ _ (omega arith)
+given-1 station.tell st = alone-1 _ _ (omega arith)
+given-1 station.show st = alone-1 _ _ (omega arith)
 
 module _ {c : LentCall} {xs : List ℕ} {st : Station} (call : Call) (is : callsOf c ≡ call ∷ []) where
   called : (RoomFits c → answerGiven call st ≡ answerTo c xs) → ((RoomFits c → ⊥) → 2 ≡ answerTo c xs) → bytesLeft call xs st ≡ leftBy c xs → LentSays c xs st
@@ -103,7 +121,7 @@ module _ (xs : List ℕ) (bytes : Bytes xs) (e : length xs ≡ stationLength) wh
   lent-says (tick a b c) = roomless _ refl tt (whole-gives _ xs _ e _ _ _ (done-back xs _ _ _ (tickOf (stationAt xs) a b c) refl (refl, refl)))
   lent-says (offerClient class size hops) =
       let d = offerClientOf (stationAt xs) class size hops in
-      roomless _ refl tt (rw (mark-said (d .mark)) (whole-gives _ xs _ e _ _ _ (taken-back xs _ _ _ _ d refl (refl, refl))))
+      roomless _ refl tt (rw (mark-said (d .mark)) (whole-gives-short _ xs _ e _ _ _ _ (taken-back xs _ _ _ _ _ d refl (refl, refl))))
   lent-says (offerTransit class size hops eligible) =
       roomless _ refl tt (whole-gives _ xs _ e _ _ _ (done-back xs _ _ _ (offerTransitOf (stationAt xs) class size hops eligible) refl (refl, refl)))
   lent-says (offerControl size) = roomless _ refl tt (whole-gives _ xs _ e _ _ _ (done-back xs _ _ _ (offerControlOf (stationAt xs) size) refl (refl, refl)))
@@ -218,11 +236,11 @@ module _ {xs : List ℕ} {st : Station} (k : Keeps xs st) where
       let follows = left c .follows (λ n. let z = ap length (sym is ∙ ap callsOf (n .1 .1)) in absurd (omega arith)) in
       subst (Keeps (leftBy c xs)) (follows ∙ ap (after st) is) (left c .keeps)
 
-  -- None answers 1 but a start, for its settings: a refusal's answer is its number alone.
+  -- None answers 1 but a start, for its settings.
   pub call-never-1 : (c : LentCall) → answerTo c xs ≡ 1 → (settings : List ℕ) × StartsWith settings c × (test (settingsOk (settingsAt settings 0)) ≡ false)
   call-never-1 c e =
       by-cases (says c)
       (λ s. (s .0, s .1, start-never-1 (s .0) (s .2) (ap (λ (d : LentCall). answerTo d xs) (sym (s .1 .1)) ∙ e)))
       (λ s. absurd (by-cases (fits-or-not c)
-      (λ fits. never-1 (k .in-range) (s .call) (alone-1 _ (saidOf (step (s .call) st .answer)) (omega arith) (s .answers fits ∙ e)))
+      (λ fits. never-1 (k .in-range) (s .call) (given-1 (s .call) st (s .answers fits ∙ e)))
       (λ n. let two = s .other-room n in omega arith)))

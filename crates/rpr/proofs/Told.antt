@@ -28,7 +28,7 @@ use Rattle.station.specs.declared.Selected.{Selected}
 use Rattle.station.specs.Range.{StationOk}
 use Rattle.station.specs.Answers.{withFlow, refusedOf, doneOf, chosenOf}
 use Rattle.station.specs.Calls.{tickFaults, selectFaults}
-use Rattle.station.specs.Offers.{offerClientFaults, staging, turnedOf, takenOf}
+use Rattle.station.specs.Offers.{offerClientFaults, staging, turnedFor, takenOf}
 use Rattle.station.specs.History as station
 use Rattle.station.specs.History.{Call, Answer, ofDone, ofClient, ofSelected, step, trace, after, recordOf, Recorded}
 use Rattle.station.proofs.Calls.{select-done}
@@ -80,7 +80,7 @@ module _ (w : Which) (r : ℕ) (st : Station) where
 
   -- a client's frame by its mark too, where it was taken
   client-by : (n : ℕ) (class size hops : ℕ) (d : flow.Client) → r % 256 ≡ n → (n ≡ 0 → getD (digits 8 r) 4 0 ≡ d .mark)
-      → trace w (station.offerClient class size hops) (readOff r) st ≡ trace w (station.offerClient class size hops) (ofClient (refusedOr (turnedOf st) n (takenOf st d)) .answer) st
+      → trace w (station.offerClient class size hops) (readOff r) st ≡ trace w (station.offerClient class size hops) (ofClient (refusedOr (turnedFor st class) n (takenOf st d)) .answer) st
   unfolding digits refusedOr
   client-by zero class size hops d e m = rw (e, m refl)
   client-by (suc n) class size hops d e m = rw (e, ne-eqb (suc n) 0 (λ z. omega arith))

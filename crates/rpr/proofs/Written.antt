@@ -1,14 +1,15 @@
 -- What a call writes of a lent station is all that it changes of it: the bytes afterwards are those of the station that it leaves.
 -- Assumes nothing.
-use Prim.Native.Nat.{ℕ, _≤_}
+use Prim.Native.Nat.{ℕ, _≤_, _<_}
 use mathlib.Core.Bool.{Bool}
 use mathlib.Core.List.{List, _∷_}
 use mathlib.Core.Logic.{inl, inr}
 use mathlib.Core.Path.{_≡_, refl, sym, ap, _∙_}
+use native.Mathlib.Omega.{arith}
 use borrow.Author.Tests.{ltb-false}
 use lib.ListN.{length, length-set}
 use Rattle.decide.specs.Refusal.{Fault, firstOf, refusedOr}
-use Rattle.decide.proofs.Refused.{of-answer, unrefused}
+use Rattle.decide.proofs.Refused.{of-answer, carried-by, refused-by, unrefused, number-by}
 use Rattle.wire.specs.Wire.{digits, put, Bytes}
 use Rattle.queue.specs.declared.Frame.{Frame}
 use Rattle.queue.specs.declared.Queue.{Queue}
@@ -33,15 +34,15 @@ use Rattle.station.specs.declared.Client.{Client}
 use Rattle.station.specs.declared.Selected.{Selected}
 use Rattle.station.specs.Answers.{withFlow, withFair, refusedOf, doneOf, chosenOf}
 use Rattle.station.specs.Calls.{tickedOf}
-use Rattle.station.specs.Offers.{offerFaults, staging, turnedOf}
+use Rattle.station.specs.Offers.{offerFaults, staging, shortFor, turnedFor}
 use Rattle.slots.specs.Slots.{wordsBytes, queueBytes, queueAt}
 use Rattle.layout.specs.Layout.{placeOf, stagePlace, fairPlace, stationLength, creditsWords, fourWords, fairBytes, stationAt, stationBytes, pushedAt, takenAt, takenFrom}
 use Rattle.layout.proofs.Round.{Slotted, fits-slotted, station-fits, bytes-of-state}
 use Rattle.layout.proofs.Anew.{credits-put, queue-put, stage-put, fair-put, counters-put, queue-slotted}
-use Rattle.answer.specs.Bytes.{packed, markBytes}
+use Rattle.answer.specs.Bytes.{packed, markBytes, refusedBytes}
 use Rattle.rpr.specs.Shape.{otherLength}
 use Rattle.rpr.proofs.Shape.{free, turned-down, taken-on}
-use Rattle.rpr.proofs.Given.{Gives, HandedBack, whole-gives, takenAs, done-back}
+use Rattle.rpr.proofs.Given.{Gives, HandedBack, HandedShort, whole-gives, takenAs, done-back}
 
 -- ---- a call that is carried out: its rows give 0, and the station that it answers is the one that it leaves
 
@@ -53,13 +54,21 @@ module _ (old : List ℕ) where
       let on = taken-on n 0 old (stationBytes next) (u .0) in
       rw (u .1) (on .0, e (u .0) ∙ on .1)
 
-  pub taken-left : (n : ℕ) (st : Station) (mark : ℕ) (f : Flow) (d : Client) → d ≡ refusedOr (turnedOf st) n (takenAs st mark f) → d .number ≡ 0
-      → (left : Flow → List ℕ) → left f ≡ stationBytes (withFlow st f)
-      → HandedBack n (packed (markBytes mark)) old (stationBytes (withFlow st f)) (packed (markBytes (d .mark))) (left (d .station .flow))
-  taken-left n st mark f d h z left e =
-      let u = unrefused (λ (r : Client). r .number) _ _ (λ m. refl) n d h z in
-      let on = taken-on n (packed (markBytes mark)) old (stationBytes (withFlow st f)) (u .0) in
-      rw (u .1) (on .0, e ∙ on .1)
+  -- a client's frame: taken, or turned down
+  module _ (class n : ℕ) (st : Station) (mark : ℕ) (f : Flow) (d : Client) (h : d ≡ refusedOr (turnedFor st class) n (takenAs st mark f)) where
+    pub taken-left : d .number ≡ 0 → (left : Flow → List ℕ) → left f ≡ stationBytes (withFlow st f)
+        → HandedShort (shortFor st class) n (packed (markBytes mark)) old (stationBytes (withFlow st f)) (packed (markBytes (d .mark))) (left (d .station .flow))
+    taken-left z left e =
+        let u = unrefused (λ (r : Client). r .number) _ _ (λ m. refl) n d h z in
+        rw (u .1) (sym (carried-by _ _ n (u .0)), e ∙ sym (carried-by _ _ n (u .0)))
+
+    -- the number and the detail that the station said are told, and the bytes left
+    pub taken-not : (d .number ≡ 0 → ⊥)
+        → HandedShort (shortFor st class) n (packed (markBytes mark)) old (stationBytes (withFlow st f)) (packed (refusedBytes (d .number) (d .detail))) old
+    taken-not t =
+        let m = ap (λ (r : Client). r .number) h ∙ number-by (λ (r : Client). r .number) _ _ (λ m. refl) refl n in
+        let p : 0 < n = omega (arith, t, m) in
+        rw (h, refused-by (turnedFor st class) (takenAs st mark f) n p) (sym (refused-by _ _ n p), sym (refused-by _ _ n p))
 
 -- what the station answered by a number and the station that it leaves
 module _ (xs : List ℕ) (faults : List Fault) (e : length xs ≡ stationLength) (next : Station) (d : Done) (h : d ≡ refusedOr (refusedOf (stationAt xs)) (firstOf faults) (doneOf next)) where

@@ -18,9 +18,9 @@ use Rattle.rpr.specs.Shape.{answerOf, afterOf, otherLength}
 
 -- ---- rpr_version
 
--- 256 × the first number of the version + the second: 1.2
+-- 256 × the first number of the version + the second: 1.3
 abbrev pub versionNumber : ℕ
-versionNumber = 256 * 1 + 2
+versionNumber = 256 * 1 + 3
 
 -- ---- rpr_summarize
 

@@ -14,11 +14,14 @@ use Rattle.settings.specs.Words.{settingsAt, settingsLength}
 use Rattle.station.specs.declared.Station.{Station}
 use Rattle.station.specs.Range.{StationOk}
 use Rattle.station.specs.Calls.{freshOf}
+use Rattle.station.specs.Offers.{shortFor}
+use Rattle.station.specs.History as station
 use Rattle.station.specs.History.{Call, Answer, step}
 use Rattle.advert.specs.Frame.{advertLength}
 use Rattle.layout.specs.Layout.{stationLength, stationAt, stationBytes}
 use Rattle.layout.specs.Reading.{readingLength}
 use Rattle.answer.specs.Bytes.{packed, markBytes, selectedBytes}
+use Rattle.rpr.specs.Shape.{shortTold}
 use Rattle.rpr.specs.Station.{startAnswer, startAfter}
 use Rattle.rpr.specs.Lent.{LentCall, start, tick, offerClient, offerTransit, offerControl, select, age, readFrame, writeFrame, show}
 use Rattle.rpr.specs.Lent.{answerTo, leftBy, callsOf, StartsWith}
@@ -38,9 +41,21 @@ pub record Keeps (xs : List ℕ) (st : Station) : Type 0 where
 abbrev pub saidOf : Answer → ℕ
 saidOf r = packed (markBytes (r .mark)) + packed (selectedBytes (r .origin) (r .frame))
 
--- A call's answer: the number of a refusal, or what was said. A refusal leaves the station's bytes; else they are those of the station that the call left.
+-- What a refusal's bytes say: its number alone; to a client's frame 6 also says how far short.
+abbrev pub refusalTo : Call → Station → ℕ → ℕ
+refusalTo (station.tick a b c) st n = n
+refusalTo (station.offerClient class size hops) st n = shortTold (shortFor st class) n
+refusalTo (station.offerTransit class size hops eligible) st n = n
+refusalTo (station.offerControl size) st n = n
+refusalTo station.select st n = n
+refusalTo station.age st n = n
+refusalTo (station.hear frame bytes) st n = n
+refusalTo station.tell st n = n
+refusalTo station.show st n = n
+
+-- A call's answer: a refusal, or what was said. A refusal leaves the station's bytes; else they are those of the station that the call left.
 abbrev pub answerGiven : Call → Station → ℕ
-answerGiven call st = refusedOr (λ n. n) (step call st .answer .number) (saidOf (step call st .answer))
+answerGiven call st = refusedOr (refusalTo call st) (step call st .answer .number) (saidOf (step call st .answer))
 
 abbrev pub bytesLeft : Call → List ℕ → Station → List ℕ
 bytesLeft call xs st = refusedOr (λ n. xs) (step call st .answer .number) (stationBytes (step call st .station))

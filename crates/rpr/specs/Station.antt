@@ -13,13 +13,13 @@ use Rattle.flow.specs.Offer.{queueFor, controlFrame, enterOf}
 use Rattle.fair.specs.Advertise.{toldOf}
 use Rattle.station.specs.Answers.{withFlow, chosenOf}
 use Rattle.station.specs.Calls.{startFaults, freshOf, tickFaults, tickedOf, selectFaults, ageFaults, agedOf}
-use Rattle.station.specs.Offers.{givenFrame, offerFaults, offerClientFaults, staging}
+use Rattle.station.specs.Offers.{givenFrame, offerFaults, offerClientFaults, staging, shortFor}
 use Rattle.station.specs.Hear.{hearFaults, changedOf, tellFaults}
 use Rattle.station.specs.Show.{showFaults, readingOf}
 use Rattle.layout.specs.Layout.{stationLength, stationAt, stationBytes}
 use Rattle.layout.specs.Reading.{readingLength, readingBytes}
 use Rattle.answer.specs.Bytes.{packed, markBytes, selectedBytes}
-use Rattle.rpr.specs.Shape.{answerOf, afterOf, otherLength}
+use Rattle.rpr.specs.Shape.{answerOf, shortAnswerOf, afterOf, otherLength}
 
 -- ---- rpr_start
 
@@ -51,9 +51,10 @@ tickAfter xs a b c = afterOf (tickRows xs a b c) xs (stationBytes (tickedOf (sta
 abbrev pub offerClientRows : List ℕ → ℕ → ℕ → ℕ → List Fault
 offerClientRows xs class size hops = otherLength stationLength xs ∷ offerClientFaults (stationAt xs) class size hops
 
--- The answer holds the mark that the frame got.
+-- The answer holds the mark that the frame got; refused with 6, how far short the shapers are that it needs.
 unfoldable pub offerClientAnswer : List ℕ → ℕ → ℕ → ℕ → ℕ
-offerClientAnswer xs class size hops = answerOf (offerClientRows xs class size hops) (packed (markBytes (staging (stationAt xs) class size hops .mark)))
+offerClientAnswer xs class size hops =
+    shortAnswerOf (offerClientRows xs class size hops) (shortFor (stationAt xs) class) (packed (markBytes (staging (stationAt xs) class size hops .mark)))
 
 -- The stage holds one client frame.
 unfoldable pub offerClientAfter : List ℕ → ℕ → ℕ → ℕ → List ℕ

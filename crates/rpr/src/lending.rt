@@ -61,7 +61,7 @@ pub extern "C" fn rpr_tick(station: &mut [u8], a: u64, b: u64, c: u64) -> u64
     0
 }
 
-// Takes a client frame into the stage, and answers the mark that it got. 2, 1, 3, 5, 6, then 7.
+// Takes a client frame into the stage, and answers the mark that it got. 2, 1, 3, 5, 6 and how far short, then 7.
 #[no_mangle]
 pub extern "C" fn rpr_offer_client(station: &mut [u8], class: u64, size: u64, hops: u64) -> u64
     ensures { λ r. ⌜ r ≡ offerClientAnswer (now (station .entry)) class size hops ⌝ }
@@ -72,7 +72,7 @@ pub extern "C" fn rpr_offer_client(station: &mut [u8], class: u64, size: u64, ho
     }
     let out = layout::read(station).offer_client(class, size, hops);
     if out.number != 0 {
-        return out.number as u64;
+        return answer::refused(out.number, out.detail);
     }
     let next = out.station;
     let flow = next.flow;

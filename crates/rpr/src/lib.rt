@@ -14,7 +14,7 @@ const NOT_WHOLE: u64 = 2;
 // The two numbers of the version that this library is, as rpr.h has them in RPR_VERSION.
 const VERSION: u64 = 1;
 
-const REVISION: u64 = 2;
+const REVISION: u64 = 3;
 
 // The version: 256 times its first number and the second.
 #[no_mangle]

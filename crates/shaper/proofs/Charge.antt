@@ -10,7 +10,8 @@ use Rattle.shaper.specs.declared.Shaper.{Shaper}
 use Rattle.shaper.specs.declared.Charged.{Charged}
 use Rattle.shaper.specs.declared.Event.the-variants.{Send}
 use Rattle.shaper.specs.Credit.{permits, next}
-use Rattle.shaper.specs.Shaper.{chargeFaults, notChargedOf, chargeOf}
+use Rattle.shaper.specs.Short.{shortfall}
+use Rattle.shaper.specs.Shaper.{chargeFaults, chargeOf}
 
 module _ (s : Shaper) (z : ℕ) where
   -- where credit > loLimit the size is taken off
@@ -18,8 +19,8 @@ module _ (s : Shaper) (z : ℕ) where
   unfolding refusedOr
   permitted e = rw (in-order (chargeFaults s) refl, e)
 
-  -- elsewhere the answer is 6 and the shaper is as it was
-  pub turned-down : permits (s .credit) (s .limits .lo) ≡ false → chargeOf s z ≡ notChargedOf s 6
+  -- elsewhere the answer is 6 and how far short, and the shaper is as it was
+  pub turned-down : permits (s .credit) (s .limits .lo) ≡ false → chargeOf s z ≡ record { number = 6; detail = shortfall (s .credit) (s .limits .lo); shaper = s }
   unfolding refusedOr
   turned-down e = rw (in-order (chargeFaults s) refl, e)
 

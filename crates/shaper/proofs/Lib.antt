@@ -1,4 +1,5 @@
 pub mod Credit
+pub mod Short
 pub mod Charge
 pub mod Kind
 pub mod Ranges

@@ -1,4 +1,5 @@
 pub mod Limits
 pub mod Credit
+pub mod Short
 pub mod Shaper
 pub mod Kind

@@ -9,6 +9,7 @@ use Rattle.shaper.specs.declared.Shaper.{Shaper}
 use Rattle.shaper.specs.declared.Charged.{Charged}
 use Rattle.shaper.specs.declared.Event.the-variants.{Send}
 use Rattle.shaper.specs.Credit.{permits, next, tickOf}
+use Rattle.shaper.specs.Short.{shortfall, detailOf}
 
 -- Credit starts at loLimit.
 abbrev pub freshOf : Limits → Shaper
@@ -21,9 +22,9 @@ tickedOf s waits x = record { limits = s .limits; credit = next (s .limits) (s .
 abbrev pub chargeFaults : Shaper → List Fault
 chargeFaults s = fault 6 (not (permits (s .credit) (s .limits .lo))) ∷ []
 
--- a refusal changes nothing
+-- a refusal changes nothing, and says how far short the shaper is
 abbrev pub notChargedOf : Shaper → ℕ → Charged
-notChargedOf s n = record { number = n; detail = 0; shaper = s }
+notChargedOf s n = record { number = n; detail = detailOf n (shortfall (s .credit) (s .limits .lo)); shaper = s }
 
 -- A send is permitted exactly when credit > loLimit, then the size is taken off.
 abbrev pub chargeOf : Shaper → ℕ → Charged

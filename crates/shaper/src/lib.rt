@@ -3,7 +3,7 @@ ghost use mathlib.Core.Path.{_≡_};
 ghost use Prim.Native.Nat.{_+_, _-_, min};
 ghost use Rattle.decide.specs.Test.{test};
 ghost use Rattle.shaper.specs.Limits.{limitsOk, sameLimits};
-ghost use Rattle.shaper.specs.Credit.{permits};
+ghost use Rattle.shaper.specs.Short.{shortfall};
 ghost use Rattle.shaper.specs.Shaper.{freshOf, tickedOf, chargeOf};
 
 // The settings of a shaper that bound its credit, and the longest frame.
@@ -37,8 +37,8 @@ pub struct Shaper {
     pub credit: u32,
 }
 
-// What a charge answers: 0, or 6 where the shaper does not permit, and the shaper afterwards. `detail` is what a refusal says beside its number: 0, as none
-// says more.
+// What a charge answers: 0, or 6 where the shaper does not permit, and the shaper afterwards. `detail` is what a refusal says beside its number: how far short the
+// shaper is.
 pub struct Charged {
     pub number: u8,
     pub detail: u64,
@@ -96,11 +96,12 @@ impl Limits {
     }
 }
 
-// Whether a send is permitted at this credit. Every permission is asked for here.
-pub fn ask(credit: u32, lo: u32) -> bool
-    ensures { λ r. ⌜ r ≡ permits credit lo ⌝ }
+// How far short this credit is of permitting a send: the least amount whose addition would make it exceed loLimit, 0 where it does. Every permission is asked
+// for here. The answer has 64 bits, as loLimit + 1 may have 33.
+pub fn ask(credit: u32, lo: u32) -> u64
+    ensures { λ r. ⌜ r ≡ shortfall credit lo ⌝ }
 {
-    lo < credit
+    decide::less(lo as u64 + 1, credit as u64)
 }
 
 impl Shaper {
@@ -139,10 +140,11 @@ impl Shaper {
         ensures { λ r. ⌜ r ≡ chargeOf self size ⌝ }
     {
         let limits = self.limits;
-        if !ask(self.credit, limits.lo) {
+        let short = ask(self.credit, limits.lo);
+        if 0 < short {
             return Charged {
                 number: 6,
-                detail: 0,
+                detail: short,
                 shaper: self,
             };
         }

@@ -14,7 +14,6 @@ use Rattle.station.specs.declared.Selected.{Selected}
 use Rattle.station.specs.Range.{StationOk}
 use Rattle.station.specs.Answers.{withFair, refusedOf, doneOf, notChosenOf}
 use Rattle.station.specs.Calls.{ageOf}
-use Rattle.station.specs.Offers.{turnedOf}
 use Rattle.station.specs.History.{Call, tick, offerClient, offerTransit, offerControl, select, age, hear, tell, show, step}
 use Rattle.station.proofs.Range.{facts-in-range}
 use Rattle.station.proofs.Calls.{age-done}
@@ -34,7 +33,7 @@ Steady f g = (g .decided .congested ≡ f .decided .congested) × (g .decided .o
 pub holds-till-interval : (st : Station) (c : Call) → (c ≡ age → ⊥) → Steady (st .fair) (step c st .station .fair)
 holds-till-interval st (tick a b c) n = of-answer (refusedOf st) _ (λ (r : Done). Steady (st .fair) (r .station .fair)) _ (λ z. (refl, refl)) (λ h. (refl, refl))
 holds-till-interval st (offerClient class size hops) n =
-    of-answer (turnedOf st) _ (λ (r : Client). Steady (st .fair) (r .station .fair)) _ (λ z. (refl, refl)) (λ h. (refl, refl))
+    of-answer _ _ (λ (r : Client). Steady (st .fair) (r .station .fair)) _ (λ z. (refl, refl)) (λ h. (refl, refl))
 holds-till-interval st (offerTransit class size hops eligible) n =
     of-answer (refusedOf st) _ (λ (r : Done). Steady (st .fair) (r .station .fair)) _ (λ z. (refl, refl)) (λ h. (refl, refl))
 holds-till-interval st (offerControl size) n =

@@ -64,7 +64,7 @@ module _ {st : Station} (ok : StationOk st) where
       (λ f. subst P (sym (offer-coded st l x in-range f)) turns)
 
   pub client-cases : (P : Client → Type 0) (class size hops : ℕ) → (FrameOk (boundsOf (st .settings)) (givenFrame class size hops 0) → P (stagedOf st (staging st class size hops)))
-      → P (turnedOf st 3) → P (offerClientOf st class size hops)
+      → P (turnedOf st 3 0) → P (offerClientOf st class size hops)
   client-cases P class size hops does turns =
       let x = givenFrame class size hops 0 in
       by-cases (true-or-false (test (frameOk (boundsOf (st .settings)) x)))

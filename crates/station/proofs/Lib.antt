@@ -3,6 +3,7 @@ pub mod Calls
 pub mod Tick
 pub mod Select
 pub mod Offers
+pub mod Short
 pub mod Hear
 pub mod Interval
 pub mod Refused

@@ -29,7 +29,7 @@ use Rattle.station.specs.declared.Done.{Done}
 use Rattle.station.specs.declared.Client.{Client}
 use Rattle.station.specs.Range.{stationOk, StationOk}
 use Rattle.station.specs.Answers.{withFlow, refusedOf, doneOf}
-use Rattle.station.specs.Offers.{givenFrame, cutOf, cutFrame, offerFaults, broughtOf, offerOf, overFor, wayFor, offerClientFaults, stagedOf, staging, turnedOf, takenOf, offerClientOf}
+use Rattle.station.specs.Offers.{givenFrame, cutOf, cutFrame, offerFaults, broughtOf, offerOf, overFor, wayFor, offerClientFaults, stagedOf, staging, shortFor, turnedOf, turnedFor, takenOf, offerClientOf}
 use Rattle.station.proofs.Range.{in-range-facts}
 
 -- ---- numbers that are cut
@@ -116,12 +116,12 @@ module _ (st : Station) (l : Line) (x : Frame) where
 
 module _ (st : Station) (class size hops : ℕ) where
   -- 1 where the station is out of range
-  pub client-lost : test (stationOk st) ≡ false → offerClientOf st class size hops ≡ turnedOf st 1
+  pub client-lost : test (stationOk st) ≡ false → offerClientOf st class size hops ≡ turnedOf st 1 0
   unfolding refusedOr
   client-lost e = rw (in-order (offerClientFaults st class size hops) refl, e)
 
   -- else 3 where the frame is
-  pub client-coded : test (stationOk st) ≡ true → test (frameOk (boundsOf (st .settings)) (givenFrame class size hops 0)) ≡ false → offerClientOf st class size hops ≡ turnedOf st 3
+  pub client-coded : test (stationOk st) ≡ true → test (frameOk (boundsOf (st .settings)) (givenFrame class size hops 0)) ≡ false → offerClientOf st class size hops ≡ turnedOf st 3 0
   unfolding refusedOr
   client-coded e f = rw (in-order (offerClientFaults st class size hops) refl, e, f)
 
@@ -137,23 +137,24 @@ module _ (st : Station) (class size hops : ℕ) where
 
         -- the station's answer by a number, from the stage's answer
         said : ℕ → flow.Client → Client
-        said n r = refusedOr (turnedOf st) n (takenOf st r)
+        said n r = refusedOr (turnedFor st class) n (takenOf st r)
 
         number : firstOf (offerClientFaults st class size hops) ≡ firstOf rows
         number = rw (in-order (offerClientFaults st class size hops) refl, in-order rows refl, e, f)
 
     -- 5 where it holds a frame;
-    pub client-occupied : stageHolds (st .flow) ≡ true → offerClientOf st class size hops ≡ turnedOf st 5
+    pub client-occupied : stageHolds (st .flow) ≡ true → offerClientOf st class size hops ≡ turnedOf st 5 0
     client-occupied h = client-staged ∙ ap (stagedOf st) (client-full (wayFor st class) (st .settings) (st .flow) class size hops (overFor st size hops) h)
 
     module _ (h : stageHolds (st .flow) ≡ false) where
-      -- else 6 where a needed shaper does not permit;
-      pub client-denied : permitsAll (st .settings) (st .flow .credits) (needsOf (wayFor st class)) ≡ false → offerClientOf st class size hops ≡ turnedOf st 6
+      -- else 6 where a needed shaper does not permit, and how far short they are;
+      pub client-denied : permitsAll (st .settings) (st .flow .credits) (needsOf (wayFor st class)) ≡ false
+          → offerClientOf st class size hops ≡ turnedOf st 6 (shortFor st class)
       client-denied p = client-staged ∙ ap (stagedOf st) (client-barred (wayFor st class) (st .settings) (st .flow) class size hops (overFor st size hops) h p)
 
       module _ (p : permitsAll (st .settings) (st .flow .credits) (needsOf (wayFor st class)) ≡ true) where
         -- else 7 where an eligible frame would pass the congested fair rate;
-        pub client-passing : (eqb (markOf (wayFor st class)) 1 && overFor st size hops) ≡ true → offerClientOf st class size hops ≡ turnedOf st 7
+        pub client-passing : (eqb (markOf (wayFor st class)) 1 && overFor st size hops) ≡ true → offerClientOf st class size hops ≡ turnedOf st 7 0
         client-passing o = client-staged ∙ ap (stagedOf st) (client-over (wayFor st class) (st .settings) (st .flow) class size hops (overFor st size hops) h p o)
 
         -- and elsewhere the frame lies in the stage, with its mark, and the needed shapers are charged

@@ -12,8 +12,10 @@ use Rattle.flow.specs.declared.Entered.{Entered}
 use Rattle.flow.specs.declared.Line.{Line}
 use Rattle.flow.specs.declared.Line.the-variants.{Control}
 use Rattle.flow.specs.declared.Way.{Way}
+use Rattle.shaper.specs.Short.{detailOf}
 use Rattle.flow.specs.Parts.{boundsOf}
-use Rattle.flow.specs.Offer.{enterFaults, enterOf, queueFor, controlFrame, wayOf, clientFaults, clientOf}
+use Rattle.flow.specs.Short.{shortAll}
+use Rattle.flow.specs.Offer.{enterFaults, enterOf, queueFor, controlFrame, needsOf, wayOf, clientFaults, clientOf}
 use Rattle.fair.specs.Count.{over}
 use Rattle.station.specs.declared.Station.{Station}
 use Rattle.station.specs.declared.Done.{Done}
@@ -78,7 +80,7 @@ offerClientFaults st class size hops =
 
 -- what the stage says
 abbrev pub stagedOf : Station → flow.Client → Client
-stagedOf st r = record { number = r .number; detail = 0; mark = r .mark; station = withFlow st (r .flow) }
+stagedOf st r = record { number = r .number; detail = r .detail; mark = r .mark; station = withFlow st (r .flow) }
 
 abbrev pub staging : Station → ℕ → ℕ → ℕ → flow.Client
 staging st class size hops = clientOf (st .settings) (st .flow) class size hops (overFor st size hops)
@@ -86,9 +88,17 @@ staging st class size hops = clientOf (st .settings) (st .flow) class size hops 
 abbrev pub clientFor : Station → Frame → Client
 clientFor st x = stagedOf st (staging st (x .class) (x .size) (x .hops))
 
--- a refusal changes nothing
-abbrev pub turnedOf : Station → ℕ → Client
-turnedOf st n = record { number = n; detail = 0; mark = 0; station = st }
+-- how far short the shapers are that a client frame of this class needs; of client B, where its own share does not let it in, those of the excess attempt
+abbrev pub shortFor : Station → ℕ → ℕ
+shortFor st class = shortAll (st .settings) (st .flow .credits) (needsOf (wayFor st class))
+
+-- a refusal changes nothing; it is a number, and what it says beside it
+abbrev pub turnedOf : Station → ℕ → ℕ → Client
+turnedOf st n detail = record { number = n; detail = detail; mark = 0; station = st }
+
+-- what a refusal says to a client frame of this class
+abbrev pub turnedFor : Station → ℕ → ℕ → Client
+turnedFor st class n = turnedOf st n (detailOf n (shortFor st class))
 
 -- the frame is in, with its mark
 abbrev pub takenOf : Station → flow.Client → Client
@@ -97,4 +107,4 @@ takenOf st r = record { number = 0; detail = 0; mark = r .mark; station = withFl
 -- The stage holds one client frame.
 abbrev pub offerClientOf : Station → ℕ → ℕ → ℕ → Client
 offerClientOf st class size hops =
-    refusedOr (turnedOf st) (firstOf (offerClientFaults st class size hops)) (takenOf st (staging st class size hops))
+    refusedOr (turnedFor st class) (firstOf (offerClientFaults st class size hops)) (takenOf st (staging st class size hops))

@@ -88,15 +88,15 @@ impl Station {
         next.flow = flow;
         Client {
             number: out.number,
-            detail: 0,
+            detail: out.detail,
             mark: out.mark,
             station: next,
         }
     }
 
-    // The answer to a client whose frame is turned down by this number: nothing is changed.
+    // The answer to a client whose frame is turned down by this number alone: nothing is changed.
     fn turned_down(self, number: u8) -> Client
-        ensures { λ r. ⌜ r ≡ turnedOf self number ⌝ }
+        ensures { λ r. ⌜ r ≡ turnedOf self number 0 ⌝ }
     {
         Client {
             number: number,

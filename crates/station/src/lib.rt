@@ -29,8 +29,8 @@ pub struct Station {
     pub fair: Fair,
 }
 
-// What most calls answer: 0 or the number of the refusal, and the station afterwards. `detail`, here and below, is what a refusal says beside its number: 0,
-// as none says more.
+// What most calls answer: 0 or the number of the refusal, and the station afterwards. `detail`, here and below, is what a refusal says beside its number: of
+// 6 how far short the shapers are, else 0.
 pub struct Done {
     pub number: u8,
     pub detail: u64,

@@ -16,7 +16,9 @@ use station::Station;
 
 fn main() {
     shapers();
-    frames(started());
+    let heard = frames(started());
+    lacking(heard);
+    turned_down();
 }
 
 // mtu 64, loLimit 100, hiLimit 300: a credit of 100 does not permit; a waiting tick of 150 brings 250; a send of 60 leaves 190; an idle tick cuts to 100.
@@ -45,6 +47,7 @@ fn charged(s: Shaper, size: u32) -> Shaper {
     let said = out.said;
     let next = out.shaper;
     number(b"shaper charge ", said.number as u64);
+    number(b" short ", said.detail);
     number(b" credit ", next.credit as u64);
     text(b"\n");
     next
@@ -87,8 +90,8 @@ fn started() -> Station {
     })
 }
 
-// A tick, a frame of each kind, their selection, the end of an interval, and a fairness frame that says 500; refusals among them.
-fn frames(fresh: Station) {
+// A tick, a frame of each kind, their selection, the end of an interval, and a fairness frame that says 500; refusals among them. The station afterwards.
+fn frames(fresh: Station) -> Station {
     let none = selected(fresh);
     let early = client(none, 0, 64, 5);
     let wrong = tick(early, 2, 0, 0);
@@ -105,7 +108,27 @@ fn frames(fresh: Station) {
     let aged = age(third);
     let told = hear(aged, b"\xff\xa0\x02\x00\x5e\x00\x00\x02\x00\x00\x01\xf4");
     let short = hear(told, b"\xff\xa0");
-    hear(short, b"\xff\xa0\x02\x00\x5e\x00\x00\x01\x00\x00\x01\xf4");
+    hear(short, b"\xff\xa0\x02\x00\x5e\x00\x00\x01\x00\x00\x01\xf4")
+}
+
+// A frame of each class that shapers turn down: A, B and C lack 1 byte, D lacks 25.
+fn lacking(s: Station) {
+    let a = client(s, 0, 64, 1);
+    let b = client(a, 1, 64, 1);
+    client(b, 2, 64, 1);
+}
+
+// A shaper at its start lacks 1 byte; after a send from just above loLimit it lacks the size.
+fn turned_down() {
+    let limits = Limits {
+        mtu: 64,
+        lo: 100,
+        hi: 300,
+    };
+    let refused = charged(Shaper::fresh(limits), 60);
+    let waited = ticked(refused, true, 1);
+    let sent = charged(waited, 60);
+    charged(sent, 60);
 }
 
 fn tick(s: Station, a: u64, b: u64, c: u64) -> Station {
@@ -118,6 +141,7 @@ fn client(s: Station, class: u64, size: u64, hops: u64) -> Station {
     let out = lent::offer_client(s, class, size, hops);
     let said = out.said;
     number(b"mark ", said.mark as u64);
+    number(b" short ", said.detail);
     after(b" client ", said.number, out.station)
 }
 

@@ -84,7 +84,7 @@ fn client(station: Station, row: Row) -> Station {
         return wrong(station, b"client", b"3 numbers are wanted");
     }
     let out = station.offer_client(n[0], n[1], n[2]);
-    print::offered(out.number, out.mark);
+    print::offered(out.number, out.detail, out.mark);
     out.station
 }
 

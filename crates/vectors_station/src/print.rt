@@ -12,9 +12,15 @@ pub fn done(name: &[u8], refusal: u8) {
     text(b" done\n");
 }
 
-// What a client's offer answers: the mark of its frame.
-pub fn offered(refusal: u8, mark: u32) {
+// What a client's offer answers: the mark of its frame; or a refusal and, where it says more, how far short.
+pub fn offered(refusal: u8, detail: u64, mark: u32) {
     text(b"client");
+    if detail != 0 {
+        number(b" refused ", refusal as u32);
+        script::print::number(b" short ", detail);
+        text(b"\n");
+        return;
+    }
     if refusal != 0 {
         return refused(refusal);
     }

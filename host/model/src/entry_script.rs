@@ -5,7 +5,7 @@
 //! is a fresh station, and `tick A B C`, `client CLASS SIZE HOPS`, `transit CLASS SIZE HOPS ELIGIBLE`, `control SIZE`,
 //! `select`, `age` and `hear HEX` are calls on it. Lines that are empty or begin with `#` print nothing.
 
-use crate::line::{byte, number, numbers, words};
+use crate::line::{byte, number, numbers, short, words};
 use crate::station::settings::{to_bytes, Limits};
 use crate::station::shaper::Shaper;
 use crate::station::{calls, Station};
@@ -47,12 +47,12 @@ impl Script {
             shaper.tick(n, call == "waiting");
             return Ok(format!("shaper tick credit {}\n", shaper.credit));
         }
-        // "6: a needed shaper doesn't permit"
-        let refusal = if shaper.permits() { 0 } else { 6 };
+        // "6: a needed shaper doesn't permit"; "refusal 6 returns its number and this shortfall."
+        let (refusal, short) = if shaper.permits() { (0, 0) } else { (6, shaper.shortfall()) };
         if refusal == 0 {
             shaper.charge(n);
         }
-        Ok(format!("shaper charge {refusal} credit {}\n", shaper.credit))
+        Ok(format!("shaper charge {refusal} short {short} credit {}\n", shaper.credit))
     }
 
     fn start(&mut self, arguments: &[&str]) -> Printed {
@@ -71,11 +71,19 @@ impl Script {
         let call = parsed(name, arguments)?;
         let (answer, _) = call.apply(station, &call.other_slice(0));
         let said = match call {
-            Call::Client(_) => format!("mark {} ", byte(answer, 4)),
+            Call::Client(_) => format!("mark {} short {} ", mark(answer), short(answer)),
             Call::Select => format!("origin {} size {} ", byte(answer, 1), answer >> 48),
             _ => String::new(),
         };
         Ok(format!("{said}{name} {} {}\n", byte(answer, 0), left(station)))
+    }
+}
+
+/// The mark that a client frame got; 0 where it was refused.
+fn mark(answer: u64) -> u8 {
+    match byte(answer, 0) {
+        0 => byte(answer, 4),
+        _ => 0,
     }
 }
 

@@ -64,7 +64,7 @@ pub fn to_bytes(summary: &Summary) -> Vec<u8> {
 fn answered(outcome: Result<Summary, Refusal>, room: &[u8]) -> (u64, Vec<u8>) {
     match outcome {
         Ok(summary) => (0, to_bytes(&summary)),
-        Err(refusal) => (u64::from(refusal.number()), room.to_vec()),
+        Err(refusal) => (refusal.answer(), room.to_vec()),
     }
 }
 
@@ -103,7 +103,7 @@ pub fn settle(summary: &[u8], start: u64) -> u64 {
     match settled {
         Ok(Some(end)) => 1 << 8 | (end as u64) << 32,
         Ok(None) => 0,
-        Err(refusal) => u64::from(refusal.number()),
+        Err(refusal) => refusal.answer(),
     }
 }
 
@@ -175,7 +175,7 @@ pub fn choose(
             let low = side_code(choice.side) << 8 | (choice.distance as u64) << 16;
             low | (choice.ttl as u64) << 24 | u64::from(choice.mark) << 32
         }
-        Err(refusal) => u64::from(refusal.number()),
+        Err(refusal) => refusal.answer(),
     }
 }
 
@@ -189,6 +189,6 @@ pub fn path(stations: u64, own: u64, target: u64, links: u64, home: u64) -> u64 
     };
     match walked() {
         Ok(path) => u64::from(path.delivered) << 8 | (path.links.len() as u64) << 16,
-        Err(refusal) => u64::from(refusal.number()),
+        Err(refusal) => refusal.answer(),
     }
 }

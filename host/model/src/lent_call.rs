@@ -1,6 +1,7 @@
 //! A call on a station's lent bytes, whatever they hold.
 //!
-//! "Each returns its number alone and leaves the station and all lent bytes untouched."
+//! "Each returns its number alone and leaves the station and all lent bytes untouched", but
+//! "refusal 6 returns its number and this shortfall."
 
 use crate::refusal::Refusal;
 use crate::station::fairness::{self, FRAME_LENGTH};
@@ -54,7 +55,7 @@ fn carry_out(call: &Call, station: &[u8], other: &[u8]) -> Result<After, Refusal
 /// `other` is the frame or room that the call lends.
 pub fn apply(call: &Call, station: &[u8], other: &[u8]) -> After {
     carry_out(call, station, other).unwrap_or_else(|refusal| After {
-        answer: u64::from(refusal.number()),
+        answer: refusal.answer(),
         station: station.to_vec(),
         other: other.to_vec(),
     })

@@ -33,3 +33,12 @@ pub fn numbers<const N: usize>(words: &[&str]) -> Result<[u64; N], String> {
 pub fn byte(answer: u64, at: usize) -> u8 {
     answer.to_le_bytes()[at]
 }
+
+/// Bytes 4 to 7 of a refused answer: how far short the shapers are. 0 where the call was
+/// carried out.
+pub fn short(answer: u64) -> u64 {
+    match byte(answer, 0) {
+        0 => 0,
+        _ => answer >> 32,
+    }
+}

@@ -88,6 +88,12 @@ fn frame(random: &mut Random, station: &Station, habit: &Habit) -> [u64; 3] {
     frame
 }
 
+/// A client frame in range, of this class.
+pub fn client(random: &mut Random, station: &Station, class: u64) -> Call {
+    let size = size(random, station, false);
+    Call::Client([class, size, random.often_extreme(1, 63) as u64])
+}
+
 fn transit(random: &mut Random, station: &Station, habit: &Habit) -> Call {
     let [class, size, hops] = frame(random, station, habit);
     let eligible = match class {

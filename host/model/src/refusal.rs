@@ -3,32 +3,54 @@
 #[derive(Clone, Copy, Debug, PartialEq, Eq, PartialOrd, Ord)]
 pub enum Refusal {
     /// "a setting, or a lent station's state, is outside its range"
-    Setting = 1,
+    Setting,
     /// "bytes are not a whole record, frame or station"
-    Bytes = 2,
+    Bytes,
     /// "a frame, station index, summary (its settings too), starting credit or
     /// coded choice [...] is outside its range"
-    Range = 3,
+    Range,
     /// "a frame's size exceeds the queue's space"
-    Space = 4,
+    Space,
     /// "the stage already holds a frame"
-    Stage = 5,
-    /// "a needed shaper doesn't permit"
-    Shaper = 6,
+    Stage,
+    /// "a needed shaper doesn't permit", and the shortfall.
+    Shaper(u64),
     /// "the congested fair rate would be passed"
-    FairRate = 7,
+    FairRate,
     /// "no usable way"
-    NoWay = 8,
+    NoWay,
     /// "over 1,000,000 events"
-    Events = 9,
+    Events,
     /// "joined summaries have different settings"
-    Settings = 10,
+    Settings,
     /// "a fairness frame bears this station's own address"
-    OwnAddress = 11,
+    OwnAddress,
 }
 
 impl Refusal {
     pub fn number(self) -> u8 {
-        self as u8
+        match self {
+            Refusal::Setting => 1,
+            Refusal::Bytes => 2,
+            Refusal::Range => 3,
+            Refusal::Space => 4,
+            Refusal::Stage => 5,
+            Refusal::Shaper(_) => 6,
+            Refusal::FairRate => 7,
+            Refusal::NoWay => 8,
+            Refusal::Events => 9,
+            Refusal::Settings => 10,
+            Refusal::OwnAddress => 11,
+        }
+    }
+
+    /// "byte 0 is 6, bytes 1 to 3 are 0, bytes 4 to 7 the shortfall [...]. Every other
+    /// refusal of every call is its number alone."
+    pub fn answer(self) -> u64 {
+        let short = match self {
+            Refusal::Shaper(short) => short,
+            _ => 0,
+        };
+        u64::from(self.number()) | short << 32
     }
 }

@@ -7,7 +7,7 @@
 //! `N*CALL` is this call N times. Numbers are decimal or hex after `0x`. Lines that are
 //! empty or begin with `#` print nothing.
 
-use crate::line::{byte, number, numbers, words};
+use crate::line::{byte, number, numbers, short, words};
 use crate::station::fairness::FRAME_LENGTH;
 use crate::station::reading::{NAMES, READING_LENGTH};
 use crate::station::{calls, settings, Station};
@@ -20,11 +20,13 @@ pub struct Script {
 
 type Printed = Result<String, String>;
 
-/// What an answer prints: the refusal, or what is said of a call carried out.
+/// What an answer prints: the refusal, and behind it a shortfall where there is one, or
+/// what is said of a call carried out.
 fn said(answer: u64, done: &str) -> String {
-    match byte(answer, 0) {
-        0 => done.to_string(),
-        refusal => format!("refused {refusal}"),
+    match (byte(answer, 0), short(answer)) {
+        (0, _) => done.to_string(),
+        (refusal, 0) => format!("refused {refusal}"),
+        (refusal, short) => format!("refused {refusal} short {short}"),
     }
 }
 

@@ -27,8 +27,9 @@ pub type Reachable = &'static [(&'static str, &'static [&'static str])];
 // 4 | rpr_offer_transit, rpr_offer_control: "a frame's size exceeds the queue's space".
 //   |   The stage is no queue: not rpr_offer_client.
 // 5 | rpr_offer_client: "the stage already holds a frame".
-// 6 | rpr_offer_client: "a needed shaper doesn't permit". rpr_select goes on to the next
-//   |   that holds, and to nothing.
+// 6 | rpr_offer_client: "a needed shaper doesn't permit", the only one with more than its
+//   |   number: `shortfalls` has what must come up. rpr_select goes on to the next that
+//   |   holds, and to nothing.
 // 7 | rpr_offer_client: "the congested fair rate would be passed".
 // 8 | rpr_choose: "no usable way". A path not delivered is "no refusal".
 // rpr_station_length answers "the number of bytes [...], and nothing else".

@@ -59,7 +59,7 @@ fn one_comes_before_the_later_ones() {
     let calls = [
         (Call::Tick([2, 0, 0]), 3),
         (Call::Client([3, 20, 1]), 3),
-        (Call::Client([0, 20, 1]), 6),
+        (Call::Client([0, 20, 1]), 6 | 1 << 32),
         (Call::Transit([0, 20, 1, 1]), 3),
         (Call::Control(15), 3),
         (Call::Hear(far), 3),

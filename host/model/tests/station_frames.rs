@@ -11,6 +11,9 @@ fn frame(origin: u64, class: u64, hops: u64, eligible: u64, size: u64) -> u64 {
 
 const ELIGIBLE: u64 = 1 << 32;
 
+/// Refused with 6, one byte short.
+const SHORT: u64 = 6 | 1 << 32;
+
 /// Ticked until every shaper that can be waited for is full.
 fn full(changes: &[(usize, u32)]) -> Station {
     let mut station = station(changes);
@@ -33,7 +36,7 @@ fn client_a() {
     let fresh = station(&[]);
     assert_eq!(
         refused(&fresh, |lent| calls::offer_client(lent, 0, 64, 1)),
-        6
+        SHORT
     );
     let mut lent = full(&[]);
     assert_eq!(calls::offer_client(&mut lent, 0, 64, 63), 0);
@@ -68,15 +71,15 @@ fn client_b_and_c() {
 #[test]
 fn shapers_that_do_not_permit() {
     for (class, still, expected) in [
-        (0, vec![9], 6),
+        (0, vec![9], SHORT),
         (0, vec![12, 15, 18], 0),
         (1, vec![12], ELIGIBLE),
         (1, vec![15], 0),
-        (1, vec![18], 6),
-        (1, vec![12, 15], 6),
+        (1, vec![18], SHORT),
+        (1, vec![12, 15], SHORT),
         (1, vec![9], 0),
-        (2, vec![15], 6),
-        (2, vec![18], 6),
+        (2, vec![15], SHORT),
+        (2, vec![18], SHORT),
         (2, vec![9, 12], ELIGIBLE),
     ] {
         let changes: Vec<(usize, u32)> = still.iter().map(|at| (*at, 0)).collect();
@@ -84,7 +87,7 @@ fn shapers_that_do_not_permit() {
         let before = lent.clone();
         let answer = calls::offer_client(&mut lent, class, 64, 1);
         assert_eq!(answer, expected, "class {class}, no amount in {still:?}");
-        assert_eq!(lent == before, answer == 6);
+        assert_eq!(lent == before, answer == SHORT);
     }
 }
 
@@ -92,7 +95,7 @@ fn shapers_that_do_not_permit() {
 #[test]
 fn a_credit_of_one_more_than_the_limit_permits() {
     let mut lent = station(&[(9, 1)]);
-    assert_eq!(calls::offer_client(&mut lent, 0, 64, 1), 6);
+    assert_eq!(calls::offer_client(&mut lent, 0, 64, 1), SHORT);
     calls::tick(&mut lent, 1, 0, 0);
     assert_eq!(calls::offer_client(&mut lent, 0, 64, 1), 0);
     assert_eq!(lent.a.credit, 37);

@@ -170,7 +170,7 @@ fn the_congested_fair_rate() {
     assert_eq!(calls::offer_client(&mut lent.clone(), 0, 64, 63), 0);
     // "the order is [...] 5, 6, 7": a shaper that doesn't permit counts first.
     drained.d.credit = 100;
-    assert_eq!(calls::offer_client(&mut drained, 1, 64, 63), 6);
+    assert_eq!(calls::offer_client(&mut drained, 1, 64, 63), 6 | 1 << 32);
     let before = lent.clone();
     assert_eq!(calls::offer_client(&mut lent, 2, 64, 63), 7);
     assert_eq!(lent, before);

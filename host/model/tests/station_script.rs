@@ -1,5 +1,6 @@
 //! The script of a day.
 
+use model::line::short;
 use model::make_call::{self, Habit};
 use model::make_station;
 use model::random::Random;
@@ -33,7 +34,7 @@ fn the_day_reaches_every_refusal_of_every_call() {
     let refusals: [(&str, &[u8]); 9] = [
         ("start", &[1, 2]),
         ("tick", &[3]),
-        ("client", &[3, 5, 6, 7]),
+        ("client", &[3, 5, 7]),
         ("transit", &[3, 4]),
         ("control", &[3, 4]),
         ("hear", &[2, 3, 11]),
@@ -63,6 +64,21 @@ fn the_day_reaches_every_refusal_of_every_call() {
         let start = format!("select origin {origin} ");
         assert!(reached.iter().any(|line| line.starts_with(&start)));
     }
+}
+
+/// Only a client call refused with 6 has more than its number.
+#[test]
+fn the_day_says_how_far_short() {
+    let lines = printed(FILE);
+    let told = lines
+        .iter()
+        .filter_map(|line| line.strip_prefix("client refused 6 short "));
+    let told: Vec<u64> = told.map(|missing| missing.parse().unwrap()).collect();
+    for missing in [1, 15, 26, 32, 51, 63, 64, 9_215, 9_216] {
+        assert!(told.contains(&missing), "{missing}");
+    }
+    let short = lines.iter().filter(|line| line.contains("short"));
+    assert_eq!(short.count(), told.len());
 }
 
 /// Each word outside its range, then each at an end of it.
@@ -107,12 +123,13 @@ fn the_day_moves_every_word_of_a_reading() {
 #[test]
 fn what_the_calls_print() {
     let script = format!(
-        "# words\n\n{PLAIN}\ntell\ntick 0 0 1\nclient 2 0x20 9\nselect\nselect\n\
+        "# words\n\n{PLAIN}\ntell\nclient 0 16 1\ntick 0 0 1\nclient 2 0x20 9\nselect\nselect\n\
          control 16\ntransit 0 16 1 1\nhear ff a0 000000000002 0000 0005\ntell\ntell 11\nshow 1"
     );
     let expected = [
         "start done",
         "tell ffa00200000000010000ffff",
+        "client refused 6 short 1",
         "tick done",
         "client eligible 1",
         "select origin 4 class 2 hops 9 eligible 1 size 32",
@@ -153,8 +170,12 @@ fn random_calls_as_lines() {
             let call = make_call::call(&mut random, &model, &habit);
             let (answer, _) = call.apply(&mut model, &call.other_slice(7));
             let line = script.print(&call.to_string()).unwrap().unwrap();
-            let refused = format!(" refused {answer}\n");
-            assert_eq!(line.ends_with(&refused), answer as u8 != 0, "{line}");
+            let number = answer as u8;
+            let refused = match short(answer) {
+                0 => format!(" refused {number}\n"),
+                missing => format!(" refused {number} short {missing}\n"),
+            };
+            assert_eq!(line.ends_with(&refused), number != 0, "{line}");
             assert_eq!(script.station(), Some(&model));
         }
     }

@@ -1,8 +1,9 @@
 //! The calls that a host makes about a station, with raw numbers and byte slices.
 //!
 //! "Each returns its number alone and leaves the station and all lent bytes untouched":
-//! a call works on a copy and stores it where it was carried out. A lent station is
-//! in range here; `lent_call` makes the calls on any lent bytes.
+//! a call works on a copy and stores it where it was carried out. "refusal 6 returns its
+//! number and this shortfall." A lent station is in range here; `lent_call` makes the
+//! calls on any lent bytes.
 
 use super::fairness::FRAME_LENGTH;
 use super::frames::{yes, Class, Frame};
@@ -11,7 +12,7 @@ use super::{settings, Station};
 use crate::refusal::Refusal;
 
 fn answer(outcome: Result<u64, Refusal>) -> u64 {
-    outcome.unwrap_or_else(|refusal| u64::from(refusal.number()))
+    outcome.unwrap_or_else(Refusal::answer)
 }
 
 /// The answer of a call on a copy, which is stored where the call was carried out.
@@ -46,7 +47,7 @@ pub fn tick(station: &mut Station, a_waits: u64, b_waits: u64, c_waits: u64) -> 
 }
 
 /// `rpr_offer_client(station, n, class, size, hops)`: "byte 4: the mark that the frame
-/// got, eligible or not".
+/// got, eligible or not"; "refused with 6: [...] bytes 4 to 7 the shortfall".
 pub fn offer_client(station: &mut Station, class: u64, size: u64, hops: u64) -> u64 {
     carry_out(station, |station| {
         let class = Class::from_code(class)?;
@@ -107,7 +108,7 @@ pub fn read_frame(station: &mut Station, frame: &[u8]) -> u64 {
 /// "Room to write in that isn't 12 bytes: 2." The room's bytes afterwards.
 pub fn write_frame(station: &Station, room: &[u8]) -> (u64, Vec<u8>) {
     if room.len() != FRAME_LENGTH {
-        return (u64::from(Refusal::Bytes.number()), room.to_vec());
+        return (Refusal::Bytes.answer(), room.to_vec());
     }
     (0, station.write_frame().to_vec())
 }
@@ -117,7 +118,7 @@ pub fn write_frame(station: &Station, room: &[u8]) -> (u64, Vec<u8>) {
 /// afterwards.
 pub fn show(station: &Station, room: &[u8]) -> (u64, Vec<u8>) {
     if room.len() != READING_LENGTH {
-        return (u64::from(Refusal::Bytes.number()), room.to_vec());
+        return (Refusal::Bytes.answer(), room.to_vec());
     }
     let words = station.reading();
     let bytes = words.iter().flat_map(|word| (*word as u32).to_le_bytes());

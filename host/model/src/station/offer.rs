@@ -49,7 +49,7 @@ impl Station {
         // "Client A needs and charges A."
         if frame.class == Class::A {
             if !self.a.permits() {
-                return Err(Refusal::Shaper);
+                return Err(Refusal::Shaper(self.a.shortfall()));
             }
             self.a.charge(frame.size);
             return Ok(false);
@@ -65,10 +65,12 @@ impl Station {
 
     /// "Excess B and C need C and D, charge both, and are marked eligible. If
     /// downstream congested, an eligible client frame with hops > hopsToCongestion gets
-    /// 7 when addRateCongested + size > allowedRateCongested."
+    /// 7 when addRateCongested + size > allowedRateCongested." "Where two shapers are
+    /// needed, give the larger shortfall; for client B, give that of the excess attempt."
     fn admit_excess(&mut self, frame: Frame) -> Result<(), Refusal> {
         if !self.c.permits() || !self.d.permits() {
-            return Err(Refusal::Shaper);
+            let short = self.c.shortfall().max(self.d.shortfall());
+            return Err(Refusal::Shaper(short));
         }
         let passed = self.counters.add_congested + frame.size > self.allowed_rate_congested;
         if self.passes_congestion(frame.hops) && passed {

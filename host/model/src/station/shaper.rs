@@ -31,6 +31,12 @@ impl Shaper {
         self.credit > self.lo_limit
     }
 
+    /// "a shaper's turn-down must carry the bytes missing: the least amount whose addition
+    /// would make the credit exceed loLimit." A shaper that permits lacks 0.
+    pub fn shortfall(&self) -> u64 {
+        (self.lo_limit + 1).saturating_sub(self.credit)
+    }
+
     /// "then the size is taken off."
     pub fn charge(&mut self, size: u64) {
         self.credit -= size;

@@ -1,8 +1,9 @@
--- Class A, then B within its own rate; what is left is excess.
+-- Class A, then B within its own rate, which is where its shapers lack nothing; what is left is excess.
 -- Assumes nothing.
 use mathlib.Core.Path.{sym}
 use borrow.Author.Tests.{eq-eqb, ne-eqb}
 use Rattle.flow.specs.Offer.{wayOf}
+use Rattle.flow.proofs.Short.{permits-by}
 use borrow.Author.Needs.{needs}
 use Rattle.flow.proofs.Credits.way.Statement.{statement}
 use Rattle.flow.proofs.Credits.way.Tie as tie
@@ -11,16 +12,16 @@ returns : tie.Need-returns
 unfolding wayOf
 returns c = rw (eq-eqb _ 0 (c .if1 .taken))
 
-admits-requires : tie.Need-admits-requires
-admits-requires c κs = search needs
+short-all-requires : tie.Need-short-all-requires
+short-all-requires c κs = search needs
 
 returns-2 : tie.Need-returns-2
 unfolding wayOf
-returns-2 c = rw (ne-eqb _ 0 (c .before .before .if1 .left), sym (c .before .admits .ensures), c .if2 .taken)
+returns-2 c = rw (ne-eqb _ 0 (c .before .before .if1 .left), permits-by _ _ _, sym (c .before .short-all .ensures), c .if2 .taken)
 
 returns-3 : tie.Need-returns-3
 unfolding wayOf
-returns-3 c = rw (ne-eqb _ 0 (c .before .before .if1 .left), sym (c .before .admits .ensures), c .if2 .left)
+returns-3 c = rw (ne-eqb _ 0 (c .before .before .if1 .left), permits-by _ _ _, sym (c .before .short-all .ensures), c .if2 .left)
 
 pub way-spec : {M : Type 1} → statement M
-way-spec = tie.close (tie.spec returns admits-requires returns-2 returns-3)
+way-spec = tie.close (tie.spec returns short-all-requires returns-2 returns-3)

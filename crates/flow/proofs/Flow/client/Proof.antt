@@ -1,8 +1,9 @@
 -- The rows are tried in their order: each return is one of them.
 -- Assumes nothing.
 use mathlib.Core.Path.{sym, _∙_}
-use borrow.Author.Tests.{not-true, not-false}
-use Rattle.flow.specs.Offer.{wayOf}
+use native.Mathlib.Omega.{arith}
+use Rattle.flow.specs.Offer.{needsOf, wayOf}
+use Rattle.flow.proofs.Short.{permits-short, denied-short}
 use Rattle.flow.proofs.Offer.{client-full, client-barred, client-over, client-taken}
 use borrow.Author.Needs.{needs}
 use Rattle.flow.proofs.Flow.client.Statement.{statement}
@@ -25,8 +26,8 @@ returns c =
 way-requires : tie.Need-way-requires
 way-requires c κs = search needs
 
-admits-requires : tie.Need-admits-requires
-admits-requires c κs = search needs
+short-all-requires : tie.Need-short-all-requires
+short-all-requires c κs = search needs
 
 refused-requires-2 : tie.Need-refused-requires-2
 refused-requires-2 c κs = search needs
@@ -41,8 +42,10 @@ returns-2 c =
     let s = x .settings in
     let f = x .self in
     let empty = sym (e .before .stage-holds .ensures) ∙ e .if1 .left in
-    let barred = sym (a .admits .ensures) ∙ not-true _ (p .if2 .taken) in
-    c .refused2 .ensures ∙ sym (client-barred (wayOf s (f .credits) (x .class)) s f (x .class) (x .size) (x .hops) (x .over) empty (rw (w .way .ensures) at barred))
+    let short = rw (w .way .ensures) at (a .short-all .ensures) in
+    let barred = denied-short s (f .credits) (needsOf (wayOf s (f .credits) (x .class))) (omega (arith, p .if2 .taken, short)) in
+    c .refused2 .ensures
+    ∙ rw short (sym (client-barred (wayOf s (f .credits) (x .class)) s f (x .class) (x .size) (x .hops) (x .over) empty barred))
 
 mark-requires : tie.Need-mark-requires
 mark-requires c κs = search needs
@@ -62,12 +65,16 @@ returns-3 c =
     let s = x .settings in
     let f = x .self in
     let empty = sym (e .before .stage-holds .ensures) ∙ e .if1 .left in
-    let permitted = sym (a .admits .ensures) ∙ not-false _ (p .if2 .left) in
+    let permitted = permits-short s (f .credits) (needsOf (w .way .result)) .1 (omega (arith, p .if2 .left, a .short-all .ensures)) in
     c .refused3 .ensures
     ∙ sym (client-over (wayOf s (f .credits) (x .class)) s f (x .class) (x .size) (x .hops) (x .over) empty (rw (w .way .ensures) at permitted) (rw (m .mark .ensures, w .way .ensures) at (o .if3 .taken)))
 
 pay-requires : tie.Need-pay-requires
-pay-requires c κs = sym (c .before .before .before .admits .ensures) ∙ not-false _ (c .before .before .if2 .left)
+pay-requires c κs =
+    let p = c .before .before in
+    let w = p .before .before in
+    let x = w .before .before .before .before .args in
+    permits-short (x .settings) (x .self .credits) (needsOf (w .way .result)) .1 (omega (arith, p .if2 .left, p .before .short-all .ensures))
 
 word-requires : tie.Need-word-requires
 word-requires c κs = search needs
@@ -84,7 +91,7 @@ returns-4 c =
     let s = x .settings in
     let f = x .self in
     let empty = sym (e .before .stage-holds .ensures) ∙ e .if1 .left in
-    let permitted = sym (a .admits .ensures) ∙ not-false _ (p .if2 .left) in
+    let permitted = permits-short s (f .credits) (needsOf (w .way .result)) .1 (omega (arith, p .if2 .left, a .short-all .ensures)) in
     rw (c .word .ensures, c .before .pay .ensures, m .mark .ensures, w .way .ensures)
     (sym (client-taken (wayOf s (f .credits) (x .class)) s f (x .class) (x .size) (x .hops) (x .over) empty (rw (w .way .ensures) at permitted) (rw (m .mark .ensures, w .way .ensures) at (o .if3 .left))))
 
@@ -96,7 +103,7 @@ client-spec =
     refused-requires
     returns
     way-requires
-    admits-requires
+    short-all-requires
     refused-requires-2
     returns-2
     mark-requires

@@ -3,10 +3,11 @@
 use Prim.Native.Nat.{ℕ}
 use mathlib.Core.Bool.{Bool, true, _&&_}
 use mathlib.Core.List.{[], _∷_}
-use mathlib.Core.Path.{_≡_, sym, ap}
-use lib.Dec.{leb}
+use mathlib.Core.Path.{_≡_, sym, ap, _∙_}
+use lib.Dec.{leb, eqb}
 use Rattle.decide.specs.Test.{test, _≤?_, _<?_, left, denied}
 use Rattle.shaper.specs.Credit.{permits}
+use Rattle.shaper.proofs.Short.{permits-by}
 use Rattle.queue.specs.declared.Frame.{Frame}
 use Rattle.queue.specs.Queue.{firstFrame, spaceOf}
 use Rattle.settings.specs.declared.Settings.{Settings}
@@ -68,7 +69,7 @@ returns-2 c =
     (ap (λ (y : Frame). y .size) (first .first .ensures))
     (primary .space .ensures)
     (secondary .space2 .ensures)
-    (ask .ask .ensures)
+    (ap (λ (short : ℕ). eqb short 0) (ask .ask .ensures) ∙ sym (permits-by (x .self .credits .m) (x .settings .shapers .m .lo)))
 
 pub control-ready-spec : {M : Type 1} → statement M
 control-ready-spec =

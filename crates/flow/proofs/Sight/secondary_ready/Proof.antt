@@ -1,6 +1,8 @@
--- Both comparisons are the test's.
+-- A frame is held, and D lacks nothing: it permits.
 -- Assumes nothing.
+use mathlib.Core.Path.{sym}
 use Rattle.decide.specs.Test.{test}
+use Rattle.shaper.proofs.Short.{permits-by}
 use borrow.Author.Needs.{needs}
 use Rattle.flow.proofs.Sight.secondary_ready.Statement.{statement}
 use Rattle.flow.proofs.Sight.secondary_ready.Tie as tie
@@ -13,7 +15,9 @@ ask-requires c κs = search needs
 
 returns : tie.Need-returns
 unfolding test
-returns c = rw (c .ask .ensures, c .before .holds-frame .ensures)
+returns c =
+    let x = c .before .before .before .before .args in
+    rw (c .ask .ensures, c .before .holds-frame .ensures, sym (permits-by (x .self .credits .d) (x .settings .shapers .d .lo)))
 
 pub secondary-ready-spec : {M : Type 1} → statement M
 secondary-ready-spec = tie.close (tie.spec holds-frame-requires ask-requires returns)

@@ -1,20 +1,19 @@
--- A slice of another length is 2; else what the station said is handed back: a refusal alone, or credits and stage written.
+-- A slice of another length is 2; else what the station said is handed back: a refusal and what it says beside it, or credits and stage written.
 -- Assumes nothing.
 use mathlib.Core.List.{List}
 use mathlib.Core.Path.{ap, _∙_}
 use Prim.Native.Nat.{ℕ}
 use Rattle.flow.specs.declared.Flow.{Flow}
 use Rattle.rpr.specs.Station.{offerClientAnswer, offerClientAfter}
-use Rattle.rpr.proofs.Shape.{turned-down}
-use Rattle.rpr.proofs.Given.{not-whole, whole-gives, taken-back}
-use Rattle.rpr.proofs.Written.{taken-left, creditsIn, stageIn, client-written}
+use Rattle.rpr.proofs.Given.{not-whole-short, whole-gives-short}
+use Rattle.rpr.proofs.Written.{taken-left, taken-not, creditsIn, stageIn, client-written}
 use borrow.Author.Needs.{needs}
 use Rattle.rpr.proofs.lending.rpr_offer_client.Statement.{statement}
 use Rattle.rpr.proofs.lending.rpr_offer_client.Tie as tie
 
 returns : tie.Need-returns
 unfolding offerClientAnswer offerClientAfter
-returns c = let xs = c .before .before .args .station .now in not-whole _ xs _ _ _ _ (c .if1 .taken)
+returns c = let xs = c .before .before .args .station .now in not-whole-short _ xs _ _ _ _ _ (c .if1 .taken)
 
 read-requires : tie.Need-read-requires
 read-requires c κs = search needs
@@ -22,8 +21,8 @@ read-requires c κs = search needs
 offer-client-requires : tie.Need-offer-client-requires
 offer-client-requires c κs = search needs
 
-cast-result : tie.Need-cast-result
-cast-result c = search needs
+refused-requires : tie.Need-refused-requires
+refused-requires c κs = search needs
 
 same-length : tie.Need-same-length
 same-length c = search needs
@@ -33,9 +32,10 @@ unfolding offerClientAnswer offerClientAfter
 returns-2 c =
     let called : _ = c .before .before .before in
     let tested : _ = called .before .before .before in
+    let xs : _ = tested .before .before .args .station .now in
     let said = rw (called .before .read .ensures) at (called .offer-client .ensures) in
-    whole-gives _ (tested .before .before .args .station .now) _ (tested .if1 .left) _ _ _
-    (taken-back _ _ _ _ _ _ said (turned-down _ _ _ _ (c .before .if2 .taken)))
+    let b = taken-not xs _ _ _ _ _ _ said (c .before .if2 .taken) in
+    whole-gives-short _ xs _ (tested .if1 .left) _ _ _ _ (c .refused .ensures ∙ b .0, b .1)
 
 write-credits-requires : tie.Need-write-credits-requires
 write-credits-requires c κs = search needs
@@ -61,10 +61,10 @@ returns-3 c =
     let xs : _ = a .station .now in
     let said = rw (called .before .read .ensures) at (called .offer-client .ensures) in
     let b =
-    taken-left xs _ _ _ _ _ said (left .if2 .left) (λ (f : Flow). stageIn (creditsIn xs f) f)
+    taken-left xs _ _ _ _ _ _ said (left .if2 .left) (λ (f : Flow). stageIn (creditsIn xs f) f)
     (client-written xs (λ j. tested .before .slice-known .given j .fits) (tested .if1 .left) (a .class) (a .size) (a .hops)) in
     let both = staged .write-stage .ensures ∙ ap (λ (l : List ℕ). stageIn l (called .offer-client .result .station .flow)) (charged .write-credits .ensures) in
-    whole-gives _ xs _ (tested .if1 .left) _ _ _ (c .marked .ensures ∙ b .0, both ∙ b .1)
+    whole-gives-short _ xs _ (tested .if1 .left) _ _ _ _ (c .marked .ensures ∙ b .0, both ∙ b .1)
 
 pub rpr-offer-client-spec : {M : Type 1} → statement M
 rpr-offer-client-spec =
@@ -73,7 +73,7 @@ rpr-offer-client-spec =
     returns
     read-requires
     offer-client-requires
-    cast-result
+    refused-requires
     same-length
     returns-2
     write-credits-requires

@@ -7,6 +7,7 @@ mod harm;
 mod library;
 mod life;
 mod scenes;
+mod short;
 mod sights;
 
 use self::difference::part_by_part;
@@ -20,6 +21,7 @@ use model::make_call::{self, Habit};
 use model::make_station;
 use model::random::Random;
 use model::report::Outcome;
+use model::shortfalls::Shortfalls;
 use model::station::settings::{to_bytes, SETTINGS_LENGTH};
 use model::station::{calls, layout, range};
 use model::station_call::Call;
@@ -30,6 +32,7 @@ struct Trial {
     random: Random,
     tally: Tally,
     sights: Sights,
+    shortfalls: Shortfalls,
     harm: Harm,
 }
 
@@ -39,6 +42,7 @@ impl Trial {
             random: Random::new(seed),
             tally: Tally::new(tally::OF_STATIONS),
             sights: Sights::default(),
+            shortfalls: Shortfalls::default(),
             harm: Harm::new(),
         }
     }
@@ -89,19 +93,21 @@ impl Trial {
         Ok(())
     }
 
-    fn call(&mut self, life: &mut Life, call: &Call) -> Outcome<()> {
+    /// The answer, which is the model's too.
+    fn call(&mut self, life: &mut Life, call: &Call) -> Outcome<u64> {
         let answer = life.make(&mut self.random, call)?;
         self.tally.count(call.function(), answer, false);
+        self.shortfalls.look(&life.model, call, answer);
         if life.started {
             self.sights.look(&life.model, call, answer);
         }
         if answer as u8 == 0 {
             life.compare(&mut self.random)?;
         }
-        Ok(())
+        Ok(answer)
     }
 
-    fn random_call(&mut self, life: &mut Life, habit: &Habit) -> Outcome<()> {
+    fn random_call(&mut self, life: &mut Life, habit: &Habit) -> Outcome<u64> {
         let call = make_call::call(&mut self.random, &life.model, habit);
         self.call(life, &call)
     }
@@ -154,6 +160,7 @@ impl Trial {
             let answer = life::same(&mut self.random, &call, &mut copy, &other, &after)
                 .map_err(|what| format!("{call}: {what}"))?;
             self.tally.count(call.function(), answer, false);
+            self.shortfalls.look(model, &call, answer);
             if read.is_err() {
                 self.harm.look_at_order(&call, bytes, &life.model, answer);
             }
@@ -182,6 +189,9 @@ impl Trial {
             if self.random.one_in(12) {
                 self.damage(&life, &habit)?;
             }
+            if self.random.one_in(40) {
+                self.short(&life)?;
+            }
             self.random_call(&mut life, &habit)?;
         }
         Ok(())
@@ -204,6 +214,7 @@ impl Trial {
             self.start_of_another_length()?;
         }
         let mut missing = self.sights.missing();
+        missing.extend(self.shortfalls.missing());
         missing.extend(self.harm.missing());
         Ok(missing)
     }
@@ -213,6 +224,6 @@ impl Trial {
 pub fn run(seed: u64, calls: u64) -> (Tally, Outcome<Vec<String>>) {
     let mut trial = Trial::new(seed);
     let outcome = trial.rounds(calls);
-    println!("{}", trial.harm);
+    println!("{}\n{}", trial.harm, trial.shortfalls);
     (trial.tally, outcome)
 }

@@ -1,8 +1,8 @@
--- Every permission is asked for in one place.
+-- The shaper's own credit and loLimit are asked of.
 -- Assumes nothing.
 use borrow.Author.Needs.{needs}
-use Rattle.flow.proofs.Credits.permits.Statement.{statement}
-use Rattle.flow.proofs.Credits.permits.Tie as tie
+use Rattle.flow.proofs.Credits.short.Statement.{statement}
+use Rattle.flow.proofs.Credits.short.Tie as tie
 
 bucket-requires : tie.Need-bucket-requires
 bucket-requires c κs = search needs
@@ -16,5 +16,5 @@ ask-requires c κs = search needs
 returns : tie.Need-returns
 returns c = rw (c .ask .ensures, c .before .credit .ensures, c .before .before .bucket .ensures)
 
-pub permits-spec : {M : Type 1} → statement M
-permits-spec = tie.close (tie.spec bucket-requires credit-requires ask-requires returns)
+pub short-spec : {M : Type 1} → statement M
+short-spec = tie.close (tie.spec bucket-requires credit-requires ask-requires returns)
