@@ -76,7 +76,7 @@ module _ (s : Settings) (c : Credits) where
   pub short-a : shortAll s c (needsOf (wayOf s c 0)) ≡ shortOf s c A
   short-a = ap (λ (w : Way). shortAll s c (needsOf w)) (way-a s c) ∙ short-one A
 
-  -- A frame of B or C was tried as excess: as B it would have been permitted.
+  -- A frame of B or C that is turned down was tried as excess: one that goes as B is permitted.
   pub tried-excess : (class : ℕ) → (class ≡ 0 → ⊥) → permitsAll s c (needsOf (wayOf s c class)) ≡ false → wayOf s c class ≡ Excess
   unfolding wayOf
   tried-excess class n e =
