@@ -39,16 +39,20 @@ use Rattle.rpr.proofs.Shape.{wrong-length, right-length, refused}
 abbrev pub Gives : List Fault → ℕ → List ℕ → List ℕ → ℕ → List ℕ → Type 0
 Gives rows said old new r after = (r ≡ answerOf rows said) × (after ≡ afterOf rows old new)
 
--- what is handed back by a number: that number alone and the old bytes, or what was said and the new bytes
+-- what is handed back by a number: what a refusal tells by it and the old bytes, or what was said and the new bytes
+abbrev Handed : (ℕ → ℕ) → ℕ → ℕ → List ℕ → List ℕ → ℕ → List ℕ → Type 0
+Handed tells n said old new r after = (r ≡ refusedOr tells n said) × (after ≡ refusedOr (λ m. old) n new)
+
+-- a refusal is its number alone
 abbrev pub HandedBack : ℕ → ℕ → List ℕ → List ℕ → ℕ → List ℕ → Type 0
-HandedBack n said old new r after = (r ≡ refusedOr (λ m. m) n said) × (after ≡ refusedOr (λ m. old) n new)
+HandedBack n said old new r after = Handed (λ m. m) n said old new r after
 
 -- The same of a call whose 6 says how far short.
 abbrev pub GivesShort : List Fault → ℕ → ℕ → List ℕ → List ℕ → ℕ → List ℕ → Type 0
 GivesShort rows short said old new r after = (r ≡ shortAnswerOf rows short said) × (after ≡ afterOf rows old new)
 
 abbrev pub HandedShort : ℕ → ℕ → ℕ → List ℕ → List ℕ → ℕ → List ℕ → Type 0
-HandedShort short n said old new r after = (r ≡ refusedOr (shortTold short) n said) × (after ≡ refusedOr (λ m. old) n new)
+HandedShort short n said old new r after = Handed (shortTold short) n said old new r after
 
 -- ---- a slice of another length
 
@@ -90,8 +94,7 @@ takenAs st mark f = takenOf st (record { number = 0; detail = 0; mark = mark; fl
 module _ (old : List ℕ) {r : ℕ} {after : List ℕ} where
   -- handed back by the answer's own number, it is handed back by that of the rows
   back : {A : Type 0} (tells : ℕ → ℕ) (number said : A → ℕ) (new : A → List ℕ) (refused : ℕ → A) (done : A) → ((m : ℕ) → number (refused m) ≡ m) → number done ≡ 0
-      → (n : ℕ) (d : A) → d ≡ refusedOr refused n done → (r ≡ refusedOr tells (number d) (said d)) × (after ≡ refusedOr (λ m. old) (number d) (new d))
-      → (r ≡ refusedOr tells n (said done)) × (after ≡ refusedOr (λ m. old) n (new done))
+      → (n : ℕ) (d : A) → d ≡ refusedOr refused n done → Handed tells (number d) (said d) old (new d) r after → Handed tells n (said done) old (new done) r after
   back tells number said new refused done bears none n d h b = (
     b .0 ∙ handed-on number refused done bears none tells said n d h,
     b .1 ∙ handed-on number refused done bears none (λ m. old) new n d h,

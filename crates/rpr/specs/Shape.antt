@@ -15,7 +15,7 @@ use Rattle.answer.specs.Bytes.{packed, refusedBytes}
 unfoldable pub answerOf : List Fault → ℕ → ℕ
 answerOf rows said = refusedOr (λ n. n) (firstOf rows) said
 
--- but that 6 says how far short in bytes 4 to 7,
+-- but that the 6 of rpr_offer_client says how far short in bytes 4 to 7,
 abbrev pub shortTold : ℕ → ℕ → ℕ
 shortTold short n = packed (refusedBytes n (detailOf n short))
 
