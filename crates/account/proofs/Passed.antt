@@ -1,20 +1,17 @@
 -- Events that stand at their places are passed: each goes over to the tally as the laws of the rest say, and what is left keeps its answer.
 -- Assumes nothing.
 use Prim.Native.Nat.{ℕ, _+_, _-_, _≤_, _<_}
-use mathlib.Core.Bool.{Bool, true, false, cond}
 use mathlib.Core.List.{List}
-use mathlib.Core.Path.{_≡_, refl, _∙_}
+use mathlib.Core.Path.{_≡_, _∙_}
 use native.Mathlib.Omega.{arith}
 use native.Mathlib.Nat.{add-zero, add-assoc}
 use lib.ListN.{length}
-use Rattle.decide.specs.Test.{Holds, test}
+use Rattle.decide.specs.Test.{Holds}
 use Rattle.shaper.specs.declared.Limits.{Limits}
 use Rattle.shaper.specs.Limits.{limitsOk, mostEvents}
 use Rattle.wire.specs.Wire.{le, Bytes}
 use Rattle.tally.specs.declared.Tally.{Tally}
 use Rattle.tally.specs.Tally.{stepOf, Ready}
-use Rattle.record.specs.Read.{good}
-use Rattle.record.proofs.Fields.{Good, good-facts}
 use Rattle.record.proofs.Steps.{GoodAt, Stood}
 use Rattle.account.specs.Rest.{Passed}
 use Rattle.account.proofs.Rest.{rest-good, rest-good-ready}
@@ -58,13 +55,3 @@ module _ (l : Limits) (xs : List ℕ) (from n : ℕ) (t : Tally) where
   passed-found p b k v c next s few =
       let g : GoodAt (l .mtu) xs from = rw (s .length-field, ← s .kind-field, ← s .number-field) (s .fields) in
       rw (s .one, s .six, s .kind-field, s .number-field) (passed-one p (omega (arith, s .one)) b (s .fits) g)
-
--- ---- what the test with no branch tells
-
--- an event that adds no fault is good
-pub flaw-none : (mtu len kind num : ℕ) → _≡_ {A = ℕ} (cond (test (good mtu len kind num)) 0 1) 0 → Good mtu len kind num
-flaw-none mtu len kind num e = by (test (good mtu len kind num)) refl
-  where
-    by : (b : Bool) → test (good mtu len kind num) ≡ b → Good mtu len kind num
-    by true t = good-facts mtu len kind num t
-    by false t = let z : _≡_ {A = ℕ} 1 0 = rw t at e in absurd (omega arith)

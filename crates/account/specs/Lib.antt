@@ -1,3 +1,4 @@
 pub mod Account
 pub mod Rest
 pub mod Pieces
+pub mod Lanes

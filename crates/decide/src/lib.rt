@@ -1,7 +1,8 @@
 // Small choices between numbers. What else this crate holds are definitions and laws: tests that read two ways (specs/Test.antt) and which of
 // several refusals counts (specs/Refusal.antt).
 ghost use mathlib.Core.Path.{_≡_};
-ghost use Prim.Native.Nat.{_-_, min, max};
+ghost use Prim.Native.Nat.{_-_, _<_, min, max};
+ghost use lib.Dec.{ltb};
 
 // The smaller of two numbers.
 pub fn lesser(x: u64, y: u64) -> u64
@@ -22,4 +23,12 @@ pub fn less(x: u64, y: u64) -> u64
     ensures { λ r. ⌜ r ≡ x - y ⌝ }
 {
     if x < y { 0 } else { x - y }
+}
+
+// Whether a is below b, by a comparison of signed numbers: for several pairs of 32 bits side by side every processor has that one.
+pub fn below(a: u32, b: u32) -> bool
+    requires { ⌜ (a < 2147483648) × (b < 2147483648) ⌝ }
+    ensures { λ r. ⌜ r ≡ ltb a b ⌝ }
+{
+    (a as i32) < (b as i32)
 }

@@ -9,4 +9,5 @@ functions =
       lesser = λ x y. by-equation;
       larger = λ x y. by-equation;
       less = λ x y. by-equation;
+      below = λ a b. by-equation;
     }

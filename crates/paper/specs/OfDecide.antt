@@ -1,6 +1,8 @@
 -- Public functions of `decide`, by name: two answers that meet the contract are equal.
 -- Assumes nothing.
 use Prim.Native.Nat.{_-_, max, min, ℕ}
+use lib.Dec.{ltb}
+use mathlib.Core.Bool.{Bool}
 use mathlib.Core.Path.{_≡_}
 use Rattle.paper.specs.Determined.{Determined}
 
@@ -11,3 +13,5 @@ pub record Functions : Type 0 where
   pub larger : (x y : ℕ) → Determined (λ (r : ℕ). r ≡ max x y)
   -- less
   pub less : (x y : ℕ) → Determined (λ (r : ℕ). r ≡ x - y)
+  -- below (a leaf: it asks that (a < 2147483648) × (b < 2147483648))
+  pub below : (a b : ℕ) → Determined (λ (r : Bool). r ≡ ltb a b)

@@ -1,11 +1,13 @@
--- What a step picks, case by case: one law for each branch of its three choices, and their bounds.
+-- What a step and a growing part pick, case by case: one law for each branch of their choices, and their bounds.
 -- Assumes nothing.
-use Prim.Native.Nat.{ℕ, _≤_, _<_, max}
-use mathlib.Core.Path.{_≡_}
+use Prim.Native.Nat.{ℕ, _≤_, _<_, min, max}
+use mathlib.Core.Bool.{Bool, true, false, _&&_, cond}
+use mathlib.Core.Path.{_≡_, refl}
 use native.Mathlib.Omega.{arith}
-use borrow.Author.Tests.{eq-eqb, ne-eqb, le-leb, lt-leb}
+use borrow.Author.Tests.{eq-eqb, ne-eqb, le-leb, lt-leb, lt-ltb, le-ltb}
+use lib.Dec.{ltb}
 use Rattle.decide.specs.Test.{split, _≡?_}
-use Rattle.decide.proofs.Cases.{by-cases}
+use Rattle.decide.proofs.Cases.{by-cases, le-or}
 use Rattle.tally.specs.Tally.{pickOf, fallOf, barOf}
 
 module _ (k x y : ℕ) where
@@ -40,3 +42,29 @@ module _ (rise depth level : ℕ) where
   pub bar-level : depth < rise → barOf rise depth level ≡ level
   unfolding barOf
   bar-level h = simp (lt-leb rise depth h)
+
+-- ---- what a part chooses
+
+pub choice-max : (b : Bool) (x y : ℕ) → cond b x y ≤ max x y
+choice-max true x y = omega arith
+choice-max false x y = omega arith
+
+pub choice-min : (b : Bool) (x y : ℕ) → min x y ≤ cond b x y
+choice-min true x y = omega arith
+choice-min false x y = omega arith
+
+-- the larger of two numbers, by one comparison
+pub larger-by : (x y : ℕ) → cond (ltb x y) y x ≡ max x y
+larger-by x y = by-cases (le-or y x) (λ h. simp (le-ltb x y h) (omega arith)) (λ h. simp (lt-ltb x y h) (omega arith))
+
+-- the low after an event, by two comparisons: of a send that comes too late 0, else the level, where that is less than the low before
+pub low-by : (send : Bool) (level top low : ℕ) →
+    cond (send && ltb (cond (ltb top level) level 0) low) (cond (ltb top level) level 0) low ≡ cond send (min (barOf level top level) low) low
+low-by false level top low = refl
+low-by true level top low =
+    by-cases (le-or level top)
+    (λ h. simp (bar-never level top level h, le-ltb top level h) (smaller-by 0 low))
+    (λ h. simp (bar-level level top level h, lt-ltb top level h) (smaller-by level low))
+  where
+    smaller-by : (x y : ℕ) → cond (ltb x y) x y ≡ min x y
+    smaller-by x y = by-cases (le-or y x) (λ h. simp (le-ltb x y h) (omega arith)) (λ h. simp (lt-ltb x y h) (omega arith))

@@ -1,2 +1,3 @@
 mod Cases
 pub mod Laws
+pub mod Applied

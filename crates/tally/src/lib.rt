@@ -4,6 +4,9 @@ ghost use mathlib.Core.Path.{_≡_};
 ghost use Prim.Native.Nat.{_≤_};
 ghost use Rattle.shaper.specs.Limits.{mostAmount, mostEvents};
 ghost use Rattle.tally.specs.Tally.{startOf, pickOf, fallOf, barOf, stepOf, Within, plainAt};
+
+mod lanes;
+
 use plain::Plain;
 use shaper::Limits;
 
@@ -21,6 +24,31 @@ pub struct Tally {
     pub peak: u64,
     // the least level before a send, or 0 if the ceiling was then at most loLimit: need is BASE + loLimit + 1 - low, at most hiLimit + 1
     pub low: u64,
+}
+
+// A part: up to eight events as seen from where they begin, whatever stood before them. Its numbers have 32 bits, so that several parts are made side by side.
+pub struct Part {
+    // the events' numbers, amounts and sizes alike
+    pub total: u32,
+    // the level, which begins at hiLimit - loLimit + ROOM
+    pub level: u32,
+    // the largest level behind an event, less hiLimit - loLimit unless it was an idle tick's; 0 before the first. A send at this level or below comes too late
+    pub top: u32,
+    // the least level before a send, or 0 if one came too late for every credit; UNSENT before the first
+    pub low: u32,
+    // no event has a fault
+    pub good: bool,
+}
+
+// Eight parts that stand one behind the other.
+pub struct Parts {
+    pub levels: [u32; 8],
+    pub tops: [u32; 8],
+    pub lows: [u32; 8],
+    // the numbers of all their events
+    pub total: u32,
+    // none has a fault
+    pub good: bool,
 }
 
 // The tally of no event.

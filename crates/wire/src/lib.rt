@@ -15,12 +15,15 @@ pub fn get16(s: &[u8], at: usize) -> u16
     wide16(s[at]) + wide16(s[at + 1]) * 256
 }
 
-// The number in the 4 bytes of `s` from `at` on, least byte first.
+// The number in the 4 bytes of `s` from `at` on, least byte first. Four bytes of one body are one load of the machine; two numbers of 2 bytes would not be.
 pub fn get32(s: &[u8], at: usize) -> u32
     requires { ⌜ at + 4 ≤ length (now s) ⌝ }
     ensures { λ r. ⌜ r ≡ le 4 (now (s .entry)) at ⌝ }
 {
-    wide32(get16(s, at)) + wide32(get16(s, at + 2)) * 65536
+    byte32(s[at])
+        + byte32(s[at + 1]) * 256
+        + byte32(s[at + 2]) * 65536
+        + byte32(s[at + 3]) * 16777216
 }
 
 // The number in the 8 bytes of `s` from `at` on, least byte first.
@@ -130,9 +133,9 @@ fn wide16(x: u8) -> u16
     x as u16
 }
 
-// A 16-bit number as a 32-bit one.
-fn wide32(x: u16) -> u32
-    ensures { λ r. ⌜ (r ≡ x) × (r ≤ 65535) ⌝ }
+// A byte as a 32-bit number.
+fn byte32(x: u8) -> u32
+    ensures { λ r. ⌜ (r ≡ x) × (r ≤ 255) ⌝ }
 {
     x as u32
 }

@@ -1,154 +1,53 @@
--- Two layers: the bounds of the tally, which any bytes keep, and that the events so far are passed, which holds while no fault was seen. The loop
--- does not read the settings, only their mtu and rise, so that the second layer speaks of any settings with those.
+-- The parts are those of the row from the block on; a row of good parts is passed (`row-passed`).
 -- Assumes nothing.
-use Prim.Native.Nat.{_-_, _+_, _*_, _≤_, _<_}
-use mathlib.Core.Path.{_≡_, refl, sym, _∙_}
+use Prim.Native.Nat.{_+_, _-_, _*_, _≤_}
+use mathlib.Core.Path.{_≡_, sym, _∙_}
 use native.Mathlib.Omega.{arith}
-use native.Mathlib.Nat.{add-zero, add-assoc}
 use borrow.Author.Needs.{needs}
-use lib.ListN.{length}
+use Rattle.decide.specs.Test.{Holds}
 use Rattle.shaper.specs.declared.Limits.{Limits}
-use Rattle.wire.specs.Wire.{le}
-use Rattle.shaper.specs.Limits.{mostEvents}
-use Rattle.tally.specs.Tally.{Within, Ready}
-use Rattle.tally.proofs.Laws.{step-within}
-use Rattle.record.proofs.Steps.{GoodAt}
-use Rattle.account.specs.Rest.{Passed}
-use Rattle.account.proofs.Passed.{rise-max, passed-none, passed-one, passed-then, flaw-none}
+use Rattle.shaper.specs.Limits.{limitsOk, mostEvents}
+use Rattle.tally.specs.Part.{Lanes}
+use Rattle.tally.proofs.Laws.{within-more}
+use Rattle.tally.proofs.Applied.{lanes-fit, all-good, over-applied}
+use Rattle.account.specs.Lanes.{partOf}
+use Rattle.account.proofs.Made.{row-passed}
 use Rattle.account.proofs.block.Statement.{statement}
 use Rattle.account.proofs.block.Tie as tie
 
-abbrev Inv-loop : tie.InvT-loop
-Inv-loop s from n mtu rise i₀ at₀ bad₀ t₀ i at bad t =
-    (i ≤ 64) × (at ≡ from + 6 * i) × (bad ≤ i) × Within (n + i) t
-    × ((l : Limits) → l .mtu ≡ mtu → l .hi - l .lo ≡ rise → Ready l n t₀ → bad ≡ 0 → Passed l s from n t₀ i at t)
+-- what the settings' range says of the numbers that the block reader takes from them
+ranges : (l : Limits) → Holds (limitsOk l) → (l .lo ≤ l .hi) × (16 ≤ l .mtu) × (l .hi - l .lo ≤ 1048576) × (l .mtu - 16 ≤ 9200) × (l .mtu - 16 + 16 ≡ l .mtu)
+ranges l ok = omega arith
 
-abbrev μ-loop : tie.MeasureT-loop
-μ-loop s from n mtu rise i₀ at₀ bad₀ t₀ i at bad t = 64 - i
+sub-rise : tie.Need-sub-rise
+sub-rise c = ranges (c .before .before .args .limits) (c .before .before .pre .1 .sound .0) .0
 
-cast-mtu : tie.Need-cast-mtu Inv-loop μ-loop
-cast-mtu c = search needs
+sub-parts : tie.Need-sub-parts
+sub-parts c = ranges (c .before .before .before .args .limits) (c .before .before .before .pre .1 .sound .0) .1
 
-cast-rise : tie.Need-cast-rise Inv-loop μ-loop
-cast-rise c = search needs
+parts-requires : tie.Need-parts-requires
+parts-requires c κs =
+    let r = ranges (c .before .before .before .args .limits) (c .before .before .before .pre .1 .sound .0) in
+    (c .before .before .before .pre .0, r .2, r .3)
 
-cast-rise-2 : tie.Need-cast-rise-2 Inv-loop μ-loop
-cast-rise-2 c = search needs
+cast-over : tie.Need-cast-over
+cast-over c = let r = ranges (c .before .before .before .before .args .limits) (c .before .before .before .before .pre .1 .sound .0) in search needs
 
-sub-rise : tie.Need-sub-rise Inv-loop μ-loop
-sub-rise c = search needs
-
-loop-holds : tie.Need-loop-holds Inv-loop μ-loop
-loop-holds c =
+over-requires : tie.Need-over-requires
+over-requires c κs =
     let a = c .before .before .before .before .args in
-    let p = c .before .before .before .before .pre in
-    (omega arith, omega arith, omega arith, rw add-zero (p .1 .within), λ l em er q z. passed-none l (a .s .now) (a .from) (a .n) (a .start) q)
+    let p = c .before .before .before .before .pre .1 in
+    (within-more (a .n) mostEvents (a .start) (p .few) (p .within), lanes-fit _ (c .parts .result) _ (ranges (a .limits) (p .sound .0) .2) (c .parts .ensures), ranges (a .limits) (p .sound .0) .2)
 
-add-get16 : tie.Need-add-get16 Inv-loop μ-loop
-add-get16 c = search needs
-
-get16-requires : tie.Need-get16-requires Inv-loop μ-loop
-get16-requires c κs = search needs
-
-wide-requires : tie.Need-wide-requires Inv-loop μ-loop
-wide-requires c κs = search needs
-
-add-get16-2 : tie.Need-add-get16-2 Inv-loop μ-loop
-add-get16-2 c = search needs
-
-get16-requires-2 : tie.Need-get16-requires-2 Inv-loop μ-loop
-get16-requires-2 c κs = search needs
-
-wide-requires-2 : tie.Need-wide-requires-2 Inv-loop μ-loop
-wide-requires-2 c κs = search needs
-
-get16-requires-3 : tie.Need-get16-requires-3 Inv-loop μ-loop
-get16-requires-3 c κs = search needs
-
-wide-requires-3 : tie.Need-wide-requires-3 Inv-loop μ-loop
-wide-requires-3 c κs = search needs
-
-flaw-requires : tie.Need-flaw-requires Inv-loop μ-loop
-flaw-requires c κs = search needs
-
-add-bad : tie.Need-add-bad Inv-loop μ-loop
-add-bad c = search needs
-
-step-requires : tie.Need-step-requires Inv-loop μ-loop
-step-requires c κs = search needs
-
-add-at : tie.Need-add-at Inv-loop μ-loop
-add-at c = search needs
-
-add-i : tie.Need-add-i Inv-loop μ-loop
-add-i c = search needs
-
-loop-less : tie.Need-loop-less Inv-loop μ-loop
-loop-less c = search needs
-
-loop-again : tie.Need-loop-again Inv-loop μ-loop
-loop-again c =
-    let L = c .before .before .before .before .before .before .before .before .before .loop in
-    let a = c .before .before .before .before .before .before .before .before .before .before .before .before .before .before .args in
-    let given = c .before .before .before .before .before .before .before .before .before .before .before .before .before .before .pre in
-    let bytes = c .before .before .before .before .before .before .before .before .before .before .before .before .before .shared-slice-known .given in
-    let w = c .before .flaw in
-    let k = c .before .before .before .before .before .before .wide in
-    let v = c .before .before .before .before .wide2 in
-    let x = c .before .before .wide3 in
-    let e = c .step .ensures in
-    let ex : x .result ≡ le 2 (a .s .now) (L .at) = cc in
-    let ek : k .result ≡ le 2 (a .s .now) (L .at + 2) = cc in
-    let ev : v .result ≡ le 2 (a .s .now) (L .at + 4) = cc in
-    let few : a .n + L .i < mostEvents = omega arith in
-    let room : L .at + 6 ≤ length (a .s .now) = omega arith in (
-      omega arith,
-      omega arith,
-      omega arith,
-      rw e (rw add-assoc at (step-within (a .limits .hi - a .limits .lo) (k .result) (v .result) (a .n + L .i) (L .t) (L .inv .3) (rise-max (a .limits) (a .n) (a .start) (given .1)) (v .ensures .1))),
-      λ l em er q z.
-          let none : w .result ≡ 0 = omega arith in
-          let was : L .bad ≡ 0 = omega arith in
-          let g : GoodAt (l .mtu) (a .s .now) (L .at) =
-          rw (em, ← ex, ← ek, ← ev) (flaw-none (a .limits .mtu) (x .result) (k .result) (v .result) (sym (w .ensures .0) ∙ none)) in
-          let p = L .inv .4 l em er q was in
-          let one = passed-one l (a .s .now) (L .at) (a .n + L .i) (L .t) (p .ready) few (λ j. bytes j .fits) room g in
-          rw (e, ek, ev, ← er) (passed-then l (a .s .now) (a .from) (a .n) (a .start) (L .i) (L .at) (L .t) 1 (L .at + 6) _ p one),
-    )
-
-returns : tie.Need-returns Inv-loop μ-loop
+returns : tie.Need-returns
 returns c =
-    let L = c .before .loop in
-    let a = c .before .before .before .before .before .before .args in
-    let p = c .before .before .before .before .before .before .pre in
-    let full : L .i ≡ 64 = omega arith in
-    let there : L .at ≡ a .from + 384 = omega arith in
-    λ z. rw (full, there) at (L .inv .4 (a .limits) refl refl (p .1) z)
+    let a = c .before .before .before .before .before .args in
+    let pre = c .before .before .before .before .before .pre in
+    let bytes = c .before .before .before .before .shared-slice-known .given in
+    let l = a .limits in
+    let whole = ranges l (pre .1 .sound .0) .4 in
+    let side : Lanes (l .hi - l .lo) (c .before .parts .result) (λ j. partOf (l .hi - l .lo) (l .mtu) (a .s .now) (a .from + 48 * j) 8) 8 = rw whole at (c .before .parts .ensures) in
+    (side .good, λ g. rw (c .over .ensures, over-applied (l .hi - l .lo) (a .start) (c .before .parts .result) _ side (ranges l (pre .1 .sound .0) .2) (within-more (a .n) mostEvents (a .start) (pre .1 .few) (pre .1 .within))) (row-passed l (a .s .now) (λ j. bytes j .fits) (a .from) (a .n) (a .start) (pre .1) (pre .3) 8 (pre .2) (pre .0) (all-good _ 8 (sym (side .good) ∙ g))))
 
 pub block-spec : {M : Type 1} → statement M
-block-spec =
-    tie.close
-    (tie.spec
-    Inv-loop
-    μ-loop
-    cast-mtu
-    cast-rise
-    cast-rise-2
-    sub-rise
-    loop-holds
-    add-get16
-    get16-requires
-    wide-requires
-    add-get16-2
-    get16-requires-2
-    wide-requires-2
-    get16-requires-3
-    wide-requires-3
-    flaw-requires
-    add-bad
-    step-requires
-    add-at
-    add-i
-    loop-less
-    loop-again
-    returns)
+block-spec = tie.close (tie.spec sub-rise sub-parts parts-requires cast-over over-requires returns)

@@ -1,0 +1,75 @@
+-- The first four bytes of an event as one number say its length and kind, and the block reader's test of them is `good`.
+-- Assumes nothing.
+use Prim.Native.Nat.{ℕ, _+_, _-_, _*_, _/_, _%_, _≤_, _<_}
+use mathlib.Core.Bool.{Bool, false, _&&_, _||_, or-false}
+use mathlib.Core.List.{List}
+use mathlib.Core.Path.{_≡_, refl}
+use native.Mathlib.Omega.{arith}
+use borrow.Author.Tests.{eq-eqb, ne-eqb, le-leb, lt-leb, lt-ltb, le-ltb}
+use lib.Dec.{eqb, ltb}
+use Rattle.decide.specs.Test.{test, split, _≡?_}
+use Rattle.decide.specs.Size.{sizeOk}
+use Rattle.decide.proofs.Cases.{by-cases, le-or}
+use Rattle.wire.specs.Wire.{le, Bytes}
+use Rattle.wire.proofs.Numbers.{le-add, le-bound}
+use Rattle.tally.specs.declared.Part.{Part}
+use Rattle.tally.specs.Part.{growOf}
+use Rattle.record.specs.Read.{good}
+use Rattle.account.specs.Lanes.{partAfter}
+
+module _ (mtu len kind num head : ℕ) (hl : len < 65536) (hk : kind < 65536) (e : head ≡ len + 65536 * kind) where
+  -- the test as it is made
+  abbrev tested : Bool
+  tested = ((eqb head 196614 && test (sizeOk num mtu)) || eqb head 131078) || eqb head 65542
+
+  none : (head ≡ 196614 → ⊥) → (head ≡ 131078 → ⊥) → (head ≡ 65542 → ⊥) → tested ≡ false
+  none a b c = simp (ne-eqb head 196614 a, ne-eqb head 131078 b, ne-eqb head 65542 c)
+
+  of-six : len ≡ 6 → tested ≡ test (good mtu len kind num)
+  unfolding test
+  of-six z =
+      by-cases (split (kind ≡? 3))
+      (λ k. rw (z, k) (simp (eq-eqb head 196614 (omega arith), ne-eqb head 131078 (omega arith), ne-eqb head 65542 (omega arith), or-false)))
+      (λ k. by-cases (split (kind ≡? 2))
+      (λ j. rw (z, j) (simp (ne-eqb head 196614 (omega arith), eq-eqb head 131078 (omega arith))))
+      (λ j. by-cases (split (kind ≡? 1))
+      (λ i. rw (z, i) (simp (ne-eqb head 196614 (omega arith), ne-eqb head 131078 (omega arith), eq-eqb head 65542 (omega arith))))
+      (λ i. rw (none (omega arith) (omega arith) (omega arith), z)
+      (by-cases (le-or 1 kind) (λ h. simp (lt-leb kind 3 (omega arith), le-leb 1 kind h)) (λ h. simp (lt-leb 1 kind h))))))
+
+  pub tested-good : tested ≡ test (good mtu len kind num)
+  unfolding test
+  tested-good = by-cases (split (len ≡? 6)) of-six (λ z. rw (none (omega arith) (omega arith) (omega arith), ne-eqb len 6 z) refl)
+
+-- a number is 16 to mtu exactly if it is at most mtu − 16 after 16 is taken off, in 16 bits
+pub sized-by : (span num : ℕ) → span ≤ 9200 → num ≤ 65535 → ltb ((num + 65520) % 65536) (span + 1) ≡ test (sizeOk num (span + 16))
+unfolding test
+sized-by span num hs hn =
+    by-cases (le-or 16 num)
+    (λ h. by-cases (le-or num (span + 16))
+    (λ k. simp (lt-ltb ((num + 65520) % 65536) (span + 1) (omega arith), le-leb 16 num h, le-leb num (span + 16) k))
+    (λ k. simp (le-ltb ((num + 65520) % 65536) (span + 1) (omega arith), le-leb 16 num h, lt-leb num (span + 16) k)))
+    (λ h. simp (le-ltb ((num + 65520) % 65536) (span + 1) (omega arith), lt-leb 16 num h))
+
+-- ---- at a place
+
+module _ (xs : List ℕ) (at : ℕ) (b : Bytes xs) where
+  pub head-at : le 4 xs at ≡ le 2 xs at + 65536 * le 2 xs (at + 2)
+  head-at = le-add 2 2 xs at
+
+  -- the number is what stands above the kind
+  pub number-at : le 4 xs (at + 2) / 65536 ≡ le 2 xs (at + 4)
+  number-at =
+      let e : le 4 xs (at + 2) ≡ le 2 xs (at + 2) + 65536 * le 2 xs (at + 2 + 2) = le-add 2 2 xs (at + 2) in
+      let k : at + 2 + 2 ≡ at + 4 = omega arith in
+      omega (arith, rw k at e, le-bound 2 xs (at + 2) b)
+
+  pub tested-at : (mtu : ℕ) →
+      (((eqb (le 4 xs at) 196614 && test (sizeOk (le 2 xs (at + 4)) mtu)) || eqb (le 4 xs at) 131078) || eqb (le 4 xs at) 65542)
+      ≡ test (good mtu (le 2 xs at) (le 2 xs (at + 2)) (le 2 xs (at + 4)))
+  tested-at mtu = tested-good mtu (le 2 xs at) (le 2 xs (at + 2)) (le 2 xs (at + 4)) (le 4 xs at) (le-bound 2 xs at b) (le-bound 2 xs (at + 2) b) head-at
+
+-- the part behind an event, by what was read of it
+pub after-is : (rise mtu : ℕ) (xs : List ℕ) (at : ℕ) (p : Part) (head v : ℕ) (fine : Bool) → head ≡ le 4 xs at → v ≡ le 2 xs (at + 4) →
+    fine ≡ test (good mtu (le 2 xs at) (le 2 xs (at + 2)) (le 2 xs (at + 4))) → growOf rise (eqb head 196614) (eqb head 131078) v fine p ≡ partAfter rise mtu xs at p
+after-is rise mtu xs at p head v fine a b c = rw (a, b, c) refl
