@@ -4,3 +4,4 @@ pub mod Chain
 pub mod Refusal
 pub mod Order
 pub mod Refused
+pub mod Early

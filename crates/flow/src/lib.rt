@@ -211,7 +211,7 @@ impl Flow {
 
 impl Credits {
     // Whether each credit is at most its hiLimit.
-    fn in_range(self, settings: Settings) -> bool
+    pub fn in_range(self, settings: Settings) -> bool
         ensures { λ r. ⌜ r ≡ test (creditsOk settings self) ⌝ }
     {
         let shapers = settings.shapers;
@@ -326,7 +326,7 @@ pub fn bounds(settings: Settings) -> Bounds
 }
 
 // Whether a stage is empty or holds a frame in range.
-fn stage_ok(bounds: Bounds, word: u32) -> bool
+pub fn stage_ok(bounds: Bounds, word: u32) -> bool
     ensures { λ r. ⌜ r ≡ test (stageOk bounds word) ⌝ }
 {
     let frame = Frame::of(word);

@@ -3,3 +3,4 @@ pub mod Groups
 pub mod Round
 pub mod Anew
 pub mod Kept
+pub mod Range

@@ -2,7 +2,9 @@
 ghost use mathlib.Core.Path.{_≡_};
 ghost use Prim.Native.Nat.{_+_, _≤_};
 ghost use lib.ListN.{length};
+ghost use Rattle.decide.specs.Test.{test};
 ghost use Rattle.wire.specs.Wire.{put};
+ghost use Rattle.fair.specs.Range.{fairOk};
 ghost use Rattle.slots.specs.Slots.{wordsBytes};
 ghost use Rattle.layout.specs.Layout.{fourLength, decidedLength, receivedLength, fairLength};
 ghost use Rattle.layout.specs.Layout.{fourAt, decidedAt, receivedAt, fairAt, fourWords, decidedWords, receivedWords, fairBytes};
@@ -10,6 +12,7 @@ use fair::Decided;
 use fair::Fair;
 use fair::Four;
 use fair::Received;
+use settings::Settings;
 
 // Where the parts stand behind the counters, each behind the one before, and how many bytes they take together.
 const SMOOTHED: usize = 16;
@@ -31,6 +34,14 @@ pub fn read(s: &[u8], at: usize) -> Fair
         decided: read_decided(s, at + DECIDED),
         received: read_received(s, at + RECEIVED),
     }
+}
+
+// Whether that state is in its range under these settings.
+pub fn in_range_at(s: &[u8], at: usize, settings: Settings) -> bool
+    requires { ⌜ at + fairLength ≤ length (now s) ⌝ }
+    ensures { λ r. ⌜ r ≡ test (fairOk settings (fairAt (now (s .entry)) at)) ⌝ }
+{
+    read(s, at).in_range(settings)
 }
 
 // Writes the words of the fairness state to `s` from `at` on.

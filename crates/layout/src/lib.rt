@@ -3,8 +3,10 @@
 ghost use mathlib.Core.Path.{_≡_};
 ghost use Prim.Native.Nat.{_+_, _%_, _≤_};
 ghost use lib.ListN.{length};
+ghost use Rattle.decide.specs.Test.{test};
 ghost use Rattle.wire.specs.Wire.{digits, put};
 ghost use Rattle.flow.specs.Pick.{sightOf};
+ghost use Rattle.station.specs.Range.{stationOk};
 ghost use Rattle.station.specs.Pick.{pickOf};
 ghost use Rattle.station.specs.Offers.{givenFrame};
 ghost use Rattle.slots.specs.Slots.{wordsBytes};
@@ -62,6 +64,38 @@ pub fn read(s: &[u8]) -> Station
         flow: flow,
         fair: fairness::read(s, FAIR),
     }
+}
+
+// Whether that station is in range: the test of `Station::in_range`, made where the bytes lie, so that no queue is copied for it. The slice is cut to its own
+// length first: so it is kept in registers, which is quicker.
+pub fn in_range(whole: &[u8]) -> bool
+    requires { ⌜ length (now whole) ≡ stationLength ⌝ }
+    ensures { λ r. ⌜ r ≡ test (stationOk (stationAt (now (whole .entry)))) ⌝ }
+{
+    let from: usize = 0;
+    let s = &whole[from..LENGTH];
+    if !settings::in_range_at(s, SETTINGS) {
+        return false;
+    }
+    let settings = Settings::read(s, SETTINGS);
+    let bounds = flow::bounds(settings);
+    let room = settings.queues;
+    if !read_credits(s, 0).in_range(settings) {
+        return false;
+    }
+    if !slots::in_range(s, CONTROL, bounds, room.control) {
+        return false;
+    }
+    if !slots::in_range(s, PRIMARY, bounds, room.primary) {
+        return false;
+    }
+    if !slots::in_range(s, SECONDARY, bounds, room.secondary) {
+        return false;
+    }
+    if !flow::stage_ok(bounds, wire::get32(s, STAGE)) {
+        return false;
+    }
+    fairness::in_range_at(s, FAIR, settings)
 }
 
 // What goes next in that station, in range or not. Of each queue it uses the front alone.

@@ -7,11 +7,13 @@ pub functions : Functions
 functions =
     record {
       fairness-read = λ s at. by-equation;
+      fairness-in-range-at = λ s at settings. by-equation;
       fairness-write = λ f s at. by-equation;
       fairness-write-four = λ r s at. by-equation;
       fairness-write-decided = λ d s at. by-equation;
       fairness-write-received = λ r s at. by-equation;
       read = λ s. by-equation;
+      in-range = λ whole. by-equation;
       pick = λ s. by-equation;
       write = λ st s. by-equation;
       write-credits = λ c s. by-equation;

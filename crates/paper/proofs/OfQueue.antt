@@ -20,4 +20,6 @@ functions =
       queue-space = λ self capacity. by-equation;
       queue-holds-frame = λ self. by-equation;
       queue-in-range = λ self bounds capacity. by-equation;
+      word-ok = λ bounds w. by-equation;
+      word-used = λ w. by-equation;
     }

@@ -11,4 +11,5 @@ functions =
       write = λ q s at. by-first;
       push = λ f s at. by-equation;
       take = λ s at. by-equation;
+      in-range = λ s at bounds capacity. by-equation;
     }

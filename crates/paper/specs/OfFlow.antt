@@ -5,7 +5,7 @@ use Rattle.decide.specs.Test.{test}
 use Rattle.flow.specs.Offer.{clientOf, controlOf, queueFor, transitOf}
 use Rattle.flow.specs.Parts.{boundsOf, stageHolds}
 use Rattle.flow.specs.Pick.{leftOf, pickOf, seenIn, sightOf}
-use Rattle.flow.specs.Range.{flowOk}
+use Rattle.flow.specs.Range.{creditsOk, flowOk, stageOk}
 use Rattle.flow.specs.Tick.{startOf, tickOf}
 use Rattle.flow.specs.declared.Client.{Client}
 use Rattle.flow.specs.declared.Credits.{Credits}
@@ -30,8 +30,12 @@ pub record Functions : Type 0 where
   pub flow-tick : (self : Flow) (settings : Settings) (share : ℕ) (a b c : Bool) → Determined (λ (r : Flow). r ≡ tickOf settings self share a b c)
   -- Flow::stage_holds
   pub flow-stage-holds : (self : Flow) → Determined (λ (r : Bool). r ≡ stageHolds self)
+  -- Credits::in_range
+  pub credits-in-range : (self : Credits) (settings : Settings) → Determined (λ (r : Bool). r ≡ test (creditsOk settings self))
   -- bounds
   pub bounds : (settings : Settings) → Determined (λ (r : Bounds). r ≡ boundsOf settings)
+  -- stage_ok
+  pub stage-ok : (bounds : Bounds) (word : ℕ) → Determined (λ (r : Bool). r ≡ test (stageOk bounds word))
   -- Flow::transit (a leaf: it asks that Offered settings self frame)
   pub flow-transit : (self : Flow) (settings : Settings) (frame : Frame) → Determined (λ (r : Entered). r ≡ transitOf settings self frame)
   -- Flow::control (a leaf: it asks that Offered settings self (controlFrame size))

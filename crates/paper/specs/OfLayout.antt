@@ -1,6 +1,8 @@
 -- Public functions of `layout`, by name: two answers that meet the contract are equal.
 -- Assumes nothing.
 use Prim.Native.Nat.{ℕ}
+use Rattle.decide.specs.Test.{test}
+use Rattle.fair.specs.Range.{fairOk}
 use Rattle.fair.specs.declared.Decided.{Decided}
 use Rattle.fair.specs.declared.Fair.{Fair}
 use Rattle.fair.specs.declared.Four.{Four}
@@ -9,13 +11,16 @@ use Rattle.flow.specs.declared.Credits.{Credits}
 use Rattle.flow.specs.declared.Line.{Line}
 use Rattle.layout.specs.Layout.{creditsWords, decidedWords, fairAt, fairBytes, fairPlace, fourWords, pushedAt, receivedWords, stagePlace, stationAt, stationBytes, takenFrom}
 use Rattle.layout.specs.Reading.{readingBytes}
+use Rattle.settings.specs.declared.Settings.{Settings}
 use Rattle.slots.specs.Slots.{wordsBytes}
 use Rattle.station.specs.Offers.{givenFrame}
 use Rattle.station.specs.Pick.{pickOf}
+use Rattle.station.specs.Range.{stationOk}
 use Rattle.station.specs.declared.Pick.{Pick}
 use Rattle.station.specs.declared.Reading.{Reading}
 use Rattle.station.specs.declared.Station.{Station}
 use Rattle.wire.specs.Wire.{digits, put}
+use mathlib.Core.Bool.{Bool}
 use mathlib.Core.List.{List}
 use mathlib.Core.Path.{_≡_}
 use Rattle.paper.specs.Determined.{Determined}
@@ -23,6 +28,8 @@ use Rattle.paper.specs.Determined.{Determined}
 pub record Functions : Type 0 where
   -- fairness::read (a leaf: it asks that at + fairLength ≤ length (now s))
   pub fairness-read : (s : List ℕ) (at : ℕ) → Determined (λ (r : Fair). r ≡ fairAt s at)
+  -- fairness::in_range_at (a leaf: it asks that at + fairLength ≤ length (now s))
+  pub fairness-in-range-at : (s : List ℕ) (at : ℕ) (settings : Settings) → Determined (λ (r : Bool). r ≡ test (fairOk settings (fairAt s at)))
   -- fairness::write (a leaf: it asks that at + fairLength ≤ length (now s))
   pub fairness-write : (f : Fair) (s : List ℕ) (at : ℕ) → Determined (λ (after-s : List ℕ). after-s ≡ put s at (fairBytes f))
   -- fairness::write_four (a leaf: it asks that at + fourLength ≤ length (now s))
@@ -33,6 +40,8 @@ pub record Functions : Type 0 where
   pub fairness-write-received : (r : Received) (s : List ℕ) (at : ℕ) → Determined (λ (after-s : List ℕ). after-s ≡ put s at (wordsBytes (receivedWords r)))
   -- read (a leaf: it asks that length (now s) ≡ stationLength)
   pub read : (s : List ℕ) → Determined (λ (r : Station). r ≡ stationAt s)
+  -- in_range (a leaf: it asks that length (now whole) ≡ stationLength)
+  pub in-range : (whole : List ℕ) → Determined (λ (r : Bool). r ≡ test (stationOk (stationAt whole)))
   -- pick (a leaf: it asks that length (now s) ≡ stationLength)
   pub pick : (s : List ℕ) → Determined (λ (r : Pick). r ≡ pickOf (stationAt s))
   -- write (a leaf: it asks that length (now s) ≡ stationLength)

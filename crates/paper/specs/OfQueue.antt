@@ -5,7 +5,7 @@ use Rattle.decide.specs.Test.{test}
 use Rattle.queue.specs.Frame.{frameOf, frameOk, hopsOk, wordOf}
 use Rattle.queue.specs.Front.{frontOf, fronted}
 use Rattle.queue.specs.Queue.{emptyQueue, firstFrame, holdsFrame, pushed, spaceOf, takeOf}
-use Rattle.queue.specs.Range.{queueOk}
+use Rattle.queue.specs.Range.{queueOk, usedOf}
 use Rattle.queue.specs.declared.Bounds.{Bounds}
 use Rattle.queue.specs.declared.Frame.{Frame}
 use Rattle.queue.specs.declared.Front.{Front}
@@ -44,3 +44,7 @@ pub record Functions : Type 0 where
   pub queue-holds-frame : (self : Queue) → Determined (λ (r : Bool). r ≡ holdsFrame self)
   -- Queue::in_range
   pub queue-in-range : (self : Queue) (bounds : Bounds) (capacity : ℕ) → Determined (λ (r : Bool). r ≡ test (queueOk bounds capacity self))
+  -- word_ok
+  pub word-ok : (bounds : Bounds) (w : ℕ) → Determined (λ (r : Bool). r ≡ test (frameOk bounds (frameOf w)))
+  -- word_used
+  pub word-used : (w : ℕ) → Determined (λ (r : ℕ). r ≡ usedOf w)

@@ -34,6 +34,8 @@ pub record Functions : Type 0 where
   pub fairness-usual : (weight unit ticks unreserved : ℕ) → Determined (λ (r : Fairness). r ≡ usualOf weight unit ticks unreserved)
   -- Fairness::in_range
   pub fairness-in-range : (self : Fairness) → Determined (λ (r : Bool). r ≡ test (fairnessOk self))
+  -- in_range_at (a leaf: it asks that at + settingsLength ≤ length (now s))
+  pub in-range-at : (s : List ℕ) (at : ℕ) → Determined (λ (r : Bool). r ≡ test (settingsOk (settingsAt s at)))
   -- Settings::read (a leaf: it asks that at + settingsLength ≤ length (now s))
   pub settings-read : (s : List ℕ) (at : ℕ) → Determined (λ (r : Settings). r ≡ settingsAt s at)
   -- Settings::write (a leaf: it asks that at + settingsLength ≤ length (now s))

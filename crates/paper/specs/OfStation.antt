@@ -26,14 +26,24 @@ use Rattle.paper.specs.Determined.{Determined}
 pub record Functions : Type 0 where
   -- Station::offer_client
   pub station-offer-client : (self : Station) (class size hops : ℕ) → Determined (λ (r : Client). r ≡ offerClientOf self class size hops)
+  -- Station::offer_client_known (a leaf: it asks that good ≡ test (stationOk self))
+  pub station-offer-client-known : (self : Station) (good : Bool) (class size hops : ℕ) → Determined (λ (r : Client). r ≡ offerClientOf self class size hops)
   -- Station::offer_transit
   pub station-offer-transit : (self : Station) (class size hops eligible : ℕ) → Determined (λ (r : Done). r ≡ offerTransitOf self class size hops eligible)
+  -- Station::offer_transit_known (a leaf: it asks that good ≡ test (stationOk self))
+  pub station-offer-transit-known : (self : Station) (good : Bool) (class size hops eligible : ℕ) → Determined (λ (r : Done). r ≡ offerTransitOf self class size hops eligible)
   -- Station::offer_control
   pub station-offer-control : (self : Station) (size : ℕ) → Determined (λ (r : Done). r ≡ offerControlOf self size)
+  -- Station::offer_control_known (a leaf: it asks that good ≡ test (stationOk self))
+  pub station-offer-control-known : (self : Station) (good : Bool) (size : ℕ) → Determined (λ (r : Done). r ≡ offerControlOf self size)
   -- Station::hear
   pub station-hear : (self : Station) (frame : List ℕ) → Determined (λ (r : Done). r ≡ hearOf self frame)
+  -- Station::hear_known (a leaf: it asks that good ≡ test (stationOk self))
+  pub station-hear-known : (self : Station) (good : Bool) (frame : List ℕ) → Determined (λ (r : Done). r ≡ hearOf self frame)
   -- Station::tell
   pub station-tell : (self : Station) → Determined (λ (r : Told). r ≡ tellOf self)
+  -- Station::tell_known (a leaf: it asks that good ≡ test (stationOk self))
+  pub station-tell-known : (self : Station) (good : Bool) → Determined (λ (r : Told). r ≡ tellOf self)
   -- Station::fresh
   pub station-fresh : (settings : Settings) → Determined (λ (r : Station). r ≡ freshOf settings)
   -- Station::in_range
@@ -42,11 +52,17 @@ pub record Functions : Type 0 where
   pub station-start : (self : Station) (settings : Settings) → Determined (λ (r : Done). r ≡ startOf self settings)
   -- Station::tick
   pub station-tick : (self : Station) (a b c : ℕ) → Determined (λ (r : Done). r ≡ tickOf self a b c)
+  -- Station::tick_known (a leaf: it asks that good ≡ test (stationOk self))
+  pub station-tick-known : (self : Station) (good : Bool) (a b c : ℕ) → Determined (λ (r : Done). r ≡ tickOf self a b c)
   -- Station::select
   pub station-select : (self : Station) → Determined (λ (r : Selected). r ≡ selectOf self)
   -- Station::age
   pub station-age : (self : Station) → Determined (λ (r : Done). r ≡ ageOf self)
+  -- Station::age_known (a leaf: it asks that good ≡ test (stationOk self))
+  pub station-age-known : (self : Station) (good : Bool) → Determined (λ (r : Done). r ≡ ageOf self)
   -- picked
   pub picked : (settings : Settings) (sight : Sight) (fair : Fair) → Determined (λ (r : Pick). r ≡ pickOf (seenAs settings sight fair))
   -- Station::show
   pub station-show : (self : Station) → Determined (λ (r : Shown). r ≡ showOf self)
+  -- Station::show_known (a leaf: it asks that good ≡ test (stationOk self))
+  pub station-show-known : (self : Station) (good : Bool) → Determined (λ (r : Shown). r ≡ showOf self)

@@ -6,7 +6,6 @@ use mathlib.Core.List.{List}
 use mathlib.Core.Logic.{_⊎_, inl, inr, ⊎-elim}
 use mathlib.Core.Bool.{Bool, true, false, not, _&&_, _||_, and-assoc, and-true, or-false}
 use lib.Dec.{ltb, eqb}
-use native.Mathlib.Nat.{mod-eq-of-lt}
 use native.Mathlib.Numerals.{add-one}
 use native.Mathlib.Omega.{arith}
 use lib.ListN.{length, getD}
@@ -19,7 +18,7 @@ use Rattle.queue.specs.Frame.{frameOf, frameOk, FrameOk}
 use Rattle.queue.specs.Queue.{framesFrom, framesOf, sizes}
 use Rattle.queue.specs.Range.{QueueOk, occupied, slotOk, eachFrom, slotsOk, emptyOk, bytesIn, queueOk}
 use Rattle.queue.proofs.Word.{frame-facts, frame-holds}
-use Rattle.queue.proofs.Ring.{held-sum, zero-sizes, all-in, in-all}
+use Rattle.queue.proofs.Ring.{from-more, from-done, held-sum, zero-sizes, all-in, in-all}
 
 -- ---- the slots one by one, and all
 
@@ -170,8 +169,8 @@ module _ (s : List ℕ) (i : ℕ) (p : i < 128) where
   step = omega arith
 
   pub bytes-more : sizes (framesFrom s i (128 - i)) ≡ getD s i 0 % 16384 + sizes (framesFrom s (i + 1) (128 - (i + 1)))
-  unfolding sizes framesFrom
-  bytes-more = rw (step, mod-eq-of-lt p, add-one i)
+  unfolding sizes
+  bytes-more = ap sizes (from-more s i 128 p p)
 
   pub each-more : (at : ℕ → Test) (good whole : Bool) → (good && test (eachFrom at i (128 - i))) ≡ whole
       → ((good && test (at i)) && test (eachFrom at (i + 1) (128 - (i + 1)))) ≡ whole
@@ -187,8 +186,8 @@ module _ (s : List ℕ) (i : ℕ) (p : 128 ≤ i) where
   none = omega arith
 
   pub bytes-done : sizes (framesFrom s i (128 - i)) ≡ 0
-  unfolding sizes framesFrom
-  bytes-done = rw none
+  unfolding sizes
+  bytes-done = ap sizes (from-done s i 128 p)
 
   pub each-done : (at : ℕ → Test) (good whole : Bool) → (good && test (eachFrom at i (128 - i))) ≡ whole → good ≡ whole
   unfolding eachFrom test

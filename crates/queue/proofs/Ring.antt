@@ -1,9 +1,10 @@
--- The frames of slots round the ring: taken apart at either end, and their bytes, which are the same from every slot on.
+-- The frames of slots round the ring: taken apart at either end, and what is summed over them, which over the whole ring is the same from every slot on.
 -- Assumes nothing.
-use Prim.Native.Nat.{ℕ, zero, suc, _+_, _-_, _%_, _<_, _≤_}
+use Prim.Native.Nat.{ℕ, zero, suc, _+_, _*_, _-_, _%_, _<_, _≤_}
 use mathlib.Core.Path.{_≡_, refl, ap, sym, _∙_}
 use mathlib.Core.List.{List, [], _∷_, _++_}
-use native.Mathlib.Nat.{add-zero}
+use native.Mathlib.Nat.{add-zero, mod-eq-of-lt}
+use native.Mathlib.Numerals.{add-one}
 use native.Mathlib.Omega.{arith}
 use lib.ListN.{length, getD, set}
 use lib.Seq.{getD-set-other}
@@ -11,7 +12,7 @@ use Rattle.queue.specs.declared.Bounds.{Bounds}
 use Rattle.queue.specs.declared.Frame.{Frame}
 use Rattle.queue.specs.Frame.{frameOf, FrameOk}
 use Rattle.queue.specs.Queue.{framesFrom, sizes}
-use Rattle.queue.specs.Range.{AllOk}
+use Rattle.queue.specs.Range.{AllOk, weighed}
 
 -- the head counts by its remainder alone
 pub from-mod : (s : List ℕ) (h k n : ℕ) → h % 128 ≡ k % 128 → framesFrom s h n ≡ framesFrom s k n
@@ -37,6 +38,15 @@ pub from-snoc : (s : List ℕ) (h n : ℕ) → framesFrom s h (suc n) ≡ frames
 unfolding framesFrom
 from-snoc s h n = let e : suc n ≡ n + 1 = omega arith in ap (framesFrom s h) e ∙ from-append s h n 1
 
+-- the frames of the slots from i on that stand before slot `to`: one more, and none
+pub from-more : (s : List ℕ) (i to : ℕ) → i < to → i < 128 → framesFrom s i (to - i) ≡ frameOf (getD s i 0) ∷ framesFrom s (i + 1) (to - (i + 1))
+unfolding framesFrom
+from-more s i to p l = let e : to - i ≡ suc (to - (i + 1)) = omega arith in rw (e, mod-eq-of-lt l, add-one i)
+
+pub from-done : (s : List ℕ) (i to : ℕ) → to ≤ i → framesFrom s i (to - i) ≡ []
+unfolding framesFrom
+from-done s i to p = let e : to - i ≡ 0 = omega arith in rw e
+
 pub from-length : (s : List ℕ) (h n : ℕ) → length (framesFrom s h n) ≡ n
 unfolding framesFrom
 from-length s h zero = refl
@@ -47,35 +57,78 @@ unfolding sizes
 sizes-append [] gs = omega arith
 sizes-append (f ∷ fs) gs = omega (arith, sizes-append fs gs)
 
--- the sum over the whole ring is the same from every slot
-rotate : (s : List ℕ) (h n : ℕ) → n % 128 ≡ 0 → sizes (framesFrom s (suc h) n) ≡ sizes (framesFrom s h n)
+-- a size has 14 bits
+pub sizes-most : (s : List ℕ) (h n : ℕ) → sizes (framesFrom s h n) ≤ n * 16384
 unfolding framesFrom sizes
-rotate s h n e =
-    let k : (h + n) % 128 ≡ h % 128 = omega arith in
-    let a : getD s (h % 128) 0 % 16384 + sizes (framesFrom s (suc h) n) ≡ sizes (framesFrom s h n ++ (frameOf (getD s ((h + n) % 128) 0) ∷ [])) = ap sizes (from-snoc s h n) in
-    omega (arith, a, sizes-append (framesFrom s h n) (frameOf (getD s ((h + n) % 128) 0) ∷ []), ap (λ (i : ℕ). getD s i 0 % 16384) k)
+sizes-most s h zero = omega arith
+sizes-most s h (suc n) = omega (arith, sizes-most s (suc h) n)
 
-ring-sum : (s : List ℕ) (h : ℕ) → sizes (framesFrom s h 128) ≡ sizes (framesFrom s 0 128)
-ring-sum s zero = refl
-ring-sum s (suc h) = rotate s h 128 (omega arith) ∙ ring-sum s h
+-- ---- a weight summed over slots
+
+module _ (weight : ℕ → ℕ) (s : List ℕ) where
+  weigh-append : (h n k : ℕ) → weighed weight s h (n + k) ≡ weighed weight s h n + weighed weight s (h + n) k
+  unfolding weighed
+  weigh-append h zero k = let e : 0 + k ≡ k = omega arith in rw (e, add-zero) (omega arith)
+  weigh-append h (suc n) k =
+      let e : suc n + k ≡ suc (n + k) = omega arith in
+      let i : suc h + n ≡ h + suc n = omega arith in
+      rw e (omega (arith, weigh-append (suc h) n k, ap (λ (m : ℕ). weighed weight s m k) i))
+
+  -- the slots from i on: one more, and none
+  pub weigh-more : (i : ℕ) → i < 128 → weighed weight s i (128 - i) ≡ weight (getD s i 0) + weighed weight s (i + 1) (128 - (i + 1))
+  unfolding weighed
+  weigh-more i p = let e : 128 - i ≡ suc (128 - (i + 1)) = omega arith in rw (e, mod-eq-of-lt p, add-one i)
+
+  pub weigh-done : (i : ℕ) → 128 ≤ i → weighed weight s i (128 - i) ≡ 0
+  unfolding weighed
+  weigh-done i p = let e : 128 - i ≡ 0 = omega arith in rw e
+
+  -- the sum over the whole ring is the same from every slot
+  rotate : (h n : ℕ) → n % 128 ≡ 0 → weighed weight s (suc h) n ≡ weighed weight s h n
+  unfolding weighed
+  rotate h n e =
+      let k : (h + n) % 128 ≡ h % 128 = omega arith in
+      let o : suc n ≡ n + 1 = omega arith in
+      omega (arith, ap (weighed weight s h) o, weigh-append h n 1, ap (λ (i : ℕ). weight (getD s i 0)) k)
+
+  ring-sum : (h : ℕ) → weighed weight s h 128 ≡ weighed weight s 0 128
+  ring-sum zero = refl
+  ring-sum (suc h) = rotate h 128 (omega arith) ∙ ring-sum h
+
+  -- it is that of the n slots from slot h on, and of the others
+  pub weigh-split : (h n : ℕ) → n ≤ 128 → weighed weight s 0 128 ≡ weighed weight s h n + weighed weight s (h + n) (128 - n)
+  weigh-split h n p =
+      let e : 128 ≡ n + (128 - n) = omega arith in
+      sym (ring-sum h) ∙ ap (weighed weight s h) e ∙ weigh-append h n (128 - n)
+
+  module _ (none : weight 0 ≡ 0) where
+    weigh-zero : (h n : ℕ) → ((j : ℕ) → j < n → getD s ((h + j) % 128) 0 ≡ 0) → weighed weight s h n ≡ 0
+    unfolding weighed
+    weigh-zero h zero z = refl
+    weigh-zero h (suc n) z =
+        let e : h % 128 ≡ (h + 0) % 128 = omega arith in
+        let a : getD s (h % 128) 0 ≡ 0 = ap (λ (i : ℕ). getD s i 0) e ∙ z 0 (omega arith) in
+        let step : (j : ℕ) → j < n → getD s ((suc h + j) % 128) 0 ≡ 0 = λ j l. let k : (suc h + j) % 128 ≡ (h + suc j) % 128 = omega arith in ap (λ (i : ℕ). getD s i 0) k ∙ z (suc j) (omega arith) in
+        omega (arith, ap weight a, none, weigh-zero (suc h) n step)
+
+    -- where every other slot is 0, the sum over the ring is the sum over the n slots
+    pub weigh-held : (h n : ℕ) → n ≤ 128 → ((j : ℕ) → n ≤ j → j < 128 → getD s ((h + j) % 128) 0 ≡ 0) → weighed weight s 0 128 ≡ weighed weight s h n
+    weigh-held h n p z =
+        let step : (j : ℕ) → j < 128 - n → getD s ((h + n + j) % 128) 0 ≡ 0 = λ j l. let k : (h + n + j) % 128 ≡ (h + (n + j)) % 128 = omega arith in ap (λ (i : ℕ). getD s i 0) k ∙ z (n + j) (omega arith) (omega arith) in
+        omega (arith, weigh-split h n p, weigh-zero (h + n) (128 - n) step)
+
+-- the bytes of frames are such a sum
+sizes-weighed : (s : List ℕ) (h n : ℕ) → sizes (framesFrom s h n) ≡ weighed (λ (w : ℕ). frameOf w .size) s h n
+unfolding framesFrom sizes weighed
+sizes-weighed s h zero = refl
+sizes-weighed s h (suc n) = omega (arith, sizes-weighed s (suc h) n)
 
 pub zero-sizes : (s : List ℕ) (h n : ℕ) → ((j : ℕ) → j < n → getD s ((h + j) % 128) 0 ≡ 0) → sizes (framesFrom s h n) ≡ 0
-unfolding framesFrom sizes
-zero-sizes s h zero z = refl
-zero-sizes s h (suc n) z =
-    let e : h % 128 ≡ (h + 0) % 128 = omega arith in
-    let a : getD s (h % 128) 0 ≡ 0 = ap (λ (i : ℕ). getD s i 0) e ∙ z 0 (omega arith) in
-    let step : (j : ℕ) → j < n → getD s ((suc h + j) % 128) 0 ≡ 0 = λ j l. let k : (suc h + j) % 128 ≡ (h + suc j) % 128 = omega arith in ap (λ (i : ℕ). getD s i 0) k ∙ z (suc j) (omega arith) in
-    omega (arith, ap (λ (w : ℕ). w % 16384) a, zero-sizes s (suc h) n step)
+zero-sizes s h n z = sizes-weighed s h n ∙ weigh-zero (λ (w : ℕ). frameOf w .size) s refl h n z
 
 -- where every other slot is 0, the sum over the ring is the sum over the frames held
 pub held-sum : (s : List ℕ) (h n : ℕ) → n ≤ 128 → ((j : ℕ) → n ≤ j → j < 128 → getD s ((h + j) % 128) 0 ≡ 0) → sizes (framesFrom s 0 128) ≡ sizes (framesFrom s h n)
-held-sum s h n p z =
-    let e : 128 ≡ n + (128 - n) = omega arith in
-    let step : (j : ℕ) → j < 128 - n → getD s ((h + n + j) % 128) 0 ≡ 0 = λ j l. let k : (h + n + j) % 128 ≡ (h + (n + j)) % 128 = omega arith in ap (λ (i : ℕ). getD s i 0) k ∙ z (n + j) (omega arith) (omega arith) in
-    let a : sizes (framesFrom s 0 128) ≡ sizes (framesFrom s h n ++ framesFrom s (h + n) (128 - n)) =
-    sym (ring-sum s h) ∙ ap (λ (m : ℕ). sizes (framesFrom s h m)) e ∙ ap sizes (from-append s h n (128 - n)) in
-    omega (arith, a, sizes-append (framesFrom s h n) (framesFrom s (h + n) (128 - n)), zero-sizes s (h + n) (128 - n) step)
+held-sum s h n p z = sizes-weighed s 0 128 ∙ weigh-held (λ (w : ℕ). frameOf w .size) s refl h n p z ∙ sym (sizes-weighed s h n)
 
 -- the frames one by one, and all
 pub all-in : (bounds : Bounds) (s : List ℕ) (h n : ℕ) → ((j : ℕ) → j < n → FrameOk bounds (frameOf (getD s ((h + j) % 128) 0))) → AllOk bounds (framesFrom s h n)

@@ -1,6 +1,6 @@
 -- When a queue is in range: as a test, and as facts with names.
 -- Assumes nothing.
-use Prim.Native.Nat.{ℕ, zero, suc, _+_, _-_, _%_, _≤_, _<_}
+use Prim.Native.Nat.{ℕ, zero, suc, _+_, _-_, _%_, _≤_, _<_, min}
 use mathlib.Core.Path.{_≡_}
 use mathlib.Core.List.{List, [], _∷_}
 use mathlib.Core.Bool.{Bool, cond}
@@ -66,3 +66,23 @@ queueOk b capacity q =
     ∧? slotsOk b (q .head) (q .count) (q .slots) 0 128
     ∧? q .held ≡? bytesIn (q .slots)
     ∧? q .held ≤? capacity
+
+-- ---- what the test over a queue's bytes counts instead
+
+-- every frame of the list is in range
+unfoldable pub framesOk : Bounds → List Frame → Test
+framesOk b [] = 0 ≤? 0
+framesOk b (f ∷ fs) = frameOk b f ∧? framesOk b fs
+
+-- the sum of a weight over the words of n slots, from slot h on, round the ring of 128
+unfoldable pub weighed : (ℕ → ℕ) → List ℕ → ℕ → ℕ → ℕ
+weighed weight s h zero = 0
+weighed weight s h (suc n) = weight (getD s (h % 128) 0) + weighed weight s (suc h) n
+
+-- 1 for a word that is not 0, else 0
+abbrev pub usedOf : ℕ → ℕ
+usedOf w = min w 1
+
+-- How many of the 128 words are not 0. The word of a frame in range is not, so where they are as many as the frames held, every other slot is empty.
+abbrev pub usedIn : List ℕ → ℕ
+usedIn s = weighed usedOf s 0 128

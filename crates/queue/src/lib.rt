@@ -5,7 +5,7 @@ ghost use Rattle.decide.specs.Test.{test};
 ghost use Rattle.queue.specs.Frame.{hopsOk, frameOk, wordOf, frameOf};
 ghost use Rattle.queue.specs.Queue.{emptyQueue, pushed, firstFrame, takeOf, spaceOf, holdsFrame};
 ghost use Rattle.queue.specs.Front.{frontOf, fronted};
-ghost use Rattle.queue.specs.Range.{slotOk, emptyOk, queueOk};
+ghost use Rattle.queue.specs.Range.{slotOk, emptyOk, queueOk, usedOf};
 
 // What frames are held to: their largest size.
 pub struct Bounds {
@@ -246,7 +246,7 @@ fn slot_ok(bounds: Bounds, occupied: bool, w: u32) -> bool
 
 // Whether the frame of a word is in range. Its class and mark are tested as one number, which is quicker than two: 0, 1 or 2 without the mark, 5 or 6
 // with it.
-fn word_ok(bounds: Bounds, w: u32) -> bool
+pub fn word_ok(bounds: Bounds, w: u32) -> bool
     ensures { λ r. ⌜ r ≡ test (frameOk bounds (frameOf w)) ⌝ }
 {
     let mtu = bounds.mtu;
@@ -254,4 +254,11 @@ fn word_ok(bounds: Bounds, w: u32) -> bool
     let hops = hops_ok(w / 16384 % 64);
     let kind = w / 1048576;
     (16 <= size) & (size <= mtu) & hops & ((kind <= 2) | ((5 <= kind) & (kind <= 6)))
+}
+
+// 0 for the word of an empty slot, 1 for any other.
+pub fn word_used(w: u32) -> u32
+    ensures { λ r. ⌜ r ≡ usedOf w ⌝ }
+{
+    if w == EMPTY { 0 } else { 1 }
 }

@@ -1,9 +1,9 @@
 -- What a call on a station gives, by what led there: a slice of another length is 2, and else what the station said is handed back.
 -- Assumes nothing.
 use Prim.Native.Nat.{ℕ}
-use mathlib.Core.Bool.{true, false}
+use mathlib.Core.Bool.{Bool, true, false}
 use mathlib.Core.List.{List, _∷_}
-use mathlib.Core.Path.{_≡_, refl, _∙_}
+use mathlib.Core.Path.{_≡_, refl, sym, ap, _∙_}
 use lib.ListN.{length}
 use Rattle.decide.specs.Test.{test}
 use Rattle.decide.specs.Refusal.{Fault, firstOf, refusedOr}
@@ -123,6 +123,12 @@ module _ (old : List ℕ) {r : ℕ} {after : List ℕ} where
   pub shown-back : (n : ℕ) (reading : Reading) (d : Shown) → d ≡ refusedOr notShownOf n (record { number = 0; detail = 0; reading = reading })
       → HandedBack (d .number) 0 old (readingBytes (d .reading)) r after → HandedBack n 0 old (readingBytes reading) r after
   shown-back n reading = back (λ m. m) (λ (d : Shown). d .number) (λ d. 0) (λ (d : Shown). readingBytes (d .reading)) _ _ (λ m. refl) refl n
+
+-- ---- the range
+
+-- what is known of the bytes that are lent is known of the station that is read from them
+pub range-known : (lent st : Station) {good : Bool} → good ≡ test (stationOk lent) → st ≡ lent → good ≡ test (stationOk st)
+range-known lent st e r = e ∙ ap (λ (x : Station). test (stationOk x)) (sym r)
 
 -- ---- start
 

@@ -35,8 +35,9 @@ use Rattle.station.specs.declared.Selected.{Selected}
 use Rattle.station.specs.Answers.{withFlow, withFair, refusedOf, doneOf, chosenOf}
 use Rattle.station.specs.Calls.{tickedOf}
 use Rattle.station.specs.Offers.{offerFaults, staging, shortFor, turnedFor}
-use Rattle.slots.specs.Slots.{wordsBytes, queueBytes, queueAt}
+use Rattle.slots.specs.Slots.{wordsBytes, queueBytes}
 use Rattle.layout.specs.Layout.{placeOf, stagePlace, fairPlace, stationLength, creditsWords, fourWords, fairBytes, stationAt, stationBytes, pushedAt, takenAt, takenFrom}
+use Rattle.layout.proofs.Range.{queue-here}
 use Rattle.layout.proofs.Round.{Slotted, fits-slotted, station-fits, bytes-of-state}
 use Rattle.layout.proofs.Anew.{credits-put, queue-put, stage-put, fair-put, counters-put, queue-slotted}
 use Rattle.answer.specs.Bytes.{packed, markBytes, refusedBytes}
@@ -154,13 +155,7 @@ module _ (xs : List ℕ) (b : Bytes xs) (e : length xs ≡ stationLength) where
       of-answer _ _ (λ (r : flow.Client). stageIn (creditsIn xs (r .flow)) (r .flow) ≡ stationBytes (withFlow (stationAt xs) (r .flow))) _
       (λ z. two-written xs (stationAt xs) slotted whole _ _) (λ z. two-written xs (stationAt xs) slotted whole _ _)
 
-  -- a queue stands at its place, and has 128 slots
-  queue-here : (l : Line) → queueAt xs (placeOf l) ≡ queueOf (stationAt xs .flow) l
-  unfolding stationAt
-  queue-here Control = refl
-  queue-here Primary = refl
-  queue-here Secondary = refl
-
+  -- a queue has 128 slots
   many : (l : Line) → length (queueOf (stationAt xs .flow) l .slots) ≡ 128
   many Control = slotted .0
   many Primary = slotted .1
@@ -181,7 +176,7 @@ module _ (xs : List ℕ) (b : Bytes xs) (e : length xs ≡ stationLength) where
   pub offer-written : (l : Line) (x : Frame) → firstOf (offerFaults (stationAt xs) l x) ≡ 0
       → pushedAt xs l x ≡ stationBytes (withFlow (stationAt xs) (enterOf (stationAt xs .settings) (stationAt xs .flow) l x .flow))
   offer-written l x z =
-      rw (queue-here l, entered (stationAt xs) l x z)
+      rw (queue-here xs l, entered (stationAt xs) l x z)
       (queue-written l (pushed (queueOf (stationAt xs .flow) l) x) (pushed-slots l x))
 
   from-queue : (l : Line) (c : Credits) (w : ℕ) (n : Four) →
@@ -196,7 +191,7 @@ module _ (xs : List ℕ) (b : Bytes xs) (e : length xs ≡ stationLength) where
   from-queue l c w n =
       three-written (takenAt xs l) (withFlow (stationAt xs) (withQueue (stationAt xs .flow) l (taken (queueOf (stationAt xs .flow) l))))
       (queue-slotted (stationAt xs) slotted l (taken (queueOf (stationAt xs .flow) l)) (taken-slots l))
-      (rw (queue-here l) (queue-written l (taken (queueOf (stationAt xs .flow) l)) (taken-slots l))) c w n
+      (rw (queue-here xs l) (queue-written l (taken (queueOf (stationAt xs .flow) l)) (taken-slots l))) c w n
 
   -- a selection changes a queue or the stage, the credits, and the counters
   row-written : (r : selection.Selected) → Goes (stationAt xs .settings) (stationAt xs .flow) r → (n : Four)

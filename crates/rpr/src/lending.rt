@@ -1,5 +1,5 @@
-// A station that the host keeps in one piece of memory and lends for each call. Its bytes are read, the call is made on the station that they hold, and what
-// it leaves is written back where it was carried out.
+// A station that the host keeps in one piece of memory and lends for each call. Its range is tested where its bytes lie, once a call; the call is made on the
+// station that they hold, and what it leaves is written back where it was carried out.
 ghost use mathlib.Core.Path.{_≡_};
 ghost use Rattle.layout.specs.Layout.{stationLength};
 ghost use Rattle.rpr.specs.Station.{startAnswer, startAfter, tickAnswer, tickAfter, ageAnswer, ageAfter};
@@ -34,10 +34,10 @@ pub extern "C" fn rpr_start(settings: &[u8], station: &mut [u8]) -> u64
     if station.len() != layout::LENGTH {
         return NOT_WHOLE;
     }
-    let given = Settings::read(settings, 0);
-    if !given.in_range() {
+    if !settings::in_range_at(settings, 0) {
         return SETTING;
     }
+    let given = Settings::read(settings, 0);
     layout::write(Station::fresh(given), station);
     0
 }
@@ -51,7 +51,8 @@ pub extern "C" fn rpr_tick(station: &mut [u8], a: u64, b: u64, c: u64) -> u64
     if station.len() != layout::LENGTH {
         return NOT_WHOLE;
     }
-    let out = layout::read(station).tick(a, b, c);
+    let good = layout::in_range(station);
+    let out = layout::read(station).tick_known(good, a, b, c);
     if out.number != 0 {
         return out.number as u64;
     }
@@ -70,7 +71,8 @@ pub extern "C" fn rpr_offer_client(station: &mut [u8], class: u64, size: u64, ho
     if station.len() != layout::LENGTH {
         return NOT_WHOLE;
     }
-    let out = layout::read(station).offer_client(class, size, hops);
+    let good = layout::in_range(station);
+    let out = layout::read(station).offer_client_known(good, class, size, hops);
     if out.number != 0 {
         return answer::refused(out.number, out.detail);
     }
@@ -96,9 +98,10 @@ pub extern "C" fn rpr_offer_transit(
     if station.len() != layout::LENGTH {
         return NOT_WHOLE;
     }
+    let good = layout::in_range(station);
     let held = layout::read(station);
     let settings = held.settings;
-    let out = held.offer_transit(class, size, hops, eligible);
+    let out = held.offer_transit_known(good, class, size, hops, eligible);
     if out.number != 0 {
         return out.number as u64;
     }
@@ -116,7 +119,8 @@ pub extern "C" fn rpr_offer_control(station: &mut [u8], size: u64) -> u64
     if station.len() != layout::LENGTH {
         return NOT_WHOLE;
     }
-    let out = layout::read(station).offer_control(size);
+    let good = layout::in_range(station);
+    let out = layout::read(station).offer_control_known(good, size);
     if out.number != 0 {
         return out.number as u64;
     }
@@ -133,7 +137,7 @@ pub extern "C" fn rpr_select(station: &mut [u8]) -> u64
     if station.len() != layout::LENGTH {
         return NOT_WHOLE;
     }
-    if !layout::read(station).in_range() {
+    if !layout::in_range(station) {
         return SETTING;
     }
     let out = layout::pick(station);
@@ -158,7 +162,8 @@ pub extern "C" fn rpr_age(station: &mut [u8]) -> u64
     if station.len() != layout::LENGTH {
         return NOT_WHOLE;
     }
-    let out = layout::read(station).age();
+    let good = layout::in_range(station);
+    let out = layout::read(station).age_known(good);
     if out.number != 0 {
         return out.number as u64;
     }
@@ -176,7 +181,8 @@ pub extern "C" fn rpr_read_frame(station: &mut [u8], frame: &[u8]) -> u64
     if station.len() != layout::LENGTH {
         return NOT_WHOLE;
     }
-    let out = layout::read(station).hear(frame);
+    let good = layout::in_range(station);
+    let out = layout::read(station).hear_known(good, frame);
     if out.number != 0 {
         return out.number as u64;
     }
@@ -197,7 +203,8 @@ pub extern "C" fn rpr_write_frame(station: &[u8], room: &mut [u8]) -> u64
     if room.len() != advert::LENGTH {
         return NOT_WHOLE;
     }
-    let out = layout::read(station).tell();
+    let good = layout::in_range(station);
+    let out = layout::read(station).tell_known(good);
     if out.number != 0 {
         return out.number as u64;
     }
@@ -218,7 +225,8 @@ pub extern "C" fn rpr_show(station: &[u8], room: &mut [u8]) -> u64
     if room.len() != layout::READING {
         return NOT_WHOLE;
     }
-    let out = layout::read(station).show();
+    let good = layout::in_range(station);
+    let out = layout::read(station).show_known(good);
     if out.number != 0 {
         return out.number as u64;
     }

@@ -1,10 +1,12 @@
 // The settings of a station: their ranges, their defaults, and their words of 4 bytes. Each is a number, so that settings and words are
 // the same thing twice, and whether they are in range is asked of the numbers.
 ghost use mathlib.Core.Path.{_≡_};
-ghost use Prim.Native.Nat.{_*_, _≤_};
+ghost use Prim.Native.Nat.{_+_, _*_, _≤_};
+ghost use lib.ListN.{length};
 ghost use Rattle.decide.specs.Test.{test};
 ghost use Rattle.settings.specs.Range.{limitsOf, bucketOk, shapersOk, capacityOk, queuesOk, ageOk, coefOk, fairnessOk, siteOk, settingsOk};
 ghost use Rattle.settings.specs.Range.{usualOf, addressOf};
+ghost use Rattle.settings.specs.Words.{settingsLength, settingsAt};
 use shaper::Limits;
 
 mod places;
@@ -67,19 +69,30 @@ pub struct Settings {
 impl Settings {
     pub const MAX_RINGLET: u32 = 1;
 
-    // Whether each setting is in its range.
+    // Whether each setting is in its range. A setting that is out of range ends the test: tests that are left early are quicker than all of them joined.
     pub fn in_range(self) -> bool
         ensures { λ r. ⌜ r ≡ test (settingsOk self) ⌝ }
     {
         let mtu = self.mtu;
-        (self.address.high <= Address::MAX_HIGH)
-            & (self.ringlet <= Settings::MAX_RINGLET)
-            & (Limits::MIN_MTU <= mtu)
-            & (mtu <= Limits::MAX_MTU)
-            & self.shapers.in_range(mtu)
-            & self.queues.in_range(mtu)
-            & self.fairness.in_range()
-            & self.site.in_range()
+        if Address::MAX_HIGH < self.address.high {
+            return false;
+        }
+        if Settings::MAX_RINGLET < self.ringlet {
+            return false;
+        }
+        if mtu < Limits::MIN_MTU {
+            return false;
+        }
+        if Limits::MAX_MTU < mtu {
+            return false;
+        }
+        if !self.shapers.in_range(mtu) {
+            return false;
+        }
+        if !self.queues.in_range(mtu) {
+            return false;
+        }
+        self.fairness.in_range() & self.site.in_range()
     }
 }
 
@@ -117,15 +130,23 @@ impl Bucket {
 }
 
 impl Shapers {
-    // Whether the settings of each shaper are in range at this mtu.
+    // Whether the settings of each shaper are in range at this mtu. One that is out of range ends the test, as in `Settings::in_range`.
     pub fn in_range(self, mtu: u32) -> bool
         ensures { λ r. ⌜ r ≡ test (shapersOk mtu self) ⌝ }
     {
-        self.m.in_range(mtu)
-            & self.a.in_range(mtu)
-            & self.b.in_range(mtu)
-            & self.c.in_range(mtu)
-            & self.d.in_range(mtu)
+        if !self.m.in_range(mtu) {
+            return false;
+        }
+        if !self.a.in_range(mtu) {
+            return false;
+        }
+        if !self.b.in_range(mtu) {
+            return false;
+        }
+        if !self.c.in_range(mtu) {
+            return false;
+        }
+        self.d.in_range(mtu)
     }
 }
 
@@ -199,6 +220,14 @@ impl Site {
     {
         true
     }
+}
+
+// Whether the settings whose words stand in `s` from `at` on are each in their range. What is read is tested here and not handed on, which is quicker.
+pub fn in_range_at(s: &[u8], at: usize) -> bool
+    requires { ⌜ at + settingsLength ≤ length (now s) ⌝ }
+    ensures { λ r. ⌜ r ≡ test (settingsOk (settingsAt (now (s .entry)) at)) ⌝ }
+{
+    Settings::read(s, at).in_range()
 }
 
 // Whether a queue's capacity lies from `least` to the largest.

@@ -135,7 +135,8 @@ pub pushed-bytes : (q : Queue) (f : Frame) →
 unfolding queueBytes pushed
 pushed-bytes q f = rw (digits-mod 4 (q .held + f .size), digits-mod 1 (q .count + 1))
 
-words-get : (n : ℕ) (xs : List ℕ) (at i : ℕ) → i < n → getD (wordsAt n xs at) i 0 ≡ le 4 xs (at + 4 * i)
+-- a word is read at its place
+pub words-get : (n : ℕ) (xs : List ℕ) (at i : ℕ) → i < n → getD (wordsAt n xs at) i 0 ≡ le 4 xs (at + 4 * i)
 unfolding wordsAt
 words-get zero xs at i h = absurd (omega arith)
 words-get (suc n) xs at zero h = rw add-zero
@@ -143,7 +144,7 @@ words-get (suc n) xs at (suc i) h =
     let e : at + 4 + 4 * i ≡ at + 4 * suc i = omega arith in
     words-get n xs (at + 4) i (omega arith) ∙ ap (le 4 xs) e
 
--- the word of a slot is read at its place
+-- and so is that of a slot
 pub slot-get : (xs : List ℕ) (at i : ℕ) → i < 128 → getD (queueAt xs at .slots) i 0 ≡ le 4 xs (at + 4 * i)
 unfolding queueAt
 slot-get xs at i h = words-get 128 xs at i h

@@ -1,3 +1,4 @@
 pub mod Steps
 pub mod Round
 pub mod Anew
+pub mod Runs

@@ -7,7 +7,13 @@ use native.Mathlib.Omega.{arith}
 use lib.ListN.{length, set, length-append}
 use Rattle.wire.specs.Wire.{le, digits, length-digits}
 use Rattle.wire.specs.Parts.{Part, number, laidOut, length-laidOut}
+use Rattle.decide.specs.Test.{test}
+use Rattle.queue.specs.declared.Bounds.{Bounds}
+use Rattle.queue.specs.declared.Frame.{Frame}
 use Rattle.queue.specs.declared.Queue.{Queue}
+use Rattle.queue.specs.Queue.{sizes}
+use Rattle.queue.specs.Range.{framesOk}
+use Rattle.slots.specs.declared.Found.{Found}
 
 -- how many bytes a queue takes
 abbrev pub queueLength : ℕ
@@ -58,6 +64,12 @@ queueAt xs at =
 -- a queue with one slot anew, and the numbers behind the slots
 abbrev pub slotAnew : Queue → ℕ → ℕ → ℕ → ℕ → ℕ → Queue
 slotAnew q i word held head count = record { slots = set (q .slots) i word; head = head; count = count; held = held }
+
+-- ---- what the range test finds
+
+-- what frames come to: whether each is in range, and their bytes
+abbrev pub foundOf : Bounds → List Frame → Found
+foundOf b fs = record { good = test (framesOk b fs); bytes = sizes fs }
 
 -- ---- when nothing is lost: 128 slots, and each number fits its bytes
 

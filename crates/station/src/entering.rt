@@ -3,6 +3,7 @@ ghost use mathlib.Core.Path.{_≡_};
 ghost use Rattle.decide.specs.Test.{test};
 ghost use Rattle.queue.specs.Frame.{frameOk};
 ghost use Rattle.flow.specs.Parts.{boundsOf};
+ghost use Rattle.station.specs.Range.{stationOk};
 ghost use Rattle.station.specs.Offers.{cutOf, cutFrame, broughtOf, clientFor, turnedOf, offerClientOf, offerTransitOf, offerControlOf};
 use crate::Client;
 use crate::Done;
@@ -19,7 +20,15 @@ impl Station {
     pub fn offer_client(self, class: u64, size: u64, hops: u64) -> Client
         ensures { λ r. ⌜ r ≡ offerClientOf self class size hops ⌝ }
     {
-        if !self.in_range() {
+        self.offer_client_known(self.in_range(), class, size, hops)
+    }
+
+    // Takes a client frame, where it is known whether the station is in range.
+    pub fn offer_client_known(self, good: bool, class: u64, size: u64, hops: u64) -> Client
+        requires { ⌜ good ≡ test (stationOk self) ⌝ }
+        ensures { λ r. ⌜ r ≡ offerClientOf self class size hops ⌝ }
+    {
+        if !good {
             return self.turned_down(1);
         }
         let frame = frame_of(class, size, hops, 0);
@@ -33,7 +42,22 @@ impl Station {
     pub fn offer_transit(self, class: u64, size: u64, hops: u64, eligible: u64) -> Done
         ensures { λ r. ⌜ r ≡ offerTransitOf self class size hops eligible ⌝ }
     {
-        if !self.in_range() {
+        self.offer_transit_known(self.in_range(), class, size, hops, eligible)
+    }
+
+    // Takes a transit frame, where it is known whether the station is in range.
+    pub fn offer_transit_known(
+        self,
+        good: bool,
+        class: u64,
+        size: u64,
+        hops: u64,
+        eligible: u64,
+    ) -> Done
+        requires { ⌜ good ≡ test (stationOk self) ⌝ }
+        ensures { λ r. ⌜ r ≡ offerTransitOf self class size hops eligible ⌝ }
+    {
+        if !good {
             return self.refused(1);
         }
         let frame = frame_of(class, size, hops, eligible);
@@ -49,7 +73,15 @@ impl Station {
     pub fn offer_control(self, size: u64) -> Done
         ensures { λ r. ⌜ r ≡ offerControlOf self size ⌝ }
     {
-        if !self.in_range() {
+        self.offer_control_known(self.in_range(), size)
+    }
+
+    // Takes a control frame, where it is known whether the station is in range.
+    pub fn offer_control_known(self, good: bool, size: u64) -> Done
+        requires { ⌜ good ≡ test (stationOk self) ⌝ }
+        ensures { λ r. ⌜ r ≡ offerControlOf self size ⌝ }
+    {
+        if !good {
             return self.refused(1);
         }
         let frame = frame_of(0, size, 1, 0);

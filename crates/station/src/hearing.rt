@@ -1,5 +1,7 @@
 // Fairness frames: what one that is heard changes, and what the station tells.
 ghost use mathlib.Core.Path.{_≡_};
+ghost use Rattle.decide.specs.Test.{test};
+ghost use Rattle.station.specs.Range.{stationOk};
 ghost use Rattle.station.specs.Hear.{changedOf, listenOf, hearOf, notToldOf, tellOf};
 use crate::Done;
 use crate::Station;
@@ -8,13 +10,21 @@ use advert::Advert;
 use advert::Parsed;
 
 impl Station {
-    // Hears the bytes of a fairness frame. Their shape and the ringlet bit are looked at before the station's range.
+    // Hears the bytes of a fairness frame. What is wrong with their shape and the ringlet bit is told before the station's range.
     pub fn hear(self, frame: &[u8]) -> Done
+        ensures { λ r. ⌜ r ≡ hearOf self (now (frame .entry)) ⌝ }
+    {
+        self.hear_known(self.in_range(), frame)
+    }
+
+    // Hears the bytes of a fairness frame, where it is known whether the station is in range.
+    pub fn hear_known(self, good: bool, frame: &[u8]) -> Done
+        requires { ⌜ good ≡ test (stationOk self) ⌝ }
         ensures { λ r. ⌜ r ≡ hearOf self (now (frame .entry)) ⌝ }
     {
         let parsed = advert::parse(frame);
         match parsed {
-            Parsed::Frame(said) => self.listen(said),
+            Parsed::Frame(said) => self.listen(good, said),
             Parsed::Refused(_) => self.refused(2),
         }
     }
@@ -23,7 +33,15 @@ impl Station {
     pub fn tell(self) -> Told
         ensures { λ r. ⌜ r ≡ tellOf self ⌝ }
     {
-        if !self.in_range() {
+        self.tell_known(self.in_range())
+    }
+
+    // What the station tells, where it is known whether it is in range.
+    pub fn tell_known(self, good: bool) -> Told
+        requires { ⌜ good ≡ test (stationOk self) ⌝ }
+        ensures { λ r. ⌜ r ≡ tellOf self ⌝ }
+    {
+        if !good {
             return not_told(1);
         }
         let fair = self.fair;
@@ -36,13 +54,14 @@ impl Station {
     }
 
     // Hears what a whole frame says.
-    fn listen(self, said: Advert) -> Done
+    fn listen(self, good: bool, said: Advert) -> Done
+        requires { ⌜ good ≡ test (stationOk self) ⌝ }
         ensures { λ r. ⌜ r ≡ listenOf self said ⌝ }
     {
         if fair::is_own_ringlet(self.settings, said) {
             return self.refused(2);
         }
-        if !self.in_range() {
+        if !good {
             return self.refused(1);
         }
         if !fair::ttl_ok(said.ttl as u32) {

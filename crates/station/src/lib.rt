@@ -1,5 +1,6 @@
 // A station on one ringlet: settings, frames and credits, and the fairness state together. Every call takes any station and any numbers, refuses by
-// document 01's number, first fault first, and answers the station afterwards: unchanged where it refuses.
+// document 01's number, first fault first, and answers the station afterwards: unchanged where it refuses. A call whose name ends in `known` is told whether the
+// station is in range, by a caller that has tested it already.
 ghost use mathlib.Core.Path.{_≡_};
 ghost use Rattle.decide.specs.Test.{test};
 ghost use Rattle.station.specs.Range.{stationOk};
@@ -137,7 +138,15 @@ impl Station {
     pub fn tick(self, a: u64, b: u64, c: u64) -> Done
         ensures { λ r. ⌜ r ≡ tickOf self a b c ⌝ }
     {
-        if !self.in_range() {
+        self.tick_known(self.in_range(), a, b, c)
+    }
+
+    // A tick, where it is known whether the station is in range.
+    pub fn tick_known(self, good: bool, a: u64, b: u64, c: u64) -> Done
+        requires { ⌜ good ≡ test (stationOk self) ⌝ }
+        ensures { λ r. ⌜ r ≡ tickOf self a b c ⌝ }
+    {
+        if !good {
             return self.refused(1);
         }
         if !flags_ok(a, b, c) {
@@ -161,7 +170,15 @@ impl Station {
     pub fn age(self) -> Done
         ensures { λ r. ⌜ r ≡ ageOf self ⌝ }
     {
-        if !self.in_range() {
+        self.age_known(self.in_range())
+    }
+
+    // The end of an aging interval, where it is known whether the station is in range.
+    pub fn age_known(self, good: bool) -> Done
+        requires { ⌜ good ≡ test (stationOk self) ⌝ }
+        ensures { λ r. ⌜ r ≡ ageOf self ⌝ }
+    {
+        if !good {
             return self.refused(1);
         }
         let next = self.aged();

@@ -1,5 +1,7 @@
 // A reading of the station, for whoever watches it.
 ghost use mathlib.Core.Path.{_≡_};
+ghost use Rattle.decide.specs.Test.{test};
+ghost use Rattle.station.specs.Range.{stationOk};
 ghost use Rattle.station.specs.Show.{heldIn, heldOn, readingOf, blankOf, showOf};
 use crate::Held;
 use crate::Reading;
@@ -17,7 +19,15 @@ impl Station {
     pub fn show(self) -> Shown
         ensures { λ r. ⌜ r ≡ showOf self ⌝ }
     {
-        if !self.in_range() {
+        self.show_known(self.in_range())
+    }
+
+    // The reading of the station, where it is known whether it is in range.
+    pub fn show_known(self, good: bool) -> Shown
+        requires { ⌜ good ≡ test (stationOk self) ⌝ }
+        ensures { λ r. ⌜ r ≡ showOf self ⌝ }
+    {
+        if !good {
             let blank = Reading::blank();
             return Shown {
                 number: 1,

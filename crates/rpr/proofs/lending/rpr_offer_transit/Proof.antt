@@ -7,7 +7,7 @@ use Rattle.station.specs.declared.Station.{Station}
 use Rattle.station.specs.Offers.{givenFrame}
 use Rattle.layout.specs.Layout.{stationAt, pushedAt}
 use Rattle.rpr.specs.Station.{offerTransitAnswer, offerTransitAfter}
-use Rattle.rpr.proofs.Given.{not-whole}
+use Rattle.rpr.proofs.Given.{not-whole, range-known}
 use Rattle.rpr.proofs.Written.{done-refused, done-carried, offer-written}
 use borrow.Author.Needs.{needs}
 use Rattle.rpr.proofs.lending.rpr_offer_transit.Statement.{statement}
@@ -17,11 +17,14 @@ returns : tie.Need-returns
 unfolding offerTransitAnswer offerTransitAfter
 returns c = let xs = c .before .before .args .station .now in not-whole _ xs _ _ _ _ (c .if1 .taken)
 
+in-range-requires : tie.Need-in-range-requires
+in-range-requires c κs = search needs
+
 read-requires : tie.Need-read-requires
 read-requires c κs = search needs
 
-offer-transit-requires : tie.Need-offer-transit-requires
-offer-transit-requires c κs = search needs
+offer-transit-known-requires : tie.Need-offer-transit-known-requires
+offer-transit-known-requires c κs = range-known _ _ (c .before .before .before .in-range .ensures) (c .before .read .ensures)
 
 cast-result : tie.Need-cast-result
 cast-result c = search needs
@@ -34,8 +37,8 @@ unfolding offerTransitAnswer offerTransitAfter
 returns-2 c =
     let called : _ = c .before .before .before in
     let read : _ = called .before .before in
-    let tested : _ = read .before .before in
-    let said = rw (read .read .ensures) at (called .offer-transit .ensures) in
+    let tested : _ = read .before .before .before .before in
+    let said = rw (read .read .ensures) at (called .offer-transit-known .ensures) in
     done-refused (tested .before .before .args .station .now) _ (tested .if1 .left) _ _ said (c .before .if2 .taken)
 
 queue-for-requires : tie.Need-queue-for-requires
@@ -55,12 +58,12 @@ returns-3 c =
     let left : _ = lined .before in
     let called : _ = left .before .before in
     let read : _ = called .before .before in
-    let tested : _ = read .before .before in
+    let tested : _ = read .before .before .before .before in
     let a : _ = tested .before .before .args in
     let xs : _ = a .station .now in
     let l : _ = queueFor (stationAt xs .settings) (a .class) in
     let x : _ = givenFrame (a .class) (a .size) (a .hops) (a .eligible) in
-    let said = rw (read .read .ensures) at (called .offer-transit .ensures) in
+    let said = rw (read .read .ensures) at (called .offer-transit-known .ensures) in
     let there = pushed .push-frame .ensures ∙ ap (λ (m : Line). pushedAt xs m x) (rw (read .read .ensures) at (lined .queue-for .ensures)) in
     done-carried xs _ (tested .if1 .left) _ _ said (left .if2 .left) (λ (st : Station). pushedAt xs l x)
     (offer-written xs (λ j. tested .before .slice-known .given j .fits) (tested .if1 .left) l x) there
@@ -70,8 +73,9 @@ rpr-offer-transit-spec =
     tie.close
     (tie.spec
     returns
+    in-range-requires
     read-requires
-    offer-transit-requires
+    offer-transit-known-requires
     cast-result
     same-length
     returns-2

@@ -17,9 +17,6 @@ returns : tie.Need-returns
 unfolding selectAnswer selectAfter
 returns c = let xs = c .before .before .args .station .now in not-whole _ xs _ _ _ _ (c .if1 .taken)
 
-read-requires : tie.Need-read-requires
-read-requires c κs = search needs
-
 in-range-requires : tie.Need-in-range-requires
 in-range-requires c κs = search needs
 
@@ -30,9 +27,9 @@ returns-2 : tie.Need-returns-2
 unfolding selectAnswer selectAfter
 returns-2 c =
     let asked : _ = c .before in
-    let tested : _ = asked .before .before .before in
+    let tested : _ = asked .before .before in
     let xs : _ = tested .before .before .args .station .now in
-    let out = rw (asked .before .read .ensures) at (taken (stationOk _) (asked .in-range .ensures) (c .if2 .taken)) in
+    let out = taken (stationOk _) (asked .in-range .ensures) (c .if2 .taken) in
     select-refused xs (tested .if1 .left) (stationAt xs) _ _ out
 
 pick-requires : tie.Need-pick-requires
@@ -47,9 +44,9 @@ returns-3 c =
     let called : _ = c .before .before in
     let ranged : _ = called .before .before in
     let asked : _ = ranged .before in
-    let tested : _ = asked .before .before .before in
+    let tested : _ = asked .before .before in
     let xs : _ = tested .before .before .args .station .now in
-    let o = rw (asked .before .read .ensures) at (left (stationOk _) (asked .in-range .ensures) (ranged .if2 .left)) in
+    let o = left (stationOk _) (asked .in-range .ensures) (ranged .if2 .left) in
     let none = nothing-chosen (stationAt xs) o (rw (called .pick .ensures) at (c .if3 .taken)) in
     select-given xs (tested .if1 .left) (stationAt xs) _ _ o (none .0)
     (sym (bytes-of-state xs (λ j. tested .before .slice-known .given j .fits) (tested .if1 .left)) ∙ ap stationBytes (none .1))
@@ -83,11 +80,11 @@ returns-4 c =
     let called : _ = moved .before .before in
     let ranged : _ = called .before .before in
     let asked : _ = ranged .before in
-    let tested : _ = asked .before .before .before in
+    let tested : _ = asked .before .before in
     let xs : _ = tested .before .before .args .station .now in
     let said = called .pick .ensures in
     let all = rw (stage .write-stage .ensures, credits .write-credits .ensures, queue .take-frame .ensures) at (counters .write-counters .ensures) in
-    select-given xs (tested .if1 .left) (stationAt xs) _ _ (rw (asked .before .read .ensures) at (left (stationOk _) (asked .in-range .ensures) (ranged .if2 .left)))
+    select-given xs (tested .if1 .left) (stationAt xs) _ _ (left (stationOk _) (asked .in-range .ensures) (ranged .if2 .left))
     (rw said at (c .selected .ensures))
     (rw said at all ∙ select-written xs (λ j. tested .before .slice-known .given j .fits) (tested .if1 .left))
 
@@ -96,7 +93,6 @@ rpr-select-spec =
     tie.close
     (tie.spec
     returns
-    read-requires
     in-range-requires
     same-length
     returns-2

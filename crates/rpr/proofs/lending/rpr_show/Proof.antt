@@ -3,7 +3,7 @@
 use mathlib.Core.Path.{_∙_}
 use Rattle.rpr.specs.Station.{showAnswer, showAfter}
 use Rattle.rpr.proofs.Shape.{turned-down, taken-on}
-use Rattle.rpr.proofs.Given.{not-whole, then-not-whole, then-whole-gives, shown-back}
+use Rattle.rpr.proofs.Given.{not-whole, range-known, then-not-whole, then-whole-gives, shown-back}
 use borrow.Author.Needs.{needs}
 use Rattle.rpr.proofs.lending.rpr_show.Statement.{statement}
 use Rattle.rpr.proofs.lending.rpr_show.Tie as tie
@@ -18,11 +18,14 @@ returns-2 c =
     let lent : _ = c .before .before .before .before .args in
     then-not-whole _ (lent .room .now) _ _ _ _ _ (lent .station .now) (c .before .if1 .left) (c .if2 .taken)
 
+in-range-requires : tie.Need-in-range-requires
+in-range-requires c κs = search needs
+
 read-requires : tie.Need-read-requires
 read-requires c κs = search needs
 
-show-requires : tie.Need-show-requires
-show-requires c κs = search needs
+show-known-requires : tie.Need-show-known-requires
+show-known-requires c κs = range-known _ _ (c .before .in-range .ensures) (c .read .ensures)
 
 cast-result : tie.Need-cast-result
 cast-result c = search needs
@@ -31,9 +34,9 @@ returns-3 : tie.Need-returns-3
 unfolding showAnswer showAfter
 returns-3 c =
     let called : _ = c .before .before .before in
-    let tested : _ = called .before .before in
+    let tested : _ = called .before .before .before in
     let lent : _ = tested .before .before .before .before .args in
-    let said = rw (called .before .read .ensures) at (called .show .ensures) in
+    let said = rw (called .before .read .ensures) at (called .show-known .ensures) in
     then-whole-gives _ (lent .room .now) _ (tested .if2 .left) _ _ _ _ (lent .station .now) (tested .before .if1 .left)
     (shown-back _ _ _ _ said (turned-down _ _ _ _ (c .before .if3 .taken)))
 
@@ -48,9 +51,9 @@ unfolding showAnswer showAfter
 returns-4 c =
     let left : _ = c .before .before .before .before .before in
     let called : _ = left .before .before in
-    let tested : _ = called .before .before in
+    let tested : _ = called .before .before .before in
     let lent : _ = tested .before .before .before .before .args in
-    let said = rw (called .before .read .ensures) at (called .show .ensures) in
+    let said = rw (called .before .read .ensures) at (called .show-known .ensures) in
     let on = taken-on _ _ _ _ (left .if3 .left) in
     then-whole-gives _ (lent .room .now) _ (tested .if2 .left) _ _ _ _ (lent .station .now) (tested .before .if1 .left)
     (shown-back _ _ _ _ said (on .0, c .before .before .write-reading .ensures ∙ on .1))
@@ -58,4 +61,4 @@ returns-4 c =
 pub rpr-show-spec : {M : Type 1} → statement M
 rpr-show-spec =
     tie.close
-    (tie.spec returns returns-2 read-requires show-requires cast-result returns-3 write-reading-requires same-length returns-4)
+    (tie.spec returns returns-2 in-range-requires read-requires show-known-requires cast-result returns-3 write-reading-requires same-length returns-4)

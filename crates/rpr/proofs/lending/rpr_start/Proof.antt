@@ -20,19 +20,19 @@ returns-2 c =
     let given : _ = c .before .before .before .before .args in
     then-not-whole _ (given .station .now) _ _ _ _ _ (given .settings .now) (c .before .if1 .left) (c .if2 .taken)
 
-read-requires : tie.Need-read-requires
-read-requires c κs = search needs
-
-in-range-requires : tie.Need-in-range-requires
-in-range-requires c κs = search needs
+in-range-at-requires : tie.Need-in-range-at-requires
+in-range-at-requires c κs = search needs
 
 returns-3 : tie.Need-returns-3
 unfolding startAnswer startAfter
 returns-3 c =
-    let tested : _ = c .before .before .before in
+    let tested : _ = c .before .before in
     let given : _ = tested .before .before .before .before .args in
-    let out = rw (c .before .before .read .ensures) at (taken (settingsOk _) (c .before .in-range .ensures) (c .if3 .taken)) in
+    let out = taken (settingsOk _) (c .before .in-range-at .ensures) (c .if3 .taken) in
     start-refused (given .settings .now) (given .station .now) (tested .before .if1 .left) (tested .if2 .left) _ out
+
+read-requires : tie.Need-read-requires
+read-requires c κs = search needs
 
 fresh-requires : tie.Need-fresh-requires
 fresh-requires c κs = search needs
@@ -49,9 +49,9 @@ returns-4 c =
     let made : _ = c .before .before .before .before in
     let tested : _ = made .before .before .before .before in
     let given : _ = tested .before .before .before .before .args in
-    let fits = rw (made .before .before .before .read .ensures) at (left (settingsOk _) (made .before .before .in-range .ensures) (made .before .if3 .left)) in
+    let fits = left (settingsOk _) (made .before .before .before .in-range-at .ensures) (made .before .before .if3 .left) in
     let gives = start-done (given .settings .now) (given .station .now) (tested .before .if1 .left) (tested .if2 .left) _ fits in
-    let fresh = rw (made .before .before .before .read .ensures) at (made .fresh .ensures) in
+    let fresh = rw (made .before .read .ensures) at (made .fresh .ensures) in
     (gives .0, c .before .before .write .ensures ∙ ap stationBytes fresh ∙ gives .1)
 
 pub rpr-start-spec : {M : Type 1} → statement M
@@ -60,9 +60,9 @@ rpr-start-spec =
     (tie.spec
     returns
     returns-2
-    read-requires
-    in-range-requires
+    in-range-at-requires
     returns-3
+    read-requires
     fresh-requires
     write-requires
     same-length

@@ -20,16 +20,13 @@ returns c = let x = c .before .before .before .args in
     let st = x .self in
     c .refused .ensures ∙ sym (listen-own st (x .said) (sym (c .before .before .is-own-ringlet .ensures) ∙ c .before .if1 .taken))
 
-in-range-requires : tie.Need-in-range-requires
-in-range-requires c κs = search needs
-
 refused-requires-2 : tie.Need-refused-requires-2
 refused-requires-2 c κs = search needs
 
 returns-2 : tie.Need-returns-2
-returns-2 c = let x = c .before .before .before .before .before .args in
+returns-2 c = let x = c .before .before .before .before .args in
     let st = x .self in
-    c .refused2 .ensures ∙ sym (listen-lost st (x .said) (sym (c .before .before .before .before .is-own-ringlet .ensures) ∙ c .before .before .before .if1 .left) (taken (stationOk st) (c .before .before .in-range .ensures) (c .before .if2 .taken)))
+    c .refused2 .ensures ∙ sym (listen-lost st (x .said) (sym (c .before .before .before .is-own-ringlet .ensures) ∙ c .before .before .if1 .left) (taken (stationOk st) (c .before .before .before .before .pre) (c .before .if2 .taken)))
 
 cast-ttl-ok : tie.Need-cast-ttl-ok
 cast-ttl-ok c = search needs
@@ -41,9 +38,9 @@ refused-requires-3 : tie.Need-refused-requires-3
 refused-requires-3 c κs = search needs
 
 returns-3 : tie.Need-returns-3
-returns-3 c = let x = c .before .before .before .before .before .before .before .before .args in
+returns-3 c = let x = c .before .before .before .before .before .before .before .args in
     let st = x .self in
-    c .refused3 .ensures ∙ sym (listen-far st (x .said) (sym (c .before .before .before .before .before .before .before .is-own-ringlet .ensures) ∙ c .before .before .before .before .before .before .if1 .left) (left (stationOk st) (c .before .before .before .before .before .in-range .ensures) (c .before .before .before .before .if2 .left)) (taken (ttlOk (x .said .ttl)) (c .before .before .ttl-ok .ensures) (c .before .if3 .taken)))
+    c .refused3 .ensures ∙ sym (listen-far st (x .said) (sym (c .before .before .before .before .before .before .is-own-ringlet .ensures) ∙ c .before .before .before .before .before .if1 .left) (left (stationOk st) (c .before .before .before .before .before .before .before .pre) (c .before .before .before .before .if2 .left)) (taken (ttlOk (x .said .ttl)) (c .before .before .ttl-ok .ensures) (c .before .if3 .taken)))
 
 is-own-address-requires : tie.Need-is-own-address-requires
 is-own-address-requires c κs = search needs
@@ -52,9 +49,9 @@ refused-requires-4 : tie.Need-refused-requires-4
 refused-requires-4 c κs = search needs
 
 returns-4 : tie.Need-returns-4
-returns-4 c = let x = c .before .before .before .before .before .before .before .before .before .before .args in
+returns-4 c = let x = c .before .before .before .before .before .before .before .before .before .args in
     let st = x .self in
-    c .refused4 .ensures ∙ sym (listen-self st (x .said) (sym (c .before .before .before .before .before .before .before .before .before .is-own-ringlet .ensures) ∙ c .before .before .before .before .before .before .before .before .if1 .left) (left (stationOk st) (c .before .before .before .before .before .before .before .in-range .ensures) (c .before .before .before .before .before .before .if2 .left)) (left (ttlOk (x .said .ttl)) (c .before .before .before .before .ttl-ok .ensures) (c .before .before .before .if3 .left)) (sym (c .before .before .is-own-address .ensures) ∙ c .before .if4 .taken))
+    c .refused4 .ensures ∙ sym (listen-self st (x .said) (sym (c .before .before .before .before .before .before .before .before .is-own-ringlet .ensures) ∙ c .before .before .before .before .before .before .before .if1 .left) (left (stationOk st) (c .before .before .before .before .before .before .before .before .before .pre) (c .before .before .before .before .before .before .if2 .left)) (left (ttlOk (x .said .ttl)) (c .before .before .before .before .ttl-ok .ensures) (c .before .before .before .if3 .left)) (sym (c .before .before .is-own-address .ensures) ∙ c .before .if4 .taken))
 
 changed-requires : tie.Need-changed-requires
 changed-requires c κs = search needs
@@ -63,10 +60,10 @@ done-requires : tie.Need-done-requires
 done-requires c κs = search needs
 
 returns-5 : tie.Need-returns-5
-returns-5 c = let x = c .before .before .before .before .before .before .before .before .before .before .before .args in
+returns-5 c = let x = c .before .before .before .before .before .before .before .before .before .before .args in
     let st = x .self in
     c .done .ensures
-    ∙ rw (c .before .changed .ensures) (sym (listen-done st (x .said) (sym (c .before .before .before .before .before .before .before .before .before .before .is-own-ringlet .ensures) ∙ c .before .before .before .before .before .before .before .before .before .if1 .left) (left (stationOk st) (c .before .before .before .before .before .before .before .before .in-range .ensures) (c .before .before .before .before .before .before .before .if2 .left)) (left (ttlOk (x .said .ttl)) (c .before .before .before .before .before .ttl-ok .ensures) (c .before .before .before .before .if3 .left)) (sym (c .before .before .before .is-own-address .ensures) ∙ c .before .before .if4 .left)))
+    ∙ rw (c .before .changed .ensures) (sym (listen-done st (x .said) (sym (c .before .before .before .before .before .before .before .before .before .is-own-ringlet .ensures) ∙ c .before .before .before .before .before .before .before .before .if1 .left) (left (stationOk st) (c .before .before .before .before .before .before .before .before .before .before .pre) (c .before .before .before .before .before .before .before .if2 .left)) (left (ttlOk (x .said .ttl)) (c .before .before .before .before .before .ttl-ok .ensures) (c .before .before .before .before .if3 .left)) (sym (c .before .before .before .is-own-address .ensures) ∙ c .before .before .if4 .left)))
 
 pub listen-spec : {M : Type 1} → statement M
 listen-spec =
@@ -75,7 +72,6 @@ listen-spec =
     is-own-ringlet-requires
     refused-requires
     returns
-    in-range-requires
     refused-requires-2
     returns-2
     cast-ttl-ok

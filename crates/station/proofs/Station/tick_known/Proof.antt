@@ -6,19 +6,16 @@ use Rattle.station.specs.Range.{stationOk}
 use Rattle.station.specs.Calls.{flagsOk}
 use Rattle.station.proofs.Calls.{tick-lost, tick-coded, tick-done}
 use borrow.Author.Needs.{needs}
-use Rattle.station.proofs.Station.tick.Statement.{statement}
-use Rattle.station.proofs.Station.tick.Tie as tie
-
-in-range-requires : tie.Need-in-range-requires
-in-range-requires c κs = search needs
+use Rattle.station.proofs.Station.tick_known.Statement.{statement}
+use Rattle.station.proofs.Station.tick_known.Tie as tie
 
 refused-requires : tie.Need-refused-requires
 refused-requires c κs = search needs
 
 returns : tie.Need-returns
-returns c = let x = c .before .before .before .args in
+returns c = let x = c .before .before .args in
     let st = x .self in
-    c .refused .ensures ∙ sym (tick-lost st (x .a) (x .b) (x .c) (taken (stationOk st) (c .before .before .in-range .ensures) (c .before .if1 .taken)))
+    c .refused .ensures ∙ sym (tick-lost st (x .a) (x .b) (x .c) (taken (stationOk st) (c .before .before .pre) (c .before .if1 .taken)))
 
 flags-ok-requires : tie.Need-flags-ok-requires
 flags-ok-requires c κs = search needs
@@ -27,12 +24,12 @@ refused-requires-2 : tie.Need-refused-requires-2
 refused-requires-2 c κs = search needs
 
 returns-2 : tie.Need-returns-2
-returns-2 c = let x = c .before .before .before .before .before .args in
+returns-2 c = let x = c .before .before .before .before .args in
     let st = x .self in
     c .refused2 .ensures
     ∙ sym
     (tick-coded st (x .a) (x .b) (x .c)
-    (left (stationOk st) (c .before .before .before .before .in-range .ensures) (c .before .before .before .if1 .left))
+    (left (stationOk st) (c .before .before .before .before .pre) (c .before .before .before .if1 .left))
     (taken (flagsOk (x .a) (x .b) (x .c)) (c .before .before .flags-ok .ensures) (c .before .if2 .taken)))
 
 ticked-requires : tie.Need-ticked-requires
@@ -42,20 +39,19 @@ done-requires : tie.Need-done-requires
 done-requires c κs = search needs
 
 returns-3 : tie.Need-returns-3
-returns-3 c = let x = c .before .before .before .before .before .before .args in
+returns-3 c = let x = c .before .before .before .before .before .args in
     let st = x .self in
     c .done .ensures
     ∙ rw (c .before .ticked .ensures)
     (sym
     (tick-done st (x .a) (x .b) (x .c)
-    (left (stationOk st) (c .before .before .before .before .before .in-range .ensures) (c .before .before .before .before .if1 .left))
+    (left (stationOk st) (c .before .before .before .before .before .pre) (c .before .before .before .before .if1 .left))
     (left (flagsOk (x .a) (x .b) (x .c)) (c .before .before .before .flags-ok .ensures) (c .before .before .if2 .left))))
 
-pub tick-spec : {M : Type 1} → statement M
-tick-spec =
+pub tick-known-spec : {M : Type 1} → statement M
+tick-known-spec =
     tie.close
     (tie.spec
-    in-range-requires
     refused-requires
     returns
     flags-ok-requires

@@ -5,8 +5,8 @@ use denote.Ref.{now}
 use Rattle.station.specs.Hear.{listenOf}
 use Rattle.station.proofs.Hear.{frame-found, none-found, hear-not-whole, hear-whole}
 use borrow.Author.Needs.{needs}
-use Rattle.station.proofs.Station.hear.Statement.{statement}
-use Rattle.station.proofs.Station.hear.Tie as tie
+use Rattle.station.proofs.Station.hear_known.Statement.{statement}
+use Rattle.station.proofs.Station.hear_known.Tie as tie
 
 parse-requires : tie.Need-parse-requires
 parse-requires c κs = search needs
@@ -34,8 +34,8 @@ returns-2 c = let x = c .before .before .before .before .before .args in
     let xs : _ = now (x .frame) in
     c .refused .ensures ∙ sym (hear-not-whole (x .self) xs (none-found xs _ (sym (c .before .before .before .parse .ensures) ∙ c .before .enum-told .given .1)))
 
-pub hear-spec : {M : Type 1} → statement M
-hear-spec =
+pub hear-known-spec : {M : Type 1} → statement M
+hear-known-spec =
     tie.close
     (tie.spec
     parse-requires

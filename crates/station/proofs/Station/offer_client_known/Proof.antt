@@ -9,27 +9,24 @@ use Rattle.station.specs.Range.{stationOk}
 use Rattle.station.specs.Offers.{clientFor}
 use Rattle.station.proofs.Offers.{cut-tested, cut-given, client-lost, client-coded, client-staged}
 use borrow.Author.Needs.{needs}
-use Rattle.station.proofs.Station.offer_client.Statement.{statement}
-use Rattle.station.proofs.Station.offer_client.Tie as tie
+use Rattle.station.proofs.Station.offer_client_known.Statement.{statement}
+use Rattle.station.proofs.Station.offer_client_known.Tie as tie
 
 -- the station is in range,
-in-range : (c : tie.After-frame-of) → test (stationOk (c .before .before .before .args .self)) ≡ true
-in-range c = left (stationOk (c .before .before .before .args .self)) (c .before .before .in-range .ensures) (c .before .if1 .left)
+in-range : (c : tie.After-frame-of) → test (stationOk (c .before .before .args .self)) ≡ true
+in-range c = left (stationOk (c .before .before .args .self)) (c .before .before .pre) (c .before .if1 .left)
 
 -- and so is the frame
-frame-in-range : (c : tie.Else2) → test (frameOk (boundsOf (c .before .before .before .before .before .args .self .settings)) (c .before .before .frame-of .result)) ≡ true
-frame-in-range c = left (frameOk (boundsOf (c .before .before .before .before .before .args .self .settings)) (c .before .before .frame-of .result)) (c .before .frame-ok .ensures) (c .if2 .left)
-
-in-range-requires : tie.Need-in-range-requires
-in-range-requires c κs = search needs
+frame-in-range : (c : tie.Else2) → test (frameOk (boundsOf (c .before .before .before .before .args .self .settings)) (c .before .before .frame-of .result)) ≡ true
+frame-in-range c = left (frameOk (boundsOf (c .before .before .before .before .args .self .settings)) (c .before .before .frame-of .result)) (c .before .frame-ok .ensures) (c .if2 .left)
 
 turned-down-requires : tie.Need-turned-down-requires
 turned-down-requires c κs = search needs
 
 returns : tie.Need-returns
-returns c = let x = c .before .before .before .args in
+returns c = let x = c .before .before .args in
     let st = x .self in
-    c .turned-down .ensures ∙ sym (client-lost st (x .class) (x .size) (x .hops) (taken (stationOk st) (c .before .before .in-range .ensures) (c .before .if1 .taken)))
+    c .turned-down .ensures ∙ sym (client-lost st (x .class) (x .size) (x .hops) (taken (stationOk st) (c .before .before .pre) (c .before .if1 .taken)))
 
 frame-of-requires : tie.Need-frame-of-requires
 frame-of-requires c κs = search needs
@@ -42,7 +39,7 @@ turned-down-requires-2 c κs = search needs
 
 returns-2 : tie.Need-returns-2
 returns-2 c = let q = c .before .before .before in
-    let x = q .before .before .before .args in
+    let x = q .before .before .args in
     let st = x .self in
     c .turned-down2 .ensures ∙ sym (client-coded st (x .class) (x .size) (x .hops) (in-range q) (cut-tested st (in-range q) (x .class) (x .size) (x .hops) 0 (q .frame-of .result) (q .frame-of .ensures) false (taken (frameOk (boundsOf (st .settings)) (q .frame-of .result)) (c .before .before .frame-ok .ensures) (c .before .if2 .taken))))
 
@@ -51,17 +48,16 @@ client-requires c κs = search needs
 
 returns-3 : tie.Need-returns-3
 returns-3 c = let q = c .before .before .before in
-    let x = q .before .before .before .args in
+    let x = q .before .before .args in
     let st = x .self in
     c .client .ensures
     ∙ ap (clientFor st) (cut-given st (in-range q) (x .class) (x .size) (x .hops) 0 (q .frame-of .result) (q .frame-of .ensures) (frame-in-range (c .before)))
     ∙ sym (client-staged st (x .class) (x .size) (x .hops) (in-range q) (cut-tested st (in-range q) (x .class) (x .size) (x .hops) 0 (q .frame-of .result) (q .frame-of .ensures) true (frame-in-range (c .before))))
 
-pub offer-client-spec : {M : Type 1} → statement M
-offer-client-spec =
+pub offer-client-known-spec : {M : Type 1} → statement M
+offer-client-known-spec =
     tie.close
     (tie.spec
-    in-range-requires
     turned-down-requires
     returns
     frame-of-requires
