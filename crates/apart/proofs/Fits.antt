@@ -12,7 +12,8 @@ use Rattle.wire.proofs.Numbers.{le-bound}
 use Rattle.wire.proofs.Places.{bytes-drop}
 use Rattle.shaper.specs.Kind.{numberOf, eventOf}
 use Rattle.record.specs.Read.{kindAt, numberAt}
-use Rattle.window.specs.Events.{eventIn}
+use Rattle.window.specs.Window.{mostIn}
+use Rattle.window.specs.Events.{countIn, eventIn}
 use Rattle.apart.specs.Told.{differ}
 use Rattle.apart.specs.Text.{bothText}
 use Rattle.apart.specs.Page.{lineIf, stacked, pairText, restText}
@@ -47,3 +48,8 @@ unfolding stacked
 stacked-fits text zero short = omega arith
 stacked-fits text (suc m) short =
     omega (arith, length-append (stacked text m) (text m), short m (omega arith), stacked-fits text m (λ k h. short k (omega arith)))
+
+-- a window has at most 5,000 events: cited, so that `omega` need not take `countIn` apart at each use
+pub counted : (w : List ℕ) → countIn w ≤ mostIn
+unfolding countIn
+counted w = omega arith

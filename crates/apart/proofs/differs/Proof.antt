@@ -1,23 +1,22 @@
 -- Kind or number differs, by the kinds and numbers that were asked for.
 -- Assumes nothing.
 use mathlib.Core.Path.{_≡_}
-use borrow.Author.Needs.{needs}
 use Rattle.shaper.specs.Kind.{kindOf, numberOf}
 use Rattle.apart.specs.Told.{differ}
 use Rattle.apart.proofs.differs.Statement.{statement}
 use Rattle.apart.proofs.differs.Tie as tie
 
 kind-requires : tie.Need-kind-requires
-kind-requires c κs = search needs
+kind-requires c κs = tt
 
 kind-requires-2 : tie.Need-kind-requires-2
-kind-requires-2 c κs = search needs
+kind-requires-2 c κs = tt
 
 number-requires : tie.Need-number-requires
-number-requires c κs = search needs
+number-requires c κs = tt
 
 number-requires-2 : tie.Need-number-requires-2
-number-requires-2 c κs = search needs
+number-requires-2 c κs = tt
 
 returns : tie.Need-returns
 unfolding differ

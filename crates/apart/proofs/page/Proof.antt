@@ -9,19 +9,19 @@ use lib.ListN.{length}
 use borrow.Author.Needs.{needs}
 use Rattle.wire.specs.Wire.{Bytes}
 use Rattle.wire.proofs.Puts.{put-nil}
-use Rattle.window.specs.Window.{mostIn}
 use Rattle.window.specs.Events.{countIn}
 use Rattle.window.proofs.Equal.{alike-exactly}
 use Rattle.report.proofs.Filled.{filled-more}
 use Rattle.apart.specs.Text.{firstWords, secondWords}
 use Rattle.apart.specs.Page.{stacked, pairText}
 use Rattle.apart.proofs.Lengths.{filled-length, filled-front}
+use Rattle.apart.proofs.Fits.{counted}
 use Rattle.apart.proofs.Paged.{page-same, page-first, page-second, pairs-fit, rest-fit}
 use Rattle.apart.proofs.page.Statement.{statement}
 use Rattle.apart.proofs.page.Tie as tie
 
 alike-requires : tie.Need-alike-requires
-alike-requires c κs = search needs
+alike-requires c κs = tt
 
 returns : tie.Need-returns
 returns c =
@@ -30,15 +30,10 @@ returns c =
     rw (← same, page-same (a .from) (a .first .now)) (refl, sym (put-nil _ _))
 
 count-requires : tie.Need-count-requires
-count-requires c κs = search needs
+count-requires c κs = tt
 
 count-requires-2 : tie.Need-count-requires-2
-count-requires-2 c κs = search needs
-
--- a window has at most 5,000 events
-counted : (w : List ℕ) → countIn w ≤ mostIn
-unfolding countIn
-counted w = omega arith
+count-requires-2 c κs = tt
 
 -- the bytes of both windows
 first-bytes : (c : tie.After-count) → Bytes (c .before .before .before .before .before .before .args .first .now)

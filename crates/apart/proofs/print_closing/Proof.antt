@@ -8,7 +8,7 @@ use Rattle.apart.proofs.print_closing.Statement.{statement}
 use Rattle.apart.proofs.print_closing.Tie as tie
 
 closing-requires : tie.Need-closing-requires
-closing-requires c κs = search needs
+closing-requires c κs = tt
 
 array-share-prefix-room : tie.Need-array-share-prefix-room
 array-share-prefix-room c = filled-within _ _ _ _ (c .closing .ensures)
@@ -17,7 +17,7 @@ slice-aggregate-write-all : tie.Need-slice-aggregate-write-all
 slice-aggregate-write-all c = sym (length-take-le _ _ (filled-within _ _ _ _ (c .before .closing .ensures)))
 
 write-all-requires : tie.Need-write-all-requires
-write-all-requires c κs = search needs
+write-all-requires c κs = tt
 
 returns : tie.Need-returns
 returns c = search needs

@@ -8,7 +8,7 @@ use Rattle.apart.proofs.print_opening.Statement.{statement}
 use Rattle.apart.proofs.print_opening.Tie as tie
 
 opening-requires : tie.Need-opening-requires
-opening-requires c κs = search needs
+opening-requires c κs = tt
 
 array-share-prefix-room : tie.Need-array-share-prefix-room
 array-share-prefix-room c = filled-within _ _ _ _ (c .opening .ensures)
@@ -17,7 +17,7 @@ slice-aggregate-write-all : tie.Need-slice-aggregate-write-all
 slice-aggregate-write-all c = sym (length-take-le _ _ (filled-within _ _ _ _ (c .before .opening .ensures)))
 
 write-all-requires : tie.Need-write-all-requires
-write-all-requires c κs = search needs
+write-all-requires c κs = tt
 
 returns : tie.Need-returns
 returns c = search needs

@@ -10,7 +10,7 @@ use Rattle.apart.proofs.put_if.Statement.{statement}
 use Rattle.apart.proofs.put_if.Tie as tie
 
 differs-requires : tie.Need-differs-requires
-differs-requires c κs = search needs
+differs-requires c κs = tt
 
 put-both-requires : tie.Need-put-both-requires
 put-both-requires c κs =

@@ -9,7 +9,7 @@ use Rattle.wire.proofs.Puts.{put-nil}
 use Rattle.window.specs.Events.{countIn}
 use Rattle.report.proofs.Filled.{Filled}
 use Rattle.apart.specs.Page.{lineIf, stacked, pairText}
-use Rattle.apart.proofs.Fits.{pair-fits, stacked-fits}
+use Rattle.apart.proofs.Fits.{pair-fits, stacked-fits, counted}
 use Rattle.apart.proofs.Stacked.{stacked-none, filled-next}
 use Rattle.apart.proofs.put_pairs.Statement.{statement}
 use Rattle.apart.proofs.put_pairs.Tie as tie
@@ -29,9 +29,9 @@ line-of c = rw (c .before .before .event-in .ensures, c .before .event-in2 .ensu
 -- the lines so far, and the next one, fit
 next-fits : (c : tie.After-put-if-arg Inv-loop μ-loop) → let l = c .before .before .before .before .loop in
     l .end + length (lineIf (c .before .before .before .before .before .before .before .before .args .from + l .k) (c .before .before .event-in .result) (c .before .event-in2 .result)) ≤ length (l .s)
-unfolding countIn
 next-fits c =
     let a = c .before .before .before .before .before .before .before .before .args in
+    let few = counted (a .first .now) in
     let l = c .before .before .before .before .loop in
     let b : Bytes (a .first .now) = λ j. c .before .before .before .before .before .before .shared-slice-known .given j .fits in
     let d : Bytes (a .second .now) = λ j. c .before .before .before .before .before .shared-slice-known2 .given j .fits in

@@ -10,7 +10,7 @@ use Rattle.window.specs.Events.{countIn}
 use Rattle.report.proofs.Filled.{Filled}
 use Rattle.apart.specs.Text.{onlyText}
 use Rattle.apart.specs.Page.{stacked, restText}
-use Rattle.apart.proofs.Fits.{rest-fits, stacked-fits}
+use Rattle.apart.proofs.Fits.{rest-fits, stacked-fits, counted}
 use Rattle.apart.proofs.Stacked.{stacked-none, filled-next}
 use Rattle.apart.proofs.put_rest.Statement.{statement}
 use Rattle.apart.proofs.put_rest.Tie as tie
@@ -30,9 +30,9 @@ line-of c = rw (c .before .event-in .ensures)
 -- the lines so far, and the next one, fit
 next-fits : (c : tie.After-put-only-arg Inv-loop μ-loop) → let a = c .before .before .before .before .before .before .before .args in let l = c .before .before .before .loop in
     l .end + length (onlyText (a .words .now) (a .from + (a .done + l .k)) (c .before .event-in .result)) ≤ length (l .s)
-unfolding countIn
 next-fits c =
     let a = c .before .before .before .before .before .before .before .args in
+    let few = counted (a .window .now) in
     let l = c .before .before .before .loop in
     let b : Bytes (a .window .now) = λ j. c .before .before .before .before .shared-slice-known2 .given j .fits in
     let short = rest-fits (a .words .now) (a .from) (a .window .now) (a .done) b (c .before .before .before .before .before .before .before .pre .1) in

@@ -1,15 +1,14 @@
 -- The code is the test, comparison for comparison.
 -- Assumes nothing.
-use borrow.Author.Needs.{needs}
 use Rattle.decide.specs.Test.{test}
 use Rattle.flow.proofs.stage_ok.Statement.{statement}
 use Rattle.flow.proofs.stage_ok.Tie as tie
 
 of-requires : tie.Need-of-requires
-of-requires c κs = search needs
+of-requires c κs = tt
 
 in-range-requires : tie.Need-in-range-requires
-in-range-requires c κs = search needs
+in-range-requires c κs = tt
 
 returns : tie.Need-returns
 unfolding test

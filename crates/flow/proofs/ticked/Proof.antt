@@ -1,14 +1,13 @@
 -- The shaper's tick, with these limits.
 -- Assumes nothing.
-use borrow.Author.Needs.{needs}
 use Rattle.flow.proofs.ticked.Statement.{statement}
 use Rattle.flow.proofs.ticked.Tie as tie
 
 limits-requires : tie.Need-limits-requires
-limits-requires c κs = search needs
+limits-requires c κs = tt
 
 tick-requires : tie.Need-tick-requires
-tick-requires c κs = search needs
+tick-requires c κs = tt
 
 returns : tie.Need-returns
 returns c = rw (c .tick .ensures, c .before .limits .ensures)

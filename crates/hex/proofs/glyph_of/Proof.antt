@@ -8,7 +8,7 @@ use Rattle.hex.proofs.glyph_of.Statement.{statement}
 use Rattle.hex.proofs.glyph_of.Tie as tie
 
 is-within-requires : tie.Need-is-within-requires
-is-within-requires c κs = search needs
+is-within-requires c κs = tt
 
 sub-t3 : tie.Need-sub-t3
 sub-t3 c = omega (arith, within-bounds 48 57 (c .before .before .args .c) (sym (c .before .is-within .ensures) ∙ c .if1 .taken))
@@ -19,7 +19,7 @@ returns c =
     sym (glyph-decimal _ decimal)
 
 is-within-requires-2 : tie.Need-is-within-requires-2
-is-within-requires-2 c κs = search needs
+is-within-requires-2 c κs = tt
 
 sub-t5 : tie.Need-sub-t5
 sub-t5 c = omega (arith, within-bounds 65 70 (c .before .before .before .before .args .c) (sym (c .before .is-within2 .ensures) ∙ c .if2 .taken))
@@ -34,7 +34,7 @@ returns-2 c =
     sym (glyph-upper _ decimal upper)
 
 is-within-requires-3 : tie.Need-is-within-requires-3
-is-within-requires-3 c κs = search needs
+is-within-requires-3 c κs = tt
 
 sub-t8 : tie.Need-sub-t8
 sub-t8 c = omega (arith, within-bounds 97 102 (c .before .before .before .before .before .before .args .c) (sym (c .before .is-within3 .ensures) ∙ c .if3 .taken))
@@ -50,7 +50,7 @@ returns-3 c =
     sym (glyph-lower _ decimal upper lower)
 
 is-blank-requires : tie.Need-is-blank-requires
-is-blank-requires c κs = search needs
+is-blank-requires c κs = tt
 
 returns-4 : tie.Need-returns-4
 returns-4 c =

@@ -13,7 +13,7 @@ code-in-requires : tie.Need-code-in-requires
 code-in-requires c κs = search needs
 
 new-requires : tie.Need-new-requires
-new-requires c κs = search needs
+new-requires c κs = tt
 
 returns : tie.Need-returns
 returns c =
@@ -25,7 +25,7 @@ add-new : tie.Need-add-new
 add-new c = search needs
 
 new-requires-2 : tie.Need-new-requires-2
-new-requires-2 c κs = search needs
+new-requires-2 c κs = tt
 
 returns-2 : tie.Need-returns-2
 returns-2 c =
@@ -49,7 +49,7 @@ code-in-requires-2 : tie.Need-code-in-requires-2
 code-in-requires-2 c κs = search needs
 
 paired-requires : tie.Need-paired-requires
-paired-requires c κs = search needs
+paired-requires c κs = tt
 
 slice-write-room : tie.Need-slice-write-room
 slice-write-room c = search needs
@@ -61,7 +61,7 @@ add-new-3 : tie.Need-add-new-3
 add-new-3 c = search needs
 
 new-requires-3 : tie.Need-new-requires-3
-new-requires-3 c κs = search needs
+new-requires-3 c κs = tt
 
 same-length : tie.Need-same-length
 same-length c = search needs
@@ -79,13 +79,13 @@ add-new-4 : tie.Need-add-new-4
 add-new-4 c = search needs
 
 new-requires-4 : tie.Need-new-requires-4
-new-requires-4 c κs = search needs
+new-requires-4 c κs = tt
 
 enum-known-place : tie.Need-enum-known-place
 enum-known-place c = search needs
 
 paired-requires-2 : tie.Need-paired-requires-2
-paired-requires-2 c κs = search needs
+paired-requires-2 c κs = tt
 
 slice-write-room-2 : tie.Need-slice-write-room-2
 slice-write-room-2 c = search needs
@@ -97,13 +97,13 @@ add-new-6 : tie.Need-add-new-6
 add-new-6 c = search needs
 
 new-requires-5 : tie.Need-new-requires-5
-new-requires-5 c κs = search needs
+new-requires-5 c κs = tt
 
 enum-told-2 : tie.Need-enum-told-2
 enum-told-2 c = search needs
 
 new-requires-6 : tie.Need-new-requires-6
-new-requires-6 c κs = search needs
+new-requires-6 c κs = tt
 
 returns-4 : tie.Need-returns-4
 returns-4 c =

@@ -1,8 +1,8 @@
 -- The windows and the room keep their lengths, and what was read of each window lies within it; the turns are counted up to the most windows of a record.
 -- Assumes nothing.
 use mathlib.Core.Path.{_≡_, sym}
-use Prim.Native.Nat.{_-_, _≤_}
-use lib.ListN.{length}
+use Prim.Native.Nat.{ℕ, _-_, _≤_}
+use lib.ListN.{length, length-replicate}
 use lib.Seq.{length-take-le}
 use borrow.Author.Needs.{needs}
 use Rattle.commands.proofs.compare.list.Statement.{statement}
@@ -15,37 +15,37 @@ abbrev μ-loop : tie.MeasureT-loop
 μ-loop a b first second s t room₀ w₀ v₀ reach₀ same₀ k₀ room w v reach same k = 201 - k
 
 print-opening-requires : tie.Need-print-opening-requires Inv-loop μ-loop
-print-opening-requires c κs = search needs
+print-opening-requires c κs = tt
 
 unwritten-requires : tie.Need-unwritten-requires Inv-loop μ-loop
-unwritten-requires c κs = search needs
+unwritten-requires c κs = tt
 
 returns : tie.Need-returns Inv-loop μ-loop
 returns c = search needs
 
 lseek-requires : tie.Need-lseek-requires Inv-loop μ-loop
-lseek-requires c κs = search needs
+lseek-requires c κs = tt
 
 lseek-requires-2 : tie.Need-lseek-requires-2 Inv-loop μ-loop
-lseek-requires-2 c κs = search needs
+lseek-requires-2 c κs = tt
 
 room-requires : tie.Need-room-requires Inv-loop μ-loop
-room-requires c κs = search needs
+room-requires c κs = tt
 
 slice-aggregate-front : tie.Need-slice-aggregate-front Inv-loop μ-loop
-slice-aggregate-front c = search needs
+slice-aggregate-front c = sym (length-replicate {A = ℕ} 30014 0)
 
 slice-aggregate-front-2 : tie.Need-slice-aggregate-front-2 Inv-loop μ-loop
-slice-aggregate-front-2 c = search needs
+slice-aggregate-front-2 c = sym (length-replicate {A = ℕ} 30014 0)
 
 front-requires : tie.Need-front-requires Inv-loop μ-loop
-front-requires c κs = search needs
+front-requires c κs = (length-replicate {A = ℕ} 30014 0, length-replicate {A = ℕ} 30014 0)
 
 loop-holds : tie.Need-loop-holds Inv-loop μ-loop
 loop-holds c = search needs
 
 stands-requires : tie.Need-stands-requires Inv-loop μ-loop
-stands-requires c κs = search needs
+stands-requires c κs = tt
 
 returns-2 : tie.Need-returns-2 Inv-loop μ-loop
 returns-2 c = search needs
@@ -69,10 +69,10 @@ slice-aggregate-print-page-3 : tie.Need-slice-aggregate-print-page-3 Inv-loop μ
 slice-aggregate-print-page-3 c = search needs
 
 print-page-requires : tie.Need-print-page-requires Inv-loop μ-loop
-print-page-requires c κs = search needs
+print-page-requires c κs = tt
 
 unwritten-requires-2 : tie.Need-unwritten-requires-2 Inv-loop μ-loop
-unwritten-requires-2 c κs = search needs
+unwritten-requires-2 c κs = tt
 
 returns-3 : tie.Need-returns-3 Inv-loop μ-loop
 returns-3 c = search needs
@@ -90,10 +90,10 @@ slice-aggregate-alike-2 : tie.Need-slice-aggregate-alike-2 Inv-loop μ-loop
 slice-aggregate-alike-2 c = sym (length-take-le _ _ (search needs))
 
 alike-requires : tie.Need-alike-requires Inv-loop μ-loop
-alike-requires c κs = search needs
+alike-requires c κs = tt
 
 finish-requires : tie.Need-finish-requires Inv-loop μ-loop
-finish-requires c κs = search needs
+finish-requires c κs = tt
 
 returns-4 : tie.Need-returns-4 Inv-loop μ-loop
 returns-4 c = search needs

@@ -26,7 +26,7 @@ part-read-end : tie.Need-part-read-end Inv-loop μ-loop
 part-read-end c = search needs
 
 read-requires : tie.Need-read-requires Inv-loop μ-loop
-read-requires c κs = search needs
+read-requires c κs = tt
 
 same-length : tie.Need-same-length Inv-loop μ-loop
 same-length c = search needs
@@ -44,7 +44,7 @@ part-count-end : tie.Need-part-count-end Inv-loop μ-loop
 part-count-end c = search needs
 
 count-requires : tie.Need-count-requires Inv-loop μ-loop
-count-requires c κs = search needs
+count-requires c κs = tt
 
 same-length-2 : tie.Need-same-length-2 Inv-loop μ-loop
 same-length-2 c = search needs

@@ -12,34 +12,34 @@ abbrev μ-loop : tie.MeasureT-loop
 μ-loop asked count joined₀ ended₀ i₀ joined ended i = count - i
 
 all-requires : tie.Need-all-requires Inv-loop μ-loop
-all-requires c κs = search needs
+all-requires c κs = tt
 
 slice-aggregate-usage : tie.Need-slice-aggregate-usage Inv-loop μ-loop
 slice-aggregate-usage c = search needs
 
 usage-requires : tie.Need-usage-requires Inv-loop μ-loop
-usage-requires c κs = search needs
+usage-requires c κs = tt
 
 returns : tie.Need-returns Inv-loop μ-loop
 returns c = search needs
 
 arg-count-requires : tie.Need-arg-count-requires Inv-loop μ-loop
-arg-count-requires c κs = search needs
+arg-count-requires c κs = tt
 
 loop-holds : tie.Need-loop-holds Inv-loop μ-loop
 loop-holds c = search needs
 
 word-at-requires : tie.Need-word-at-requires Inv-loop μ-loop
-word-at-requires c κs = search needs
+word-at-requires c κs = tt
 
 ends-requires : tie.Need-ends-requires Inv-loop μ-loop
-ends-requires c κs = search needs
+ends-requires c κs = tt
 
 is-file-requires : tie.Need-is-file-requires Inv-loop μ-loop
-is-file-requires c κs = search needs
+is-file-requires c κs = tt
 
 with-word-requires : tie.Need-with-word-requires Inv-loop μ-loop
-with-word-requires c κs = search needs
+with-word-requires c κs = tt
 
 returns-2 : tie.Need-returns-2 Inv-loop μ-loop
 returns-2 c = search needs
@@ -54,13 +54,13 @@ loop-again : tie.Need-loop-again Inv-loop μ-loop
 loop-again c = search needs
 
 print-requires : tie.Need-print-requires Inv-loop μ-loop
-print-requires c κs = search needs
+print-requires c κs = tt
 
 unwritten-requires : tie.Need-unwritten-requires Inv-loop μ-loop
-unwritten-requires c κs = search needs
+unwritten-requires c κs = tt
 
 status-of-requires : tie.Need-status-of-requires Inv-loop μ-loop
-status-of-requires c κs = search needs
+status-of-requires c κs = tt
 
 returns-3 : tie.Need-returns-3 Inv-loop μ-loop
 returns-3 c = search needs

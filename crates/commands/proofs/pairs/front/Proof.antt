@@ -22,7 +22,7 @@ slice-aggregate-both-begin-2 : tie.Need-slice-aggregate-both-begin-2
 slice-aggregate-both-begin-2 c = sym (length-take-le _ _ (search needs))
 
 both-begin-requires : tie.Need-both-begin-requires
-both-begin-requires c κs = search needs
+both-begin-requires c κs = tt
 
 same-length : tie.Need-same-length
 same-length c = search needs

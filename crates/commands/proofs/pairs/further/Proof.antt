@@ -7,7 +7,7 @@ use Rattle.commands.proofs.pairs.further.Statement.{statement}
 use Rattle.commands.proofs.pairs.further.Tie as tie
 
 bytes-before-requires : tie.Need-bytes-before-requires
-bytes-before-requires c κs = search needs
+bytes-before-requires c κs = tt
 
 read-both-requires : tie.Need-read-both-requires
 read-both-requires c κs = search needs
@@ -25,7 +25,7 @@ slice-aggregate-both-more-2 : tie.Need-slice-aggregate-both-more-2
 slice-aggregate-both-more-2 c = sym (length-take-le _ _ (search needs))
 
 both-more-requires : tie.Need-both-more-requires
-both-more-requires c κs = search needs
+both-more-requires c κs = tt
 
 same-length : tie.Need-same-length
 same-length c = search needs

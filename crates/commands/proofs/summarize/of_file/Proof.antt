@@ -11,31 +11,31 @@ abbrev μ-loop : tie.MeasureT-loop
 μ-loop name asked fd text₀ turns₀ text turns = turns
 
 opened-requires : tie.Need-opened-requires Inv-loop μ-loop
-opened-requires c κs = search needs
+opened-requires c κs = tt
 
 returns : tie.Need-returns Inv-loop μ-loop
 returns c = search needs
 
 new-requires : tie.Need-new-requires Inv-loop μ-loop
-new-requires c κs = search needs
+new-requires c κs = tt
 
 loop-holds : tie.Need-loop-holds Inv-loop μ-loop
 loop-holds c = search needs
 
 read-more-requires : tie.Need-read-more-requires Inv-loop μ-loop
-read-more-requires c κs = search needs
+read-more-requires c κs = tt
 
 trouble-requires : tie.Need-trouble-requires Inv-loop μ-loop
-trouble-requires c κs = search needs
+trouble-requires c κs = tt
 
 returns-2 : tie.Need-returns-2 Inv-loop μ-loop
 returns-2 c = search needs
 
 ends-requires : tie.Need-ends-requires Inv-loop μ-loop
-ends-requires c κs = search needs
+ends-requires c κs = tt
 
 finish-requires : tie.Need-finish-requires Inv-loop μ-loop
-finish-requires c κs = search needs
+finish-requires c κs = tt
 
 returns-3 : tie.Need-returns-3 Inv-loop μ-loop
 returns-3 c = search needs

@@ -7,13 +7,13 @@ use Rattle.commands.proofs.tell.trouble.Statement.{statement}
 use Rattle.commands.proofs.tell.trouble.Tie as tie
 
 room-requires : tie.Need-room-requires
-room-requires c κs = search needs
+room-requires c κs = tt
 
 slice-aggregate-put-name : tie.Need-slice-aggregate-put-name
 slice-aggregate-put-name c = search needs
 
 put-name-requires : tie.Need-put-name-requires
-put-name-requires c κs = search needs
+put-name-requires c κs = tt
 
 array-share-prefix-room : tie.Need-array-share-prefix-room
 array-share-prefix-room c = search needs
@@ -22,7 +22,7 @@ slice-aggregate-fail : tie.Need-slice-aggregate-fail
 slice-aggregate-fail c = sym (length-take-le _ _ (search needs))
 
 fail-requires : tie.Need-fail-requires
-fail-requires c κs = search needs
+fail-requires c κs = tt
 
 returns : tie.Need-returns
 returns c = search needs

@@ -12,19 +12,19 @@ abbrev μ-loop : tie.MeasureT-loop
 μ-loop count asked₀ ended₀ i₀ asked ended i = count - i
 
 arg-count-requires : tie.Need-arg-count-requires Inv-loop μ-loop
-arg-count-requires c κs = search needs
+arg-count-requires c κs = tt
 
 loop-holds : tie.Need-loop-holds Inv-loop μ-loop
 loop-holds c = search needs
 
 word-at-requires : tie.Need-word-at-requires Inv-loop μ-loop
-word-at-requires c κs = search needs
+word-at-requires c κs = tt
 
 ends-requires : tie.Need-ends-requires Inv-loop μ-loop
-ends-requires c κs = search needs
+ends-requires c κs = tt
 
 with-requires : tie.Need-with-requires Inv-loop μ-loop
-with-requires c κs = search needs
+with-requires c κs = tt
 
 add-i : tie.Need-add-i Inv-loop μ-loop
 add-i c = search needs

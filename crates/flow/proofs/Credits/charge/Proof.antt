@@ -4,24 +4,23 @@ use mathlib.Core.Path.{_∙_}
 use Rattle.shaper.proofs.Charge.{permitted}
 use Rattle.flow.specs.Which.{creditOf, limitsFor}
 use Rattle.flow.proofs.Charge.{charge-one}
-use borrow.Author.Needs.{needs}
 use Rattle.flow.proofs.Credits.charge.Statement.{statement}
 use Rattle.flow.proofs.Credits.charge.Tie as tie
 
 bucket-requires : tie.Need-bucket-requires
-bucket-requires c κs = search needs
+bucket-requires c κs = tt
 
 limits-requires : tie.Need-limits-requires
-limits-requires c κs = search needs
+limits-requires c κs = tt
 
 credit-requires : tie.Need-credit-requires
-credit-requires c κs = search needs
+credit-requires c κs = tt
 
 charge-requires : tie.Need-charge-requires
-charge-requires c κs = search needs
+charge-requires c κs = tt
 
 with-credit-requires : tie.Need-with-credit-requires
-with-credit-requires c κs = search needs
+with-credit-requires c κs = tt
 
 returns : tie.Need-returns
 returns c =

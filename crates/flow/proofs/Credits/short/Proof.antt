@@ -1,17 +1,16 @@
 -- The shaper's own credit and loLimit are asked of.
 -- Assumes nothing.
-use borrow.Author.Needs.{needs}
 use Rattle.flow.proofs.Credits.short.Statement.{statement}
 use Rattle.flow.proofs.Credits.short.Tie as tie
 
 bucket-requires : tie.Need-bucket-requires
-bucket-requires c κs = search needs
+bucket-requires c κs = tt
 
 credit-requires : tie.Need-credit-requires
-credit-requires c κs = search needs
+credit-requires c κs = tt
 
 ask-requires : tie.Need-ask-requires
-ask-requires c κs = search needs
+ask-requires c κs = tt
 
 returns : tie.Need-returns
 returns c = rw (c .ask .ensures, c .before .credit .ensures, c .before .before .bucket .ensures)

@@ -11,19 +11,19 @@ enum-told : tie.Need-enum-told
 enum-told c = search needs
 
 short-requires : tie.Need-short-requires
-short-requires c κs = search needs
+short-requires c κs = tt
 
 enum-told-2 : tie.Need-enum-told-2
 enum-told-2 c = search needs
 
 short-of-two-requires : tie.Need-short-of-two-requires
-short-of-two-requires c κs = search needs
+short-of-two-requires c κs = tt
 
 enum-told-3 : tie.Need-enum-told-3
 enum-told-3 c = search needs
 
 short-of-two-requires-2 : tie.Need-short-of-two-requires-2
-short-of-two-requires-2 c κs = search needs
+short-of-two-requires-2 c κs = tt
 
 returns : tie.Need-returns
 returns c =

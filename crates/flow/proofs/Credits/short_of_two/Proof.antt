@@ -2,18 +2,17 @@
 -- Assumes nothing.
 use mathlib.Core.Path.{sym}
 use Rattle.flow.proofs.Short.{short-two}
-use borrow.Author.Needs.{needs}
 use Rattle.flow.proofs.Credits.short_of_two.Statement.{statement}
 use Rattle.flow.proofs.Credits.short_of_two.Tie as tie
 
 short-requires : tie.Need-short-requires
-short-requires c κs = search needs
+short-requires c κs = tt
 
 short-requires-2 : tie.Need-short-requires-2
-short-requires-2 c κs = search needs
+short-requires-2 c κs = tt
 
 larger-requires : tie.Need-larger-requires
-larger-requires c κs = search needs
+larger-requires c κs = tt
 
 returns : tie.Need-returns
 returns c =

@@ -4,7 +4,6 @@ use mathlib.Core.Path.{sym}
 use borrow.Author.Tests.{eq-eqb, ne-eqb}
 use Rattle.flow.specs.Offer.{wayOf}
 use Rattle.flow.proofs.Short.{permits-by}
-use borrow.Author.Needs.{needs}
 use Rattle.flow.proofs.Credits.way.Statement.{statement}
 use Rattle.flow.proofs.Credits.way.Tie as tie
 
@@ -13,7 +12,7 @@ unfolding wayOf
 returns c = rw (eq-eqb _ 0 (c .if1 .taken))
 
 short-all-requires : tie.Need-short-all-requires
-short-all-requires c κs = search needs
+short-all-requires c κs = tt
 
 returns-2 : tie.Need-returns-2
 unfolding wayOf

@@ -10,10 +10,10 @@ use Rattle.flow.proofs.Flow.client.Statement.{statement}
 use Rattle.flow.proofs.Flow.client.Tie as tie
 
 stage-holds-requires : tie.Need-stage-holds-requires
-stage-holds-requires c κs = search needs
+stage-holds-requires c κs = tt
 
 refused-requires : tie.Need-refused-requires
-refused-requires c κs = search needs
+refused-requires c κs = tt
 
 returns : tie.Need-returns
 returns c =
@@ -24,13 +24,13 @@ returns c =
     c .refused .ensures ∙ sym (client-full (wayOf s (f .credits) (x .class)) s f (x .class) (x .size) (x .hops) (x .over) (sym (e .before .stage-holds .ensures) ∙ e .if1 .taken))
 
 way-requires : tie.Need-way-requires
-way-requires c κs = search needs
+way-requires c κs = tt
 
 short-all-requires : tie.Need-short-all-requires
-short-all-requires c κs = search needs
+short-all-requires c κs = tt
 
 refused-requires-2 : tie.Need-refused-requires-2
-refused-requires-2 c κs = search needs
+refused-requires-2 c κs = tt
 
 returns-2 : tie.Need-returns-2
 returns-2 c =
@@ -48,10 +48,10 @@ returns-2 c =
     ∙ rw short (sym (client-barred (wayOf s (f .credits) (x .class)) s f (x .class) (x .size) (x .hops) (x .over) empty barred))
 
 mark-requires : tie.Need-mark-requires
-mark-requires c κs = search needs
+mark-requires c κs = tt
 
 refused-requires-3 : tie.Need-refused-requires-3
-refused-requires-3 c κs = search needs
+refused-requires-3 c κs = tt
 
 returns-3 : tie.Need-returns-3
 returns-3 c =
@@ -77,7 +77,7 @@ pay-requires c κs =
     permits-short (x .settings) (x .self .credits) (needsOf (w .way .result)) .1 (omega (arith, p .if2 .left, p .before .short-all .ensures))
 
 word-requires : tie.Need-word-requires
-word-requires c κs = search needs
+word-requires c κs = tt
 
 returns-4 : tie.Need-returns-4
 returns-4 c =

@@ -12,13 +12,13 @@ use Rattle.flow.proofs.Flow.enter.Statement.{statement}
 use Rattle.flow.proofs.Flow.enter.Tie as tie
 
 queue-requires : tie.Need-queue-requires
-queue-requires c κs = search needs
+queue-requires c κs = tt
 
 capacity-requires : tie.Need-capacity-requires
-capacity-requires c κs = search needs
+capacity-requires c κs = tt
 
 space-requires : tie.Need-space-requires
-space-requires c κs = search needs
+space-requires c κs = tt
 
 returns : tie.Need-returns
 returns c =
@@ -42,7 +42,7 @@ push-requires c κs =
     (push-needs (o .flow .queues l) (x .args .frame) (bounds-ok (o .settings)) (o .frame) fits (capacity-most (o .settings) l))
 
 with-queue-requires : tie.Need-with-queue-requires
-with-queue-requires c κs = search needs
+with-queue-requires c κs = tt
 
 returns-2 : tie.Need-returns-2
 returns-2 c =

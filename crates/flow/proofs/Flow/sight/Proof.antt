@@ -1,17 +1,16 @@
 -- The front of each queue.
 -- Assumes nothing.
-use borrow.Author.Needs.{needs}
 use Rattle.flow.proofs.Flow.sight.Statement.{statement}
 use Rattle.flow.proofs.Flow.sight.Tie as tie
 
 front-requires : tie.Need-front-requires
-front-requires c κs = search needs
+front-requires c κs = tt
 
 front-requires-2 : tie.Need-front-requires-2
-front-requires-2 c κs = search needs
+front-requires-2 c κs = tt
 
 front-requires-3 : tie.Need-front-requires-3
-front-requires-3 c κs = search needs
+front-requires-3 c κs = tt
 
 returns : tie.Need-returns
 returns c = rw (c .front3 .ensures, c .before .front2 .ensures, c .before .before .front .ensures)

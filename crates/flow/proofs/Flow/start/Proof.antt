@@ -1,12 +1,11 @@
 -- The three queues are the empty one.
 -- Assumes nothing.
-use borrow.Author.Needs.{needs}
 use Rattle.flow.specs.Tick.{startOf}
 use Rattle.flow.proofs.Flow.start.Statement.{statement}
 use Rattle.flow.proofs.Flow.start.Tie as tie
 
 empty-requires : tie.Need-empty-requires
-empty-requires c κs = search needs
+empty-requires c κs = tt
 
 returns : tie.Need-returns
 unfolding startOf

@@ -5,36 +5,35 @@ use mathlib.Core.Bool.{_||_}
 use mathlib.Core.Path.{_≡_, ap, _∙_}
 use Rattle.flow.specs.declared.Which.the-variants.{M, C, D}
 use Rattle.flow.proofs.Tick.{ticks, tick-each}
-use borrow.Author.Needs.{needs}
 use Rattle.flow.proofs.Flow.tick.Statement.{statement}
 use Rattle.flow.proofs.Flow.tick.Tie as tie
 
 holds-frame-requires : tie.Need-holds-frame-requires
-holds-frame-requires c κs = search needs
+holds-frame-requires c κs = tt
 
 stage-holds-requires : tie.Need-stage-holds-requires
-stage-holds-requires c κs = search needs
+stage-holds-requires c κs = tt
 
 holds-frame-requires-2 : tie.Need-holds-frame-requires-2
-holds-frame-requires-2 c κs = search needs
+holds-frame-requires-2 c κs = tt
 
 amount-c-requires : tie.Need-amount-c-requires
-amount-c-requires c κs = search needs
+amount-c-requires c κs = tt
 
 ticked-requires : tie.Need-ticked-requires
-ticked-requires c κs = search needs
+ticked-requires c κs = tt
 
 ticked-requires-2 : tie.Need-ticked-requires-2
-ticked-requires-2 c κs = search needs
+ticked-requires-2 c κs = tt
 
 ticked-requires-3 : tie.Need-ticked-requires-3
-ticked-requires-3 c κs = search needs
+ticked-requires-3 c κs = tt
 
 ticked-requires-4 : tie.Need-ticked-requires-4
-ticked-requires-4 c κs = search needs
+ticked-requires-4 c κs = tt
 
 ticked-requires-5 : tie.Need-ticked-requires-5
-ticked-requires-5 c κs = search needs
+ticked-requires-5 c κs = tt
 
 returns : tie.Need-returns
 returns c =

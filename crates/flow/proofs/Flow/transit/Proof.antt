@@ -8,7 +8,7 @@ cast-queue-for : tie.Need-cast-queue-for
 cast-queue-for c = search needs
 
 queue-for-requires : tie.Need-queue-for-requires
-queue-for-requires c κs = search needs
+queue-for-requires c κs = tt
 
 enter-requires : tie.Need-enter-requires
 enter-requires c κs = search needs

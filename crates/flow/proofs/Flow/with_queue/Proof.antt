@@ -14,13 +14,13 @@ enum-told-3 : tie.Need-enum-told-3
 enum-told-3 c = search needs
 
 returns : tie.Need-returns
-returns c = cc
+returns c = rw (c .enum-told .given .1)
 
 returns-2 : tie.Need-returns-2
-returns-2 c = cc
+returns-2 c = rw (c .enum-told2 .given .1)
 
 returns-3 : tie.Need-returns-3
-returns-3 c = cc
+returns-3 c = rw (c .enum-told3 .given .1)
 
 pub with-queue-spec : {M : Type 1} → statement M
 with-queue-spec =

@@ -3,24 +3,23 @@
 use mathlib.Core.Path.{sym, ap, _∙_}
 use borrow.Author.Tests.{ne-eqb}
 use Rattle.flow.specs.Pick.{withoutNamed}
-use borrow.Author.Needs.{needs}
 use Rattle.flow.proofs.Flow.without_named.Statement.{statement}
 use Rattle.flow.proofs.Flow.without_named.Tie as tie
 
 without-first-requires : tie.Need-without-first-requires
-without-first-requires c κs = search needs
+without-first-requires c κs = tt
 
 returns : tie.Need-returns
 returns c = let x = c .before .before .args in c .without-first .ensures ∙ sym (ap (withoutNamed (x .self)) (c .before .if1 .taken))
 
 without-first-requires-2 : tie.Need-without-first-requires-2
-without-first-requires-2 c κs = search needs
+without-first-requires-2 c κs = tt
 
 returns-2 : tie.Need-returns-2
 returns-2 c = let x = c .before .before .before .args in c .without-first2 .ensures ∙ sym (ap (withoutNamed (x .self)) (c .before .if2 .taken))
 
 without-first-requires-3 : tie.Need-without-first-requires-3
-without-first-requires-3 c κs = search needs
+without-first-requires-3 c κs = tt
 
 returns-3 : tie.Need-returns-3
 returns-3 c = let x = c .before .before .before .before .args in c .without-first3 .ensures ∙ sym (ap (withoutNamed (x .self)) (c .before .if3 .taken))

@@ -16,7 +16,6 @@ use Rattle.flow.specs.Select.{controlReady}
 use Rattle.decide.proofs.Chain.{chain}
 use Rattle.decide.proofs.Tests.{failing}
 use Rattle.flow.specs.Pick.{seenIn}
-use borrow.Author.Needs.{needs}
 use Rattle.flow.proofs.Sight.control_ready.Statement.{statement}
 use Rattle.flow.proofs.Sight.control_ready.Tie as tie
 
@@ -33,7 +32,7 @@ ready s f h z p q m =
     ((firstFrame (f .control) .size ≤? spaceOf (f .secondary) (s .queues .secondary)) ∷ (s .shapers .m .lo <? f .credits .m) ∷ []))
 
 holds-frame-requires : tie.Need-holds-frame-requires
-holds-frame-requires c κs = search needs
+holds-frame-requires c κs = tt
 
 returns : tie.Need-returns
 unfolding test
@@ -42,16 +41,16 @@ returns c =
     sym (failing (controlReady (x .settings) (seenIn (x .self))) (λ h. denied (0 <? x .self .control .count) (c .before .holds-frame .ensures) (c .if1 .taken) (h .0)))
 
 first-requires : tie.Need-first-requires
-first-requires c κs = search needs
+first-requires c κs = tt
 
 space-requires : tie.Need-space-requires
-space-requires c κs = search needs
+space-requires c κs = tt
 
 space-requires-2 : tie.Need-space-requires-2
-space-requires-2 c κs = search needs
+space-requires-2 c κs = tt
 
 ask-requires : tie.Need-ask-requires
-ask-requires c κs = search needs
+ask-requires c κs = tt
 
 returns-2 : tie.Need-returns-2
 unfolding test

@@ -2,18 +2,17 @@
 -- Assumes nothing.
 use mathlib.Core.Path.{sym}
 use Rattle.flow.proofs.Picking.{front-picked}
-use borrow.Author.Needs.{needs}
 use Rattle.flow.proofs.Sight.goes.Statement.{statement}
 use Rattle.flow.proofs.Sight.goes.Tie as tie
 
 front-requires : tie.Need-front-requires
-front-requires c κs = search needs
+front-requires c κs = tt
 
 first-requires : tie.Need-first-requires
-first-requires c κs = search needs
+first-requires c κs = tt
 
 origin-requires : tie.Need-origin-requires
-origin-requires c κs = search needs
+origin-requires c κs = tt
 
 returns : tie.Need-returns
 returns c =

@@ -12,7 +12,7 @@ use Rattle.flow.proofs.Sight.goes_charged.Statement.{statement}
 use Rattle.flow.proofs.Sight.goes_charged.Tie as tie
 
 goes-requires : tie.Need-goes-requires
-goes-requires c κs = search needs
+goes-requires c κs = tt
 
 charge-requires : tie.Need-charge-requires
 charge-requires c κs = search needs

@@ -4,12 +4,11 @@ use Prim.Native.Nat.{ℕ}
 use mathlib.Core.Path.{ap}
 use lib.Dec.{ltb}
 use Rattle.decide.specs.Test.{test}
-use borrow.Author.Needs.{needs}
 use Rattle.flow.proofs.Sight.needy.Statement.{statement}
 use Rattle.flow.proofs.Sight.needy.Tie as tie
 
 space-requires : tie.Need-space-requires
-space-requires c κs = search needs
+space-requires c κs = tt
 
 returns : tie.Need-returns
 unfolding test

@@ -1,12 +1,11 @@
 -- There is no frame, and credits and stage are the lent ones.
 -- Assumes nothing.
 use mathlib.Core.Path.{refl}
-use borrow.Author.Needs.{needs}
 use Rattle.flow.proofs.Sight.nothing_goes.Statement.{statement}
 use Rattle.flow.proofs.Sight.nothing_goes.Tie as tie
 
 of-requires : tie.Need-of-requires
-of-requires c κs = search needs
+of-requires c κs = tt
 
 returns : tie.Need-returns
 returns c = rw (c .of .ensures) refl

@@ -4,12 +4,11 @@ use mathlib.Core.Path.{sym, ap, _∙_}
 use Rattle.decide.specs.Test.{test}
 use Rattle.flow.specs.Pick.{seenIn, pickFrom}
 use Rattle.flow.proofs.Select.{control, primary, pressed, staged, secondary, nothing, goes-selected, control-permitted, secondary-permitted}
-use borrow.Author.Needs.{needs}
 use Rattle.flow.proofs.Sight.pick.Statement.{statement}
 use Rattle.flow.proofs.Sight.pick.Tie as tie
 
 control-ready-requires : tie.Need-control-ready-requires
-control-ready-requires c κs = search needs
+control-ready-requires c κs = tt
 
 goes-charged-requires : tie.Need-goes-charged-requires
 goes-charged-requires c κs = let x = c .before .before .args in control-permitted (x .settings) (seenIn (x .self)) (sym (c .before .control-ready .ensures) ∙ c .if1 .taken)
@@ -23,10 +22,10 @@ returns c =
     ∙ ap pickFrom (sym (goes-selected (x .settings) (seenIn (x .self)) (control (sym (a .before .control-ready .ensures) ∙ a .if1 .taken))))
 
 holds-frame-requires : tie.Need-holds-frame-requires
-holds-frame-requires c κs = search needs
+holds-frame-requires c κs = tt
 
 goes-requires : tie.Need-goes-requires
-goes-requires c κs = search needs
+goes-requires c κs = tt
 
 returns-2 : tie.Need-returns-2
 unfolding test
@@ -38,10 +37,10 @@ returns-2 c =
     ∙ ap pickFrom (sym (goes-selected (x .settings) (seenIn (x .self)) (primary (sym (a .before .control-ready .ensures) ∙ a .if1 .left) (sym (b .before .holds-frame .ensures) ∙ b .if2 .taken))))
 
 needy-requires : tie.Need-needy-requires
-needy-requires c κs = search needs
+needy-requires c κs = tt
 
 goes-requires-2 : tie.Need-goes-requires-2
-goes-requires-2 c κs = search needs
+goes-requires-2 c κs = tt
 
 returns-3 : tie.Need-returns-3
 unfolding test
@@ -54,10 +53,10 @@ returns-3 c =
     ∙ ap pickFrom (sym (goes-selected (x .settings) (seenIn (x .self)) (pressed (sym (a .before .control-ready .ensures) ∙ a .if1 .left) (sym (b .before .holds-frame .ensures) ∙ b .if2 .left) (sym (d .before .needy .ensures) ∙ d .if3 .taken))))
 
 stage-holds-requires : tie.Need-stage-holds-requires
-stage-holds-requires c κs = search needs
+stage-holds-requires c κs = tt
 
 stage-goes-requires : tie.Need-stage-goes-requires
-stage-goes-requires c κs = search needs
+stage-goes-requires c κs = tt
 
 returns-4 : tie.Need-returns-4
 unfolding test
@@ -71,7 +70,7 @@ returns-4 c =
     ∙ ap pickFrom (sym (goes-selected (x .settings) (seenIn (x .self)) (staged (sym (a .before .control-ready .ensures) ∙ a .if1 .left) (sym (b .before .holds-frame .ensures) ∙ b .if2 .left) (sym (d .before .needy .ensures) ∙ d .if3 .left) (sym (e .before .stage-holds .ensures) ∙ e .if4 .taken))))
 
 secondary-ready-requires : tie.Need-secondary-ready-requires
-secondary-ready-requires c κs = search needs
+secondary-ready-requires c κs = tt
 
 goes-charged-requires-2 : tie.Need-goes-charged-requires-2
 goes-charged-requires-2 c κs = let x = c .before .before .before .before .before .before .before .before .before .before .args in secondary-permitted (x .settings) (seenIn (x .self)) (sym (c .before .secondary-ready .ensures) ∙ c .if5 .taken)
@@ -89,7 +88,7 @@ returns-5 c =
     ∙ ap pickFrom (sym (goes-selected (x .settings) (seenIn (x .self)) (secondary (sym (a .before .control-ready .ensures) ∙ a .if1 .left) (sym (b .before .holds-frame .ensures) ∙ b .if2 .left) (sym (d .before .needy .ensures) ∙ d .if3 .left) (sym (e .before .stage-holds .ensures) ∙ e .if4 .left) (sym (g .before .secondary-ready .ensures) ∙ g .if5 .taken))))
 
 nothing-goes-requires : tie.Need-nothing-goes-requires
-nothing-goes-requires c κs = search needs
+nothing-goes-requires c κs = tt
 
 returns-6 : tie.Need-returns-6
 unfolding test

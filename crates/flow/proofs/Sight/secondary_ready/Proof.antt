@@ -3,15 +3,14 @@
 use mathlib.Core.Path.{sym}
 use Rattle.decide.specs.Test.{test}
 use Rattle.shaper.proofs.Short.{permits-by}
-use borrow.Author.Needs.{needs}
 use Rattle.flow.proofs.Sight.secondary_ready.Statement.{statement}
 use Rattle.flow.proofs.Sight.secondary_ready.Tie as tie
 
 holds-frame-requires : tie.Need-holds-frame-requires
-holds-frame-requires c κs = search needs
+holds-frame-requires c κs = tt
 
 ask-requires : tie.Need-ask-requires
-ask-requires c κs = search needs
+ask-requires c κs = tt
 
 returns : tie.Need-returns
 unfolding test

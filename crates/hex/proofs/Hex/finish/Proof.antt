@@ -2,15 +2,14 @@
 -- Assumes nothing.
 use mathlib.Core.Path.{sym, _∙_}
 use Rattle.hex.proofs.Rows.{finish-whole, finish-cut}
-use borrow.Author.Needs.{needs}
 use Rattle.hex.proofs.Hex.finish.Statement.{statement}
 use Rattle.hex.proofs.Hex.finish.Tie as tie
 
 is-text-requires : tie.Need-is-text-requires
-is-text-requires c κs = search needs
+is-text-requires c κs = tt
 
 finish-requires : tie.Need-finish-requires
-finish-requires c κs = search needs
+finish-requires c κs = tt
 
 returns : tie.Need-returns
 returns c = c .finish .ensures ∙ sym (finish-whole _ (sym (c .before .before .is-text .ensures) ∙ c .before .if1 .taken))

@@ -1,11 +1,10 @@
 -- The record has no byte yet.
 -- Assumes nothing.
-use borrow.Author.Needs.{needs}
 use Rattle.hex.proofs.Hex.new.Statement.{statement}
 use Rattle.hex.proofs.Hex.new.Tie as tie
 
 new-requires : tie.Need-new-requires
-new-requires c κs = search needs
+new-requires c κs = tt
 
 returns : tie.Need-returns
 returns c = rw (c .new .ensures)
