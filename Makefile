@@ -2,7 +2,7 @@
 # make test        proves every crate, tries the must-fail edits, runs the programs, then everything outside the crates; the last line is N passed, M failed
 # make install     puts the command rpr, the library, its header, the man pages and an example under PREFIX (/usr/local), the library in LIBDIR (PREFIX/lib), all within DESTDIR; CC, CPPFLAGS, CFLAGS and LDFLAGS are heard
 # make uninstall   takes them away again
-# make bench       ns per call of the library and ns per event of the commands, beside plain C that does the same work
+# make bench       ns per call of the library and ns per event of the commands, beside plain C that does the same work; fails where one is above its bound
 # make expect      writes anew what the programs are expected to print, by the independent model
 # make soak        the differential tests, with another SEED (1) and as many CALLS (1000000) as you like
 # make fuzz        random and damaged calls on the library for SECONDS (60) seconds, led by the branches that it takes; what it finds stays in fuzz/, for later runs

@@ -1,79 +1,72 @@
-/* ns per event and per call of the library, beside plain C that does the same work with the same checks, in one run. */
-#define _POSIX_C_SOURCE 199309L
+/*
+ * bench FILE: ns per event and per call of the library, beside plain C that does the same work with the same checks, and beside C with the library's own algorithm,
+ * in one run. A line goes to FILE for each row that is above its bound. Without FILE the three are compared, and nothing is timed.
+ */
 #include "bench.h"
 
 #include <stdio.h>
 #include <stdlib.h>
 #include <string.h>
-#include <time.h>
 
-enum { EVENTS = 1000000, LENGTH = 14 + 6 * EVENTS, ROUNDS = 15 };
+enum { EVENTS = RPR_MOST_EVENTS, LENGTH = RPR_RECORD_HEADER_LENGTH + RPR_RECORD_EVENT_LENGTH * EVENTS, SHORT = 64 };
 static const unsigned CALLS = 20000;
-
-double now(void) {
-    struct timespec t;
-    clock_gettime(CLOCK_MONOTONIC, &t);
-    return (double)t.tv_sec * 1e9 + (double)t.tv_nsec;
-}
-
-void keep_least(double *least, double ns) {
-    if (ns < *least) *least = ns;
-}
-
-void give_up(const char *what) {
-    printf("%s\n", what);
-    exit(1);
-}
-
-static uint64_t state = 88172645463325252u;
-static unsigned next_random(void) {
-    state ^= state << 13;
-    state ^= state >> 7;
-    state ^= state << 17;
-    return (unsigned)(state >> 33);
-}
 
 /* ---- records ---- */
 
 static void put16(uint8_t *p, unsigned v) { p[0] = (uint8_t)v, p[1] = (uint8_t)(v >> 8); }
+static void put32(uint8_t *p, uint32_t v) { put16(p, v & 0xffff), put16(p + 2, v >> 16); }
+
+void put_header(uint8_t *record, uint32_t mtu, uint32_t lo, uint32_t hi) {
+    put16(record, RPR_RECORD_HEADER_LENGTH), put16(record + 2, 16), put16(record + 4, mtu), put32(record + 6, lo), put32(record + 10, hi);
+}
+
+void put_event(uint8_t *record, size_t place, unsigned kind, unsigned number) {
+    uint8_t *p = record + RPR_RECORD_HEADER_LENGTH + RPR_RECORD_EVENT_LENGTH * place;
+    put16(p, RPR_RECORD_EVENT_LENGTH), put16(p + 2, kind), put16(p + 4, number);
+}
 
 /* A record of a million events: a regular pattern of ticks and sends, or kinds and numbers at random. */
 static void fill(uint8_t *record, int mixed) {
-    static const uint8_t header[14] = {14, 0, 16, 0, 220, 5, 0, 64, 0, 0, 0, 0, 4, 0};
-    memcpy(record, header, sizeof header);
+    put_header(record, 1500, 16384, 262144);
     for (size_t i = 0; i < EVENTS; i++) {
-        uint8_t *p = record + 14 + 6 * i;
         unsigned kind = mixed ? next_random() % 3 + 1 : (i % 2 ? 3 : 1);
         unsigned number = kind == 3 ? (mixed ? next_random() % 1485 + 16 : 1000) : (mixed ? next_random() % 2000 : 1000);
-        put16(p, 6), put16(p + 2, kind), put16(p + 4, number);
+        put_event(record, i, kind, number);
     }
 }
 
-static double sum_once(const struct calls *side, const uint8_t *record, size_t length, uint8_t *room) {
-    double from = now();
-    if (side->summarize(record, length, room, RPR_SUMMARY_LENGTH) != 0) give_up("a record is refused");
-    return now() - from;
+/* The bytes of a summary in one number. */
+static uint64_t mixed_up(const uint8_t *room) {
+    uint64_t all = 0;
+    for (size_t i = 0; i < RPR_SUMMARY_LENGTH; i++) all = 31 * all + room[i];
+    return all;
 }
+
+static double sum_record(const struct calls *side, const void *record, uint64_t *answers) {
+    uint8_t room[RPR_SUMMARY_LENGTH];
+    double from = now();
+    if (side->summarize(record, LENGTH, room, sizeof room) != 0) give_up("a record is refused");
+    double ns = now() - from;
+    *answers = mixed_up(room);
+    return ns;
+}
+
+/* Plain C's loop over events once more, where two flags put it. */
+uint64_t flagged_summarize(const void *record, size_t length, void *room, size_t room_length);
+static const struct calls flagged = {.summarize = flagged_summarize};
 
 static void bench_records(uint8_t *record) {
-    uint8_t ours[RPR_SUMMARY_LENGTH], theirs[RPR_SUMMARY_LENGTH];
-    puts("a record of 1,000,000 events, ns per event       library   plain C   library / C");
-    for (int mixed = 0; mixed < 2; mixed++) {
-        struct times t = {1e12, 1e12};
-        fill(record, mixed);
-        for (int i = 0; i < ROUNDS; i++) {
-            keep_least(&t.library, sum_once(&library, record, LENGTH, ours));
-            keep_least(&t.plain, sum_once(&plain, record, LENGTH, theirs));
-        }
-        if (memcmp(ours, theirs, sizeof ours) != 0) give_up("the two summaries differ");
-        printf("rpr_summarize, %-33s %7.2f   %7.2f   %8.2f\n", mixed ? "kinds and numbers at random" : "a tick, a send, in turn",
-               t.library / 1e6, t.plain / 1e6, t.library / t.plain);
-    }
+    bench_heading("a record of 1,000,000 events, ns per event", NULL);
+    fill(record, 0);
+    bench_row(&(struct row){"rpr_summarize, a tick, a send, in turn", NULL, BOUND_REGULAR, EVENTS, 2, sum_record, record, NULL});
+    bench_row(&(struct row){"the same, plain C where two flags put it", NULL, BOUND_FLAGS, EVENTS, 2, sum_record, record, &flagged});
+    fill(record, 1);
+    bench_row(&(struct row){"rpr_summarize, kinds and numbers at random", NULL, BOUND_MIXED, EVENTS, 2, sum_record, record, NULL});
 }
 
 /* ---- calls on numbers and summaries ---- */
 
-static uint8_t short_record[14 + 6 * 64], halves[2][RPR_SUMMARY_LENGTH];
+static uint8_t short_record[RPR_RECORD_HEADER_LENGTH + RPR_RECORD_EVENT_LENGTH * SHORT], halves[2][RPR_SUMMARY_LENGTH];
 
 typedef uint64_t loop(const struct calls *);
 
@@ -111,38 +104,47 @@ static uint64_t join(const struct calls *side) {
     return all;
 }
 
-static void bench_loop(const char *what, loop *run) {
-    struct times t = {1e12, 1e12};
-    for (int i = 0; i < ROUNDS; i++) {
-        double from = now();
-        uint64_t ours = run(&library);
-        double between = now();
-        uint64_t theirs = run(&plain);
-        keep_least(&t.library, between - from);
-        keep_least(&t.plain, now() - between);
-        if (ours != theirs) give_up("the two answers differ");
-    }
-    printf("%-48s %7.1f   %7.1f   %8.2f\n", what, t.library / CALLS, t.plain / CALLS, t.library / t.plain);
+static const struct measured {
+    const char *name;
+    loop *run;
+    double bound;
+} measured[] = {
+    {"rpr_choose, 63 stations, one link down", choose, BOUND},
+    {"rpr_path, 63 stations, one link down", walk, BOUND},
+    {"rpr_summarize, 64 events at random", summarize, BOUND_SHORT},
+    {"rpr_join", join, BOUND},
+    {"rpr_settle", settle, BOUND},
+};
+
+static double run_loop(const struct calls *side, const void *of, uint64_t *answers) {
+    const struct measured *m = of;
+    double from = now();
+    *answers = m->run(side);
+    return now() - from;
 }
 
+/* The record's first events are at random. */
 static void bench_calls(const uint8_t *record) {
     memcpy(short_record, record, sizeof short_record);
     for (size_t i = 0; i < 2; i++)
-        if (rpr_summarize(record, 14 + 6 * 40 * (i + 1), halves[i], RPR_SUMMARY_LENGTH) != 0) give_up("a record is refused");
-    puts("\ncalls without a station, ns per call             library   plain C   library / C");
-    bench_loop("rpr_choose, 63 stations, one link down", choose);
-    bench_loop("rpr_path, 63 stations, one link down", walk);
-    bench_loop("rpr_summarize, 64 events at random", summarize);
-    bench_loop("rpr_join", join);
-    bench_loop("rpr_settle", settle);
+        if (rpr_summarize(record, RPR_RECORD_HEADER_LENGTH + RPR_RECORD_EVENT_LENGTH * 40 * (i + 1), halves[i], RPR_SUMMARY_LENGTH) != 0) give_up("a record is refused");
+    bench_heading("calls without a station, ns per call", NULL);
+    for (size_t i = 0; i < sizeof measured / sizeof measured[0]; i++)
+        bench_row(&(struct row){measured[i].name, NULL, measured[i].bound, CALLS, 1, run_loop, &measured[i], NULL});
 }
 
-int main(void) {
-    uint8_t *record = malloc(LENGTH);
-    if (record == NULL) return 1;
-    bench_records(record);
-    bench_calls(record);
-    bench_station();
+int main(int count, char **words) {
+    uint8_t *record = malloc(LENGTH + RPR_RECORD_EVENT_LENGTH);
+    if (record == NULL) give_up("no memory");
+    compare_sides(record);
+    puts("the library, plain C and C with the library's own algorithm do the same");
+    if (count > 1) {
+        open_above(words[1]);
+        bench_records(record);
+        bench_calls(record);
+        bench_station();
+        close_above();
+    }
     free(record);
     return 0;
 }

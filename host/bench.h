@@ -1,24 +1,73 @@
-/* What the benchmarks share: a clock, and times of both sides. */
+/* What the benchmarks share: a clock, numbers at random, the three sides that are timed, and rows with the bounds that they are held to. */
 #ifndef BENCH_H
 #define BENCH_H
 
 #include "calls.h"
 
-/* Least times of the library and of plain C, in ns. */
-struct times {
-    double library, plain;
+/* C with the library's own algorithm: the text of plain C, compiled once more with SAME_ALGORITHM and under names of its own. */
+extern const struct calls same;
+
+/*
+ * The bounds: how much a row may take of the library, in times plain C. Where no other is named it is BOUND. MARGIN is for the measuring, so that a row which stands at
+ * its bound is not above it in one run and below it in the next. Mixed records have another bound on Arm, where the branches that plain C mispredicts cost less.
+ * BOUND_FLAGS is for regular records beside plain C whose loop lies where two flags put it, BOUND_REGULAR beside plain C at its best place (tools/bench). The bounds of
+ * the commands are in tools/bench-commands.
+ */
+#define BOUND 1.25
+#define BOUND_REGULAR 1.1
+#define BOUND_FLAGS 1.0
+#if defined(__aarch64__)
+#define BOUND_MIXED 0.6
+#else
+#define BOUND_MIXED 0.3
+#endif
+#define BOUND_SHORT 1.0
+#define BOUND_STATION 1.05
+#define BOUND_START 1.2
+#define MARGIN 0.05
+
+/* One round of a row on one side: its ns, and all its answers in one number. */
+typedef double timed_round(const struct calls *side, const void *of, uint64_t *answers);
+
+/* A row: what is measured, in which state if there are several, by what a round's ns are divided, and to how many places they are printed; and who stands in for
+ * plain C, if anyone does. */
+struct row {
+    const char *what, *state;
+    double bound, parts;
+    int places;
+    timed_round *round;
+    const void *of;
+    const struct calls *peer;
 };
+
+/* The file to which a line goes for each row that is above its bound. */
+void open_above(const char *name);
+void close_above(void);
+
+/* The heading of a table. The state is NULL where there is one alone. */
+void bench_heading(const char *what, const char *state);
+
+/* Measures and prints a row. One that is above its bound is measured once more before that is told. */
+void bench_row(const struct row *row);
+
+/* The tables of the station's calls. */
+void bench_station(void);
+
+/* Before a time is taken: the three sides answer and leave the same on records and stations of all kinds, good, faulty and damaged. The room has space for a record of
+ * a million events and one event more. */
+void compare_sides(uint8_t *room);
+
+/* A record's header and events. */
+void put_header(uint8_t *record, uint32_t mtu, uint32_t lo, uint32_t hi);
+void put_event(uint8_t *record, size_t place, unsigned kind, unsigned number);
 
 /* Nanoseconds of a clock that only goes forward. */
 double now(void);
 
-/* Keeps the lesser of a time and one just measured. */
-void keep_least(double *least, double ns);
+/* 31 bits at random, the same in every run. */
+unsigned next_random(void);
 
 /* Says what is wrong and ends the program. */
 _Noreturn void give_up(const char *what);
-
-/* The table of the station's calls. */
-void bench_station(void);
 
 #endif

@@ -7,7 +7,7 @@
 #include <stdio.h>
 #include <string.h>
 
-enum { STATIONS = 16, REPEATS = 300, ROUNDS = 15, N = RPR_STATION_LENGTH };
+enum { STATIONS = 16, REPEATS = 300, N = RPR_STATION_LENGTH };
 
 static uint8_t stations[STATIONS][N], theirs[STATIONS][N];
 static uint8_t room[RPR_READING_LENGTH], their_room[RPR_READING_LENGTH], settings[RPR_SETTINGS_LENGTH];
@@ -15,9 +15,11 @@ static uint8_t room[RPR_READING_LENGTH], their_room[RPR_READING_LENGTH], setting
 /* The stations that are measured: fresh with credit; with one frame in each transit queue; and with 120 frames in each and
  * congestion downstream. */
 static uint8_t empty[N], few[N], full[N];
-static const uint8_t *const images[] = {empty, few, full};
 
-enum { IMAGES = sizeof images / sizeof images[0] };
+static const struct {
+    const char *name;
+    const uint8_t *image;
+} states[] = {{"empty station", empty}, {"2 frames held", few}, {"240 frames held", full}};
 
 static const uint8_t heard[RPR_FRAME_LENGTH] = {250, 0xa0, 2, 0, 0, 0, 0, 9, 0, 0, 3, 232};
 
@@ -71,16 +73,22 @@ static void restore(const uint8_t *image) {
     for (unsigned i = 0; i < STATIONS; i++) memcpy(stations[i], image, N);
 }
 
-/* Both sides carry the call out, answer the same and leave the same bytes. */
-static void compare(batch *run, const uint8_t *image, const char *name) {
-    restore(image);
-    uint64_t answer = run(&plain);
+/* A call on one of these stations. */
+struct batch_on {
+    batch *run;
+    const uint8_t *image;
+};
+
+/* A side carries the call out, and answers and leaves what plain C does. */
+static void compare(const struct calls *side, const struct batch_on *on, const char *name) {
+    restore(on->image);
+    uint64_t answer = on->run(&plain);
     memcpy(theirs, stations, sizeof stations);
     memcpy(their_room, room, sizeof room);
-    restore(image);
-    if (run(&library) != answer || memcmp(stations, theirs, sizeof stations) != 0 || memcmp(room, their_room, sizeof room) != 0) {
+    restore(on->image);
+    if (on->run(side) != answer || memcmp(stations, theirs, sizeof stations) != 0 || memcmp(room, their_room, sizeof room) != 0) {
         printf("%s: ", name);
-        give_up("the library and plain C differ");
+        give_up("the sides differ");
     }
     if ((answer & 0xff) != 0) { /* 16 times a refusal's number is less than 256 */
         printf("%s: ", name);
@@ -88,25 +96,18 @@ static void compare(batch *run, const uint8_t *image, const char *name) {
     }
 }
 
-/* ns per call: some batches are timed one by one, the copying between them is not. */
-static double round_of(const struct calls *side, batch *run, const uint8_t *image) {
+/* Some batches are timed one by one, the copying between them is not. */
+static double run_batches(const struct calls *side, const void *of, uint64_t *answers) {
+    const struct batch_on *on = of;
     double ns = 0;
+    *answers = 0;
     for (int i = 0; i < REPEATS; i++) {
-        restore(image);
+        restore(on->image);
         double from = now();
-        run(side);
+        *answers += on->run(side);
         ns += now() - from;
     }
-    return ns / (REPEATS * STATIONS);
-}
-
-static struct times measure(batch *run, const uint8_t *image) {
-    struct times t = {1e12, 1e12};
-    for (int i = 0; i < ROUNDS; i++) {
-        keep_least(&t.library, round_of(&library, run, image));
-        keep_least(&t.plain, round_of(&plain, run, image));
-    }
-    return t;
+    return ns;
 }
 
 static void set_up(void) {
@@ -134,15 +135,13 @@ static void set_up(void) {
 
 void bench_station(void) {
     set_up();
-    puts("\nthe station's calls, ns per call   empty station              2 frames held              240 frames held");
-    puts("                            library  plain C     / C   library  plain C     / C   library  plain C     / C");
-    for (size_t i = 0; i < sizeof measured / sizeof measured[0]; i++) {
-        printf("%-26s", measured[i].name);
-        for (int k = 0; k < IMAGES; k++) {
-            compare(measured[i].run, images[k], measured[i].name);
-            struct times t = measure(measured[i].run, images[k]);
-            printf(" %8.1f %8.1f %7.2f ", t.library, t.plain, t.library / t.plain);
+    for (size_t k = 0; k < sizeof states / sizeof states[0]; k++) {
+        bench_heading("the station's calls, ns per call", states[k].name);
+        for (size_t i = 0; i < sizeof measured / sizeof measured[0]; i++) {
+            const struct batch_on on = {measured[i].run, states[k].image};
+            compare(&library, &on, measured[i].name);
+            compare(&same, &on, measured[i].name);
+            bench_row(&(struct row){measured[i].name, states[k].name, measured[i].run == start ? BOUND_START : BOUND_STATION, REPEATS * STATIONS, 1, run_batches, &on, NULL});
         }
-        putchar('\n');
     }
 }

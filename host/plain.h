@@ -3,6 +3,9 @@
  * same order, the same answers. A call looks at the lent bytes where they lie, and then changes the few fields it is about.
  *
  * The station is in plain.c and plain_range.c, ringlet choice and path in plain_ring.c, records and summaries in plain_record.c.
+ *
+ * Compiled with SAME_ALGORITHM it is C with the library's own algorithm, for a second comparison: records are summed by same_record.h, the queues of a station are
+ * tested by same_range.h, and plain_compare.c sums equal windows once.
  */
 #ifndef PLAIN_H
 #define PLAIN_H

@@ -10,10 +10,11 @@
 /* How it ends where both could be compared. */
 enum { SAME = 0, DIFFERENT = 1 };
 
-/* One of the two files: its window and what this reading of it so far comes to, and what the first came to. */
+/* One of the two files: its window and what this reading of it so far comes to, or why it ended; and what the first reading came to. */
 struct side {
     const char *word, *name;
-    int file;
+    int file, lost; /* lost is why it could not be read on, or 0 */
+    uint64_t refusal;
     struct rpr_summary tested;
     struct window at;
 };
@@ -43,48 +44,74 @@ static void open_side(struct side *s) {
     if (lseek(s->file, 0, SEEK_SET) < 0) end_with(s->name, "cannot be read twice, as a pipe's bytes are gone once read");
 }
 
-/* Fills the room, or as much of it as there is left to read. */
-static size_t read_full(const struct side *s, uint8_t *room, size_t length) {
-    size_t done = 0;
-    while (done < length) {
-        ssize_t got = read(s->file, room + done, length - done);
-        if (got < 0) end_with(s->name, strerror(errno));
-        if (got == 0) break;
-        done += (size_t)got;
+/* Fills the window behind its first bytes, or as much of it as there is left to read. */
+static void read_window(struct side *s, size_t from) {
+    s->at.length = from;
+    while (s->at.length < WINDOW) {
+        ssize_t got = read(s->file, s->at.bytes + s->at.length, WINDOW - s->at.length);
+        if (got < 0) s->lost = errno;
+        if (got <= 0) return;
+        s->at.length += (size_t)got;
     }
-    return done;
 }
 
-/* The first window, which is the file's front. */
-static uint64_t read_front(struct side *s) {
-    s->at.length = read_full(s, s->at.bytes, WINDOW);
-    return sum_front(&s->at);
+/* Whether the windows at hand have the same bytes. Plain C does not ask. */
+static int alike(void) {
+#ifdef SAME_ALGORITHM
+    return first.at.length == second.at.length && memcmp(first.at.bytes, second.at.bytes, first.at.length) == 0;
+#else
+    return 0;
+#endif
 }
 
-/* The next window is shorter than it could be where the file ends. */
-static uint64_t read_more(struct side *s) {
-    s->at.length = HEADER + read_full(s, s->at.bytes + HEADER, WINDOW - HEADER);
-    return sum_more(&s->at);
+static int is_fine(const struct side *s) { return s->lost == 0 && s->refusal == 0; }
+
+static int goes_on(const struct side *s) { return is_fine(s) && s->at.length == WINDOW; }
+
+static void sum_side(struct side *s, size_t from) {
+    if (is_fine(s)) s->refusal = from == 0 ? sum_front(&s->at) : sum_more(&s->at);
+}
+
+/* The next window of both, or the first, which begins at 0: it is shorter than it could be where the file ends. Equal windows behind equal sums are summed once. */
+static void read_both(size_t from) {
+    int equal = from == 0 || memcmp(&first.at.sum, &second.at.sum, sizeof first.at.sum) == 0;
+    if (is_fine(&first)) read_window(&first, from);
+    if (is_fine(&second)) read_window(&second, from);
+    int once = equal && is_fine(&first) && is_fine(&second) && alike();
+    sum_side(&first, from);
+    if (once) {
+        second.at.sum = first.at.sum;
+        second.refusal = first.refusal;
+    } else {
+        sum_side(&second, from);
+    }
 }
 
 /* ---- the first reading ---- */
 
-/* The whole file, tested and summed. */
-static void test(struct side *s) {
-    uint64_t refusal = read_front(s);
-    while (refusal == 0 && s->at.length == WINDOW) refusal = read_more(s);
-    if (refusal == 0) return;
-    put_line("refused ", (int64_t)refusal);
+static void hold_good(const struct side *s) {
+    if (is_fine(s)) return;
+    if (s->lost != 0) end_with(s->name, strerror(s->lost));
+    put_line("refused ", (int64_t)s->refusal);
     flush();
-    end_refused(s->name, refusal, record_words(refusal), TROUBLE);
+    end_refused(s->name, s->refusal, record_words(s->refusal), TROUBLE);
+}
+
+/* Both files, tested and summed. What is wrong with the first is said before what is wrong with the second. */
+static void test_both(void) {
+    read_both(0);
+    while (goes_on(&first) || (is_fine(&first) && goes_on(&second))) read_both(HEADER);
+    hold_good(&first);
+    hold_good(&second);
 }
 
 /* ---- the second reading ---- */
 
 /* A window was read again, up to this event or the file's end: the settings and the number of events so far have to be those of before. */
-static void hold_window(const struct side *s, uint64_t refusal, size_t end) {
+static void hold_window(const struct side *s, size_t end) {
     size_t events = s->tested.events < end ? s->tested.events : end, settings = offsetof(struct rpr_summary, events);
-    if (refusal != 0 || s->at.sum.events != events || memcmp(&s->at.sum, &s->tested, settings) != 0) end_changed(s);
+    if (s->lost != 0) end_with(s->name, strerror(s->lost));
+    if (s->refusal != 0 || s->at.sum.events != events || memcmp(&s->at.sum, &s->tested, settings) != 0) end_changed(s);
 }
 
 /* All was read again: it has to come to what it came to before. */
@@ -95,7 +122,13 @@ static void hold_sum(const struct side *s) {
 static void begin_again(struct side *s) {
     s->tested = s->at.sum;
     if (lseek(s->file, 0, SEEK_SET) < 0) end_with(s->name, strerror(errno));
-    hold_window(s, read_front(s), EVENTS);
+}
+
+/* The next window of both, up to this event. */
+static void read_again(size_t from, size_t end) {
+    read_both(from);
+    hold_window(&first, end);
+    hold_window(&second, end);
 }
 
 static void end_difference(void) {
@@ -141,6 +174,7 @@ static void list_surplus(const struct side *s, size_t place, size_t from) {
 
 /* The windows at hand, whose first events stand at this place. */
 static void list_window(size_t place) {
+    if (alike()) return;
     size_t both = held(&first) < held(&second) ? held(&first) : held(&second);
     for (size_t i = 0; i < both; i++) list_event(place + i, event_in(&first, i), event_in(&second, i));
     list_surplus(&first, place, both);
@@ -152,8 +186,7 @@ static void list_events(void) {
     list_window(place);
     while (first.at.length == WINDOW || second.at.length == WINDOW) {
         place += EVENTS;
-        hold_window(&first, read_more(&first), place + EVENTS);
-        hold_window(&second, read_more(&second), place + EVENTS);
+        read_again(HEADER, place + EVENTS);
         list_window(place);
     }
 }
@@ -173,10 +206,10 @@ int main(int count, char **words) {
     second.name = words[2];
     open_side(&first);
     open_side(&second);
-    test(&first);
-    test(&second);
+    test_both();
     begin_again(&first);
     begin_again(&second);
+    read_again(0, EVENTS);
     list_setting("mtu ", first.at.sum.mtu, second.at.sum.mtu);
     list_setting("loLimit ", first.at.sum.lo_limit, second.at.sum.lo_limit);
     list_setting("hiLimit ", first.at.sum.hi_limit, second.at.sum.hi_limit);

@@ -25,27 +25,17 @@ int plain_settings_ok(const uint8_t *s) {
            power_ok(word(s, RAMP_UP), 16, 512);
 }
 
-static int word_ok(uint32_t w, uint32_t mtu) {
-    return size_of(w) >= 16 && size_of(w) <= mtu && hops_of(w) >= 1 && class_of(w) <= 2 && mark_of(w) <= 1 && mark_of(w) <= class_of(w);
-}
-
-/* A run of slots holds frames in range; their bytes are added up. No loop here is left early, so that it runs on vectors. */
-static int used_ok(const uint8_t *queue, uint32_t from, uint32_t to, uint32_t mtu, uint32_t *bytes) {
-    uint32_t bad = 0, sum = 0;
-    for (uint32_t i = from; i < to; i++) {
-        uint32_t w = word(queue, i);
-        bad |= !word_ok(w, mtu);
-        sum += size_of(w);
-    }
-    *bytes += sum;
-    return bad == 0;
-}
+/* A run of slots holds frames in range; their bytes are added up. */
+static int used_ok(const uint8_t *queue, uint32_t from, uint32_t to, uint32_t mtu, uint32_t *bytes);
 
 /* A run of slots is empty. */
-static int free_ok(const uint8_t *queue, uint32_t from, uint32_t to) {
-    uint32_t any = 0;
-    for (uint32_t i = from; i < to; i++) any |= word(queue, i);
-    return any == 0;
+static int free_ok(const uint8_t *queue, uint32_t from, uint32_t to);
+
+#ifdef SAME_ALGORITHM
+#include "same_range.h"
+#else
+static int word_ok(uint32_t w, uint32_t mtu) {
+    return size_of(w) >= 16 && size_of(w) <= mtu && hops_of(w) >= 1 && class_of(w) <= 2 && mark_of(w) <= 1 && mark_of(w) <= class_of(w);
 }
 
 /* The frames stand in one run of slots, or in one at the end and one at the start. */
@@ -58,6 +48,25 @@ static int queue_ok(const uint8_t *queue, uint32_t mtu, uint32_t capacity) {
     else
         ok = used_ok(queue, 0, end - SLOTS, mtu, &sum) && free_ok(queue, end - SLOTS, head) && used_ok(queue, head, SLOTS, mtu, &sum);
     return ok && held == sum && held <= capacity;
+}
+#endif
+
+/* No loop here is left early, so that it runs on vectors. */
+static int used_ok(const uint8_t *queue, uint32_t from, uint32_t to, uint32_t mtu, uint32_t *bytes) {
+    uint32_t bad = 0, sum = 0;
+    for (uint32_t i = from; i < to; i++) {
+        uint32_t w = word(queue, i);
+        bad |= !word_ok(w, mtu);
+        sum += size_of(w);
+    }
+    *bytes += sum;
+    return bad == 0;
+}
+
+static int free_ok(const uint8_t *queue, uint32_t from, uint32_t to) {
+    uint32_t any = 0;
+    for (uint32_t i = from; i < to; i++) any |= word(queue, i);
+    return any == 0;
 }
 
 static int fair_ok(const uint8_t *station) {

@@ -24,6 +24,42 @@ static int settings_ok(const struct rpr_summary *s) {
            s->hi_limit <= 1048576;
 }
 
+/* What the events of a record so far come to. */
+struct tally {
+    int64_t accrued, sent, ceiling, need;
+};
+
+/* Events one by one, up to the last that may come: 0, or what the first with a fault is refused with. */
+static uint64_t sum_each(const uint8_t *record, size_t from, size_t to, const struct rpr_summary *s, struct tally *sum) {
+    int64_t hi = s->hi_limit, lo = s->lo_limit, mtu = s->mtu;
+    struct tally t = *sum;
+    for (size_t i = from; i < to; i++) {
+        const uint8_t *event = record + HEADER + EVENT * i;
+        uint32_t kind = get16(event + 2);
+        int64_t number = get16(event + 4);
+        if (get16(event) != EVENT) return 2;
+        if (kind == 1 || kind == 2) {
+            int64_t cut = kind == 1 ? hi : lo;
+            t.accrued += number;
+            t.ceiling = t.ceiling + number < cut ? t.ceiling + number : cut;
+        } else if (kind == 3) {
+            if (number < 16 || number > mtu) return 3;
+            int64_t asked = t.ceiling <= lo ? hi + 1 : lo + 1 - t.accrued + t.sent;
+            if (asked > t.need) t.need = asked;
+            t.sent += number;
+            t.ceiling -= number;
+        } else {
+            return 2;
+        }
+    }
+    *sum = t;
+    return 0;
+}
+
+#ifdef SAME_ALGORITHM
+#include "same_record.h"
+#endif
+
 /* The summary of a record, event by event. A byte after the millionth event, or a piece of an event at the end, is a fault
  * that stands behind those of the events before it. */
 uint64_t plain_summarize(const void *lent, size_t length, void *room, size_t room_length) {
@@ -32,30 +68,16 @@ uint64_t plain_summarize(const void *lent, size_t length, void *room, size_t roo
     if (length < HEADER || get16(record) != HEADER || get16(record + 2) != 16) return 2;
     struct rpr_summary s = {get16(record + 4), get32(record + 6), get32(record + 10), 0, 0, 0, 0, 0};
     if (!settings_ok(&s)) return 1;
-    size_t whole = (length - HEADER) / EVENT, events = whole < MOST_EVENTS ? whole : MOST_EVENTS;
-    int64_t hi = s.hi_limit, lo = s.lo_limit, mtu = s.mtu, ceiling = hi, accrued = 0, sent = 0, need = 0;
-    for (size_t i = 0; i < events; i++) {
-        const uint8_t *event = record + HEADER + EVENT * i;
-        uint32_t kind = get16(event + 2);
-        int64_t number = get16(event + 4);
-        if (get16(event) != EVENT) return 2;
-        if (kind == 1 || kind == 2) {
-            int64_t cut = kind == 1 ? hi : lo;
-            accrued += number;
-            ceiling = ceiling + number < cut ? ceiling + number : cut;
-        } else if (kind == 3) {
-            if (number < 16 || number > mtu) return 3;
-            int64_t asked = ceiling <= lo ? hi + 1 : lo + 1 - accrued + sent;
-            if (asked > need) need = asked;
-            sent += number;
-            ceiling -= number;
-        } else {
-            return 2;
-        }
-    }
+    size_t whole = (length - HEADER) / EVENT, events = whole < MOST_EVENTS ? whole : MOST_EVENTS, done = 0;
+    struct tally t = {0, 0, s.hi_limit, 0};
+#ifdef SAME_ALGORITHM
+    done = sum_blocks(record, events, &s, &t);
+#endif
+    uint64_t refusal = sum_each(record, done, events, &s, &t);
+    if (refusal != 0) return refusal;
     if (length > HEADER + EVENT * events) return events == MOST_EVENTS ? 9 : 2;
-    need = need > hi + 1 ? hi + 1 : need;
-    s = (struct rpr_summary){s.mtu, s.lo_limit, s.hi_limit, (uint32_t)events, (uint64_t)accrued, (uint64_t)sent, ceiling, (uint64_t)need};
+    int64_t never = (int64_t)s.hi_limit + 1, need = t.need < never ? t.need : never;
+    s = (struct rpr_summary){s.mtu, s.lo_limit, s.hi_limit, (uint32_t)events, (uint64_t)t.accrued, (uint64_t)t.sent, t.ceiling, (uint64_t)need};
     memcpy(room, &s, sizeof s);
     return 0;
 }
