@@ -58,7 +58,7 @@ static const struct calls flagged = {.summarize = flagged_summarize};
 static void bench_records(uint8_t *record) {
     bench_heading("a record of 1,000,000 events, ns per event", NULL);
     fill(record, 0);
-    bench_row(&(struct row){"rpr_summarize, a tick, a send, in turn", NULL, BOUND_REGULAR, EVENTS, 2, sum_record, record, NULL});
+    bench_row(&(struct row){"rpr_summarize, a tick, a send, in turn", NULL, BOUND_PLACED, EVENTS, 2, sum_record, record, NULL});
     bench_row(&(struct row){"the same, plain C where two flags put it", NULL, BOUND_FLAGS, EVENTS, 2, sum_record, record, &flagged});
     fill(record, 1);
     bench_row(&(struct row){"rpr_summarize, kinds and numbers at random", NULL, BOUND_MIXED, EVENTS, 2, sum_record, record, NULL});
@@ -108,12 +108,14 @@ static const struct measured {
     const char *name;
     loop *run;
     double bound;
+    const struct calls *peer;
 } measured[] = {
-    {"rpr_choose, 63 stations, one link down", choose, BOUND},
-    {"rpr_path, 63 stations, one link down", walk, BOUND},
-    {"rpr_summarize, 64 events at random", summarize, BOUND_SHORT},
-    {"rpr_join", join, BOUND},
-    {"rpr_settle", settle, BOUND},
+    {"rpr_choose, 63 stations, one link down", choose, BOUND, NULL},
+    {"rpr_path, 63 stations, one link down", walk, BOUND, NULL},
+    {"rpr_summarize, 64 events at random", summarize, BOUND_PLACED, NULL},
+    {"the same, plain C where two flags put it", summarize, BOUND_FLAGS, &flagged},
+    {"rpr_join", join, BOUND, NULL},
+    {"rpr_settle", settle, BOUND, NULL},
 };
 
 static double run_loop(const struct calls *side, const void *of, uint64_t *answers) {
@@ -130,7 +132,7 @@ static void bench_calls(const uint8_t *record) {
         if (rpr_summarize(record, RPR_RECORD_HEADER_LENGTH + RPR_RECORD_EVENT_LENGTH * 40 * (i + 1), halves[i], RPR_SUMMARY_LENGTH) != 0) give_up("a record is refused");
     bench_heading("calls without a station, ns per call", NULL);
     for (size_t i = 0; i < sizeof measured / sizeof measured[0]; i++)
-        bench_row(&(struct row){measured[i].name, NULL, measured[i].bound, CALLS, 1, run_loop, &measured[i], NULL});
+        bench_row(&(struct row){measured[i].name, NULL, measured[i].bound, CALLS, 1, run_loop, &measured[i], measured[i].peer});
 }
 
 int main(int count, char **words) {

@@ -10,18 +10,17 @@ extern const struct calls same;
 /*
  * The bounds: how much a row may take of the library, in times plain C. Where no other is named it is BOUND. MARGIN is for the measuring, so that a row which stands at
  * its bound is not above it in one run and below it in the next. Mixed records have another bound on Arm, where the branches that plain C mispredicts cost less.
- * BOUND_FLAGS is for regular records beside plain C whose loop lies where two flags put it, BOUND_REGULAR beside plain C at its best place (tools/bench). The bounds of
- * the commands are in tools/bench-commands.
+ * BOUND_FLAGS is for regular and for short records beside plain C whose loop lies where two flags put it, BOUND_PLACED beside plain C at its best place (tools/bench).
+ * The bounds of the commands are in tools/bench-commands.
  */
 #define BOUND 1.25
-#define BOUND_REGULAR 1.1
 #define BOUND_FLAGS 1.0
+#define BOUND_PLACED 1.1
 #if defined(__aarch64__)
 #define BOUND_MIXED 0.6
 #else
 #define BOUND_MIXED 0.3
 #endif
-#define BOUND_SHORT 1.0
 #define BOUND_STATION 1.05
 #define BOUND_START 1.2
 #define MARGIN 0.05
