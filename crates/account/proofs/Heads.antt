@@ -1,7 +1,7 @@
 -- The first four bytes of an event as one number say its length and kind, and the block reader's test of them is `good`.
 -- Assumes nothing.
 use Prim.Native.Nat.{ℕ, _+_, _-_, _*_, _/_, _%_, _≤_, _<_}
-use mathlib.Core.Bool.{Bool, false, _&&_, _||_, or-false}
+use mathlib.Core.Bool.{Bool, false, not, _&&_, _||_, or-false}
 use mathlib.Core.List.{List}
 use mathlib.Core.Path.{_≡_, refl}
 use native.Mathlib.Omega.{arith}
@@ -41,15 +41,15 @@ module _ (mtu len kind num head : ℕ) (hl : len < 65536) (hk : kind < 65536) (e
   unfolding test
   tested-good = by-cases (split (len ≡? 6)) of-six (λ z. rw (none (omega arith) (omega arith) (omega arith), ne-eqb len 6 z) refl)
 
--- a number is 16 to mtu exactly if it is at most mtu − 16 after 16 is taken off, in 16 bits
-pub sized-by : (span num : ℕ) → span ≤ 9200 → num ≤ 65535 → ltb ((num + 65520) % 65536) (span + 1) ≡ test (sizeOk num (span + 16))
+-- a number is 16 to mtu exactly if it is not above mtu − 16 after 16 is taken off, in 16 bits
+pub sized-by : (span num : ℕ) → span ≤ 9200 → num ≤ 65535 → not (ltb span ((num + 65520) % 65536)) ≡ test (sizeOk num (span + 16))
 unfolding test
 sized-by span num hs hn =
     by-cases (le-or 16 num)
     (λ h. by-cases (le-or num (span + 16))
-    (λ k. simp (lt-ltb ((num + 65520) % 65536) (span + 1) (omega arith), le-leb 16 num h, le-leb num (span + 16) k))
-    (λ k. simp (le-ltb ((num + 65520) % 65536) (span + 1) (omega arith), le-leb 16 num h, lt-leb num (span + 16) k)))
-    (λ h. simp (le-ltb ((num + 65520) % 65536) (span + 1) (omega arith), lt-leb 16 num h))
+    (λ k. simp (le-ltb span ((num + 65520) % 65536) (omega arith), le-leb 16 num h, le-leb num (span + 16) k))
+    (λ k. simp (lt-ltb span ((num + 65520) % 65536) (omega arith), le-leb 16 num h, lt-leb num (span + 16) k)))
+    (λ h. simp (lt-ltb span ((num + 65520) % 65536) (omega arith), lt-leb 16 num h))
 
 -- ---- at a place
 

@@ -27,7 +27,7 @@ const MAX_EVENTS: u64 = Summary::MAX_EVENTS as u64;
 const MAX_BLOCKS: u64 = MAX_EVENTS / 64;
 
 // The smallest size of a send.
-const MIN_SIZE: u32 = Summary::MIN_SIZE as u32;
+const MIN_SIZE: u32 = Summary::MIN_SIZE;
 
 // The first four bytes of an event as one number, its length and its kind: of a tick while traffic waits,
 const WAITING: u32 = 6 + 65536;
@@ -88,7 +88,7 @@ fn block(s: &[u8], from: usize, limits: Limits, n: u64, start: Tally) -> Tallied
     let rise = limits.hi - limits.lo;
     let made = parts(s, from, rise, limits.mtu - MIN_SIZE);
     let good = made.good;
-    let t = start.over(rise as u64, made);
+    let t = start.over(rise, made);
     Tallied {
         tally: t,
         good: good,
@@ -157,12 +157,13 @@ fn event(p: Part, s: &[u8], at: usize, rise: u32, span: u32) -> Part
     )
 }
 
-// Whether a number is 16 to mtu, by one comparison: 16 is taken off it in 16 bits, where a number below 16 comes out above every span.
+// Whether a number is 16 to mtu, by one comparison: 16 is taken off it in 16 bits, where a number below 16 comes out above every span. "Not above" spares the
+// compiler a copy that "at most" takes.
 fn sized(v: u32, span: u32) -> bool
     requires { ⌜ (v ≤ 65535) × (span ≤ 9200) ⌝ }
     ensures { λ r. ⌜ r ≡ test (sizeOk v (span + 16)) ⌝ }
 {
-    decide::below((v + 65520) % 65536, span + 1)
+    !decide::below(span, (v + 65520) % 65536)
 }
 
 // The answer to a record of which so many events stand in a tally and the rest begins at a place: one item at a time, to the end or the first fault. So many

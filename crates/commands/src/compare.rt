@@ -2,17 +2,17 @@
 // printed is what `apart` puts into its room; what a file comes to is what `window` says of its windows.
 ghost use mathlib.Core.Path.{_≡_};
 ghost use lib.ListN.{length};
-use crate::files;
 use crate::pairs::Ends;
 use crate::pairs::Reach;
 use crate::pairs::WINDOW;
 use crate::pairs::front;
 use crate::pairs::further;
 use crate::pairs::goes_on;
-use crate::status::TROUBLE;
-use crate::status::same_status;
-use crate::tell;
-use crate::words;
+use console::files;
+use console::status::TROUBLE;
+use console::status::same_status;
+use console::tell;
+use console::words;
 use summary::Answer;
 use summary::Summary;
 use window::Both;

@@ -1,9 +1,9 @@
 // `rpr join [--sheet] SUMMARY..`: summaries, each a file of 48 bytes, joined in the order given.
-use crate::files;
-use crate::status::TROUBLE;
-use crate::status::status_of;
-use crate::tell;
-use crate::words;
+use console::files;
+use console::status::TROUBLE;
+use console::status::status_of;
+use console::tell;
+use console::words;
 use summary::Answer;
 
 // The files so far: their summaries joined; whether there was any, and whether standard input was among them; and whether one could not be read or was refused, which is

@@ -1,13 +1,9 @@
 // The commands of `rpr`: reading, printing, and what is said on standard error. What is printed is what `report`, `sheet` and `apart` put into their rooms; what a
 // record comes to is what `hex`, `feed` and `window` say of it. Each command answers its exit status.
 mod compare;
-mod files;
 mod join;
 mod pairs;
-mod status;
 mod summarize;
-mod tell;
-mod words;
 
 // `rpr summarize`: 0 where the summary is printed, 1 where the record is refused, 2 where there is trouble.
 #[no_mangle]

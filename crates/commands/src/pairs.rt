@@ -2,8 +2,8 @@
 ghost use mathlib.Core.Path.{_≡_};
 ghost use Prim.Native.Nat.{_≤_};
 ghost use lib.ListN.{length};
-use crate::files::Got;
-use crate::files::fill;
+use console::files::Got;
+use console::files::fill;
 use summary::Answer;
 use window::Both;
 

@@ -1,10 +1,10 @@
 // `rpr summarize [--bytes] [--sheet] [FILE]`: the summary of a shaper record, given as hex text or as bytes.
-use crate::files;
-use crate::status::TROUBLE;
-use crate::status::status_of;
-use crate::tell;
-use crate::words;
-use crate::words::Asked;
+use console::files;
+use console::status::TROUBLE;
+use console::status::status_of;
+use console::tell;
+use console::words;
+use console::words::Asked;
 use hex::Hex;
 use hex::Place;
 use summary::Answer;

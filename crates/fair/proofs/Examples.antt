@@ -7,11 +7,12 @@ use Rattle.rates.specs.Rates.{partOf, smoothedOf, shownOf, agedOf, rampedOf, al
 use Rattle.advert.specs.declared.Advert.{Advert}
 use Rattle.settings.specs.declared.Bucket.{Bucket}
 use Rattle.settings.specs.declared.Settings.{Settings}
+use Rattle.heard.specs.Frame.{receivedOf}
 use Rattle.fair.specs.declared.Fair.{Fair}
 use Rattle.fair.specs.Range.{fairOk}
 use Rattle.fair.specs.Count.{beyond, over, raisedOf, countOf}
 use Rattle.fair.specs.Age.{adjustOf, allowedOf, allowedcOf, ageOf}
-use Rattle.fair.specs.Advertise.{toldOf, receivedOf, heardOf}
+use Rattle.fair.specs.Advertise.{toldOf, heardOf}
 
 -- ringlet 0, address 00-01-00-00-00-02, low threshold 1,000, weight 2, rate unit 4, unreservedRate 1,000,000, default coefficients
 abbrev pub settings : Settings

@@ -7,12 +7,12 @@ use Rattle.decide.specs.Test.{test, Holds, facts, passes}
 use Rattle.rates.proofs.Bounds.{own-within}
 use Rattle.settings.specs.declared.Settings.{Settings}
 use Rattle.settings.specs.Range.{SettingsOk}
+use Rattle.heard.proofs.Range.{received-facts, received-holds, none-received-ok}
 use Rattle.fair.specs.declared.Four.{Four}
 use Rattle.fair.specs.declared.Decided.{Decided}
-use Rattle.fair.specs.declared.Received.{Received}
 use Rattle.fair.specs.declared.Fair.{Fair}
-use Rattle.fair.specs.Range.{fourOk, decidedOk, receivedOk, fairOk, FourOk, DecidedOk, ReceivedOk, FairOk}
-use Rattle.fair.specs.Start.{noneCounted, noneReceived, startOf}
+use Rattle.fair.specs.Range.{fourOk, decidedOk, fairOk, FourOk, DecidedOk, FairOk}
+use Rattle.fair.specs.Start.{noneCounted, startOf}
 
 module _ (r : Four) where
   four-facts : Holds (fourOk r) → FourOk r
@@ -28,14 +28,6 @@ module _ (s : Settings) (d : Decided) where
 
   decided-holds : DecidedOk s d → Holds (decidedOk s d)
   decided-holds ok = omega arith
-
-module _ (r : Received) where
-  received-facts : Holds (receivedOk r) → ReceivedOk r
-  received-facts h =
-      record { rate-most = omega arith; ttl-least = omega arith; ttl-most = omega arith; downstream-most = omega arith; high-most = omega arith }
-
-  received-holds : ReceivedOk r → Holds (receivedOk r)
-  received-holds ok = omega arith
 
 module _ (s : Settings) (f : Fair) where
   -- a state in range: the facts
@@ -63,12 +55,9 @@ module _ (s : Settings) (f : Fair) where
         ),
       )
 
--- nothing counted, and nothing received, is in range
+-- nothing counted is in range
 none-counted-ok : FourOk noneCounted
 none-counted-ok = four-facts noneCounted (omega arith)
-
-pub none-received-ok : ReceivedOk noneReceived
-none-received-ok = received-facts noneReceived (omega arith)
 
 -- a station that has just started is in range
 pub start-in-range : (s : Settings) → SettingsOk s → FairOk s (startOf s)

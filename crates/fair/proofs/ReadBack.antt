@@ -10,10 +10,13 @@ use Rattle.decide.proofs.Refusal.{in-order}
 use Rattle.advert.proofs.ReadBack.{parse-written}
 use Rattle.settings.specs.declared.Settings.{Settings}
 use Rattle.settings.specs.Range.{SettingsOk}
+use Rattle.heard.specs.Range.{ttlOk}
+use Rattle.heard.specs.Frame.{ownFrame, lastHop, ownRinglet, ringletFault, ttlFault, addressFault}
+use Rattle.heard.proofs.Frame.{last-exactly}
 use Rattle.fair.specs.declared.Fair.{Fair}
-use Rattle.fair.specs.Range.{ttlOk, FairOk}
-use Rattle.fair.specs.Advertise.{ownFrame, passedOn, lastHop, toldOf, ownRinglet, ringletFault, ttlFault, addressFault}
-use Rattle.fair.proofs.Told.{last-exactly, told-each}
+use Rattle.fair.specs.Range.{FairOk}
+use Rattle.fair.specs.Advertise.{passedOn, toldOf}
+use Rattle.fair.proofs.Told.{told-each}
 use Rattle.fair.specs.ReadBack.{Sound, ReadBack}
 
 -- settings and state in range; the low 32 bits of an address are a 32-bit number

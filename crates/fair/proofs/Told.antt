@@ -1,24 +1,22 @@
 -- What is advertised, row by row: each row follows from the definition by whether its tests hold. Assumes nothing.
-use Prim.Native.Nat.{ℕ, _≤_, _<_}
+use Prim.Native.Nat.{_≤_, _<_}
 use mathlib.Core.Bool.{true, false}
-use mathlib.Core.Logic.{_⊎_, inl, inr, ⊎-elim, _↔_}
+use mathlib.Core.Logic.{_⊎_, inl, inr, ⊎-elim}
 use mathlib.Core.Path.{_≡_, sym}
 use native.Mathlib.Omega.{arith}
-use Rattle.decide.specs.Test.{test, Holds, passes, decided}
+use Rattle.decide.specs.Test.{test, passes, decided}
 use Rattle.decide.proofs.Tests.{failing}
 use Rattle.decide.proofs.Cases.{of-each}
 use Rattle.advert.specs.declared.Advert.{Advert}
 use Rattle.settings.specs.declared.Settings.{Settings}
+use Rattle.heard.specs.Frame.{ownFrame, lastHop}
+use Rattle.heard.proofs.Frame.{last-exactly}
 use Rattle.fair.specs.declared.Fair.{Fair}
-use Rattle.fair.specs.Advertise.{ownFrame, passedOn, uncongested, ownCounts, lastHop, toldOf}
+use Rattle.fair.specs.Advertise.{passedOn, uncongested, ownCounts, toldOf}
 
 -- the received rate counts: downstream congested, and not locally too or own > received
 abbrev pub ReceivedCounts : Fair → Type 0
 ReceivedCounts f = (f .received .downstream ≡ 1) × ((f .decided .congested ≡ 0) ⊎ (f .received .rate < f .decided .own))
-
--- a received frame goes no further if its ttl was 193
-pub last-exactly : (ttl : ℕ) → Holds (lastHop ttl) ↔ (ttl ≡ 193)
-last-exactly ttl = (λ h. h, λ h. h)
 
 module _ (f : Fair) (s : Settings) where
   -- ---- the cases of the definition

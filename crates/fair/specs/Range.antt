@@ -1,16 +1,12 @@
 -- The range of the fairness state: "own and received rates at most 65,534, other rates at most 2,147,483,647, allowed rates at most unreservedRate
 -- and a received ttl 193 to 255". Assumes nothing.
-use Prim.Native.Nat.{ℕ, _≤_}
+use Prim.Native.Nat.{_≤_}
 use Rattle.decide.specs.Test.{Test, _≤?_, _∧?_}
 use Rattle.settings.specs.declared.Settings.{Settings}
+use Rattle.heard.specs.Range.{receivedOk, ReceivedOk}
 use Rattle.fair.specs.declared.Four.{Four}
 use Rattle.fair.specs.declared.Decided.{Decided}
-use Rattle.fair.specs.declared.Received.{Received}
 use Rattle.fair.specs.declared.Fair.{Fair}
-
--- ttl 193 to 255, received and in a frame alike
-abbrev pub ttlOk : ℕ → Test
-ttlOk ttl = 193 ≤? ttl ∧? ttl ≤? 255
 
 -- other rates at most 2,147,483,647: four of them
 abbrev pub fourOk : Four → Test
@@ -22,10 +18,6 @@ decidedOk s d =
     d .own ≤? 65534 ∧? d .local ≤? 2147483647
     ∧? d .allowed ≤? s .fairness .unreserved ∧? d .allowedc ≤? s .fairness .unreserved
     ∧? d .congested ≤? 1
-
--- received rate and ttl, a flag, 0 or 1, and the high 16 bits of the received address
-abbrev pub receivedOk : Received → Test
-receivedOk r = r .rate ≤? 65534 ∧? ttlOk (r .ttl) ∧? r .downstream ≤? 1 ∧? r .high ≤? 65535
 
 unfoldable pub fairOk : Settings → Fair → Test
 fairOk s f = fourOk (f .counters) ∧? fourOk (f .smoothed) ∧? decidedOk s (f .decided) ∧? receivedOk (f .received)
@@ -44,13 +36,6 @@ pub record DecidedOk (s : Settings) (d : Decided) : Type 0 where
   pub allowed-most : d .allowed ≤ s .fairness .unreserved
   pub allowedc-most : d .allowedc ≤ s .fairness .unreserved
   pub congested-most : d .congested ≤ 1
-
-pub record ReceivedOk (r : Received) : Type 0 where
-  pub rate-most : r .rate ≤ 65534
-  pub ttl-least : 193 ≤ r .ttl
-  pub ttl-most : r .ttl ≤ 255
-  pub downstream-most : r .downstream ≤ 1
-  pub high-most : r .high ≤ 65535
 
 pub record FairOk (s : Settings) (f : Fair) : Type 0 where
   pub of-counters : FourOk (f .counters)

@@ -10,8 +10,9 @@ use Rattle.advert.specs.declared.Advert.{Advert}
 use Rattle.advert.specs.declared.Parsed.the-variants.{Frame}
 use Rattle.advert.specs.Frame.{advertBytes, parsedOf, AdvertFits}
 use Rattle.settings.specs.declared.Settings.{Settings}
+use Rattle.heard.specs.Frame.{otherRinglet, ownAddress, ringletFault, ttlFault, addressFault}
 use Rattle.fair.specs.declared.Fair.{Fair}
-use Rattle.fair.specs.Advertise.{otherRinglet, toldOf, ownAddress, ringletFault, ttlFault, addressFault}
+use Rattle.fair.specs.Advertise.{toldOf}
 
 -- a frame that fits, has a ttl in range and bears the other ringlet's bit
 pub record Sound (s : Settings) (a : Advert) : Type 0 where

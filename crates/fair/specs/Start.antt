@@ -1,16 +1,12 @@
 -- The fairness state of a station that has just started. Assumes nothing.
 use Rattle.rates.specs.Rates.{ownRateOf}
 use Rattle.settings.specs.declared.Settings.{Settings}
+use Rattle.heard.specs.Frame.{noneReceived}
 use Rattle.fair.specs.declared.Four.{Four}
-use Rattle.fair.specs.declared.Received.{Received}
 use Rattle.fair.specs.declared.Fair.{Fair}
 
 abbrev pub noneCounted : Four
 noneCounted = record { add = 0; fw = 0; addc = 0; fwc = 0 }
-
--- no congestion downstream, received ttl 255, received address and rate 0
-abbrev pub noneReceived : Received
-noneReceived = record { downstream = 0; ttl = 255; high = 0; low = 0; rate = 0 }
 
 -- Counters and smoothed rates start at 0, own rate by its formula, other rates at unreservedRate, with no congestion, received ttl 255, received
 -- address and rate 0.

@@ -3,16 +3,14 @@
 ghost use mathlib.Core.Path.{_≡_};
 ghost use Rattle.decide.specs.Test.{test};
 ghost use Rattle.rates.specs.Rates.{shareOf};
-ghost use Rattle.fair.specs.Range.{ttlOk, fourOk, decidedOk, receivedOk, fairOk};
-ghost use Rattle.fair.specs.Start.{noneReceived, startOf};
+ghost use Rattle.fair.specs.Range.{fourOk, decidedOk, fairOk};
+ghost use Rattle.fair.specs.Start.{startOf};
 ghost use Rattle.fair.specs.Count.{beyond, over, raisedOf, countOf};
 ghost use Rattle.fair.specs.Age.{smoothOf, lowerOf, localTest, adjustOf, allowedOf, allowedcOf, newDecided, ageOf};
-ghost use Rattle.fair.specs.Advertise.{ownRinglet, ownAddress};
 
 mod advertising;
 
-use advert::Advert;
-use settings::Address;
+use heard::Received;
 use settings::Fairness;
 use settings::Settings;
 
@@ -34,15 +32,6 @@ pub struct Decided {
     pub congested: u32,
 }
 
-// What was received: whether a station downstream is congested (1, else 0), ttl, the high 16 and the low 32 bits of the address, rate.
-pub struct Received {
-    pub downstream: u32,
-    pub ttl: u32,
-    pub high: u32,
-    pub low: u32,
-    pub rate: u32,
-}
-
 // What a station knows of the rates and of congestion, its own and that of stations downstream: addRate, fwRate, addRateCongested, fwRateCongested, the
 // same smoothed (lpAddRate and so on), what the last interval decided, and what was received.
 pub struct Fair {
@@ -62,9 +51,6 @@ struct Adjusted {
 pub const SECONDARY: u32 = 3;
 
 pub const STAGE: u32 = 4;
-
-// The rate of a frame that tells of no congestion.
-pub const FULL_RATE: u16 = 65535;
 
 impl Four {
     // The largest counter, and the largest rate that is neither own nor received.
@@ -105,13 +91,6 @@ impl Four {
     }
 }
 
-// Whether a ttl is one that a fairness frame may have. Every test of a ttl's range is made here.
-pub fn ttl_ok(ttl: u32) -> bool
-    ensures { λ r. ⌜ r ≡ test (ttlOk ttl) ⌝ }
-{
-    (193 <= ttl) & (ttl <= 255)
-}
-
 impl Decided {
     // The largest own rate.
     pub const MAX_OWN: u32 = 65534;
@@ -126,34 +105,6 @@ impl Decided {
             & (self.allowed <= unreserved)
             & (self.allowedc <= unreserved)
             & (self.congested <= 1)
-    }
-}
-
-impl Received {
-    // The largest received rate.
-    pub const MAX_RATE: u32 = 65534;
-
-    // Nothing received.
-    fn none() -> Received
-        ensures { λ r. ⌜ r ≡ noneReceived ⌝ }
-    {
-        Received {
-            downstream: 0,
-            ttl: 255,
-            high: 0,
-            low: 0,
-            rate: 0,
-        }
-    }
-
-    // Whether rate, ttl, flag and address are each in range.
-    fn in_range(self) -> bool
-        ensures { λ r. ⌜ r ≡ test (receivedOk self) ⌝ }
-    {
-        (self.rate <= Received::MAX_RATE)
-            & ttl_ok(self.ttl)
-            & (self.downstream <= 1)
-            & (self.high <= Address::MAX_HIGH)
     }
 }
 
@@ -217,8 +168,12 @@ impl Fair {
     pub fn count(self, settings: Settings, origin: u32, mark: u32, hops: u32, size: u32) -> Fair
         ensures { λ r. ⌜ r ≡ countOf settings self origin mark hops size ⌝ }
     {
-        let stage = (origin == STAGE) & (mark == 1);
-        let secondary = (origin == SECONDARY) & (mark == 1);
+        // A frame that is not marked counts nowhere.
+        if mark != 1 {
+            return self;
+        }
+        let stage = origin == STAGE;
+        let secondary = origin == SECONDARY;
         let beyond = self.is_beyond(hops);
         let old = self.counters;
         let counters = Four {
@@ -288,20 +243,6 @@ impl Fair {
             settings.fairness.ticks,
         )
     }
-}
-
-// Whether a frame bears the station's own ringlet bit: refusal 2.
-pub fn is_own_ringlet(settings: Settings, advert: Advert) -> bool
-    ensures { λ r. ⌜ r ≡ test (ownRinglet settings advert) ⌝ }
-{
-    advert.ringlet as u32 == settings.ringlet
-}
-
-// Whether a frame bears the station's own address: refusal 11.
-pub fn is_own_address(settings: Settings, advert: Advert) -> bool
-    ensures { λ r. ⌜ r ≡ test (ownAddress settings advert) ⌝ }
-{
-    (advert.high == settings.address.high) & (advert.low == settings.address.low)
 }
 
 // Whether a station is locally congested with so many bytes in the secondary queue.

@@ -5,9 +5,8 @@ use mathlib.Core.Bool.{Bool, true, false, cond, _&&_}
 use mathlib.Core.List.{List, [], _∷_, _++_}
 use mathlib.Core.Path.{_≡_, refl, ap, sym, subst, _∙_}
 use native.Mathlib.Omega.{arith}
-use borrow.Author.Tests.{ltb-true, lt-ltb}
+use borrow.Author.Tests.{ltb-true}
 use lib.Dec.{eqb}
-use Rattle.decide.specs.Test.{facts}
 use Rattle.decide.proofs.Cases.{by-cases, true-or-false}
 use Rattle.decide.proofs.Refused.{of-answer}
 use Rattle.shaper.specs.declared.Event.{Event}
@@ -17,31 +16,26 @@ use Rattle.shaper.specs.Credit as shaper
 use Rattle.shaper.proofs.Credit.{end-append, permitted-append, valid-append}
 use Rattle.queue.specs.declared.Frame.{Frame}
 use Rattle.queue.specs.declared.Queue.{Queue}
-use Rattle.queue.specs.Queue as queue
-use Rattle.queue.proofs.Laws.{first-ok}
 use Rattle.settings.specs.declared.Settings.{Settings}
 use Rattle.settings.specs.Range.{SettingsOk}
+use Rattle.credits.specs.declared.Credits.{Credits}
+use Rattle.credits.specs.declared.Way.{Way}
+use Rattle.credits.specs.declared.Which.{Which}
+use Rattle.credits.specs.declared.Which.the-variants.{M, A, B, C, D}
+use Rattle.credits.specs.Which.{creditOf, limitsFor, permitsAll, member, sends, fed}
+use Rattle.credits.specs.Way.{needsOf, markOf, wayOf}
+use Rattle.credits.proofs.Charge.{permits-member}
+use Rattle.credits.proofs.Range.{bucket-ok, credit-fed}
 use Rattle.flow.specs.declared.Client.{Client}
-use Rattle.flow.specs.declared.Credits.{Credits}
 use Rattle.flow.specs.declared.Entered.{Entered}
 use Rattle.flow.specs.declared.Flow.{Flow}
 use Rattle.flow.specs.declared.Line.{Line}
 use Rattle.flow.specs.declared.Line.the-variants.{Control, Primary, Secondary}
-use Rattle.flow.specs.declared.Selected.{Selected}
-use Rattle.flow.specs.declared.Way.{Way}
-use Rattle.flow.specs.declared.Which.{Which}
-use Rattle.flow.specs.declared.Which.the-variants.{M, A, B, C, D}
-use Rattle.flow.specs.Which.{creditOf, limitsFor, permitsAll, member, sends, fed}
-use Rattle.flow.specs.Parts.{queueOf, stageHolds, withQueue}
-use Rattle.flow.specs.Range.{FlowOk}
+use Rattle.flow.specs.Parts.{stageHolds, withQueue}
 use Rattle.flow.specs.Tick.{waits, amountOf, tickEvents, tickOf}
-use Rattle.flow.specs.Offer.{enterOf, needsOf, markOf, wayOf, refusedOf, clientAs, clientOf}
-use Rattle.flow.specs.Select.{controlReady, secondaryReady, selectOf}
-use Rattle.flow.specs.Events.{noEvents, clientEvents, selectEvents, Feeds}
-use Rattle.flow.proofs.Charge.{permits-one, permits-member}
+use Rattle.flow.specs.Offer.{enterOf, refusedOf, clientAs, clientOf}
+use Rattle.flow.specs.Events.{noEvents, clientEvents, Feeds}
 use Rattle.flow.proofs.Offer.{client-full, client-barred, client-over, client-taken, way-back}
-use Rattle.flow.proofs.Range.{bucket-ok, credit-fed}
-use Rattle.flow.proofs.Select.{Goes, control, primary, pressed, staged, secondary, nothing, goes, control-permitted, secondary-permitted}
 
 module _ (s : Settings) (f : Flow) where
   -- ---- no charge, and a charge
@@ -64,7 +58,7 @@ module _ (s : Settings) (f : Flow) where
       go false = tt
 
   -- shapers that permit are charged one send each
-  charge-feeds : (g : Flow) (ws : List Which) (z : ℕ) → (16 ≤ z) × (z ≤ s .mtu) → permitsAll s (f .credits) ws ≡ true
+  pub charge-feeds : (g : Flow) (ws : List Which) (z : ℕ) → (16 ≤ z) × (z ≤ s .mtu) → permitsAll s (f .credits) ws ≡ true
       → g .credits ≡ fed s (f .credits) (sends ws z) → Feeds s f g (sends ws z)
   charge-feeds g ws z h p e =
       record {
@@ -132,29 +126,6 @@ module _ (s : Settings) (f : Flow) where
 
       refused : (n detail : ℕ) → eqb n 0 ≡ false → clientAs w s f class size hops over ≡ refusedOf f n detail → Fed (clientAs w s f class size hops over)
       refused n detail z e = subst Fed (sym e) (rw z (none-feeds f refl))
-
-  -- ---- selection
-
-  -- the size of a queue's first frame
-  head-size : FlowOk s f → (l : Line) → queue.holdsFrame (queueOf f l) ≡ true → (16 ≤ queue.firstFrame (queueOf f l) .size) × (queue.firstFrame (queueOf f l) .size ≤ s .mtu)
-  head-size ok l h = let x = first-ok (ok .queues l) h in (x .least, x .most)
-
-  row-feeds : {r : Selected} → FlowOk s f → Goes s f r → Feeds s f (r .flow) (selectEvents s f r)
-  row-feeds ok (control a) =
-      charge-feeds _ (M ∷ []) (queue.firstFrame (f .control) .size) (head-size ok Control (lt-ltb 0 (f .control .count) (facts (controlReady s f) a .0)))
-      (sym (permits-one s (f .credits) M) ∙ control-permitted s f a) refl
-  row-feeds ok (primary a b) = none-feeds _ refl
-  row-feeds ok (pressed a b c) = rw c (none-feeds _ refl)
-  row-feeds ok (staged a b c d) = none-feeds _ refl
-  row-feeds ok (secondary a b c d e) =
-      rw c
-      (charge-feeds _ (D ∷ []) (queue.firstFrame (f .secondary) .size) (head-size ok Secondary (lt-ltb 0 (f .secondary .count) (facts (secondaryReady s f) e .0)))
-      (sym (permits-one s (f .credits) D) ∙ secondary-permitted s f e) refl)
-  row-feeds ok (nothing a b c d e) = none-feeds _ refl
-
-  -- control charges M; secondary charges D unless mtu > its space; the others charge nobody
-  pub select-feeds : FlowOk s f → Feeds s f (selectOf s f .flow) (selectEvents s f (selectOf s f))
-  select-feeds ok = row-feeds ok (goes s f)
 
 -- ---- one call after another
 

@@ -4,19 +4,17 @@ use mathlib.Core.Bool.{true, false}
 use mathlib.Core.List.{List, [], _∷_}
 use mathlib.Core.Path.{_≡_, refl}
 use Rattle.decide.specs.Refusal.{first, firstOf, refusedOr}
-use Rattle.decide.specs.Test.{test}
 use Rattle.queue.specs.declared.Frame.{Frame}
 use Rattle.queue.specs.declared.Queue.{Queue}
 use Rattle.queue.specs.Frame.{wordOf}
-use Rattle.queue.specs.Queue.{emptyQueue, pushed, spaceOf}
-use Rattle.queue.specs.Queue as queue
+use Rattle.queue.specs.Queue.{emptyQueue, pushed}
 use Rattle.settings.specs.declared.Bucket.{Bucket}
 use Rattle.settings.specs.declared.Settings.{Settings}
-use Rattle.flow.specs.declared.Credits.{Credits}
+use Rattle.credits.specs.declared.Credits.{Credits}
+use Rattle.credits.specs.Way.{wayOf}
 use Rattle.flow.specs.declared.Flow.{Flow}
 use Rattle.flow.specs.Tick.{tickOf}
-use Rattle.flow.specs.Offer.{wayOf, clientOf}
-use Rattle.flow.specs.Select.{controlReady, needy, selectOf}
+use Rattle.flow.specs.Offer.{clientOf}
 
 -- mtu 64; each shaper loLimit 100, hiLimit 300, amount 50; control and primary queue 100 bytes, secondary 128
 abbrev pub settings : Settings
@@ -55,10 +53,6 @@ flow c control primary secondary stage =
       stage = stage;
     }
 
--- a control frame of 40 bytes, with this credit of M
-abbrev pub ready : (m : ℕ) (primary secondary : List ℕ) → Flow
-ready m primary secondary = flow (credits m 100 100) (40 ∷ []) primary secondary 0
-
 pub record Examples : Type 0 where
   -- Nothing waits but the stage's frame: D goes from 280 by 50 to 330, cut to hiLimit 300; M, A, B from 90 to 140, cut to loLimit 100; C has a share
   -- of 7 alone, 90 + 7.
@@ -69,26 +63,6 @@ pub record Examples : Type 0 where
   pub b-waits : tickOf settings (flow (credits 90 90 90) [] [] [] 0) 51 false true false .credits ≡ record { m = 100; a = 100; b = 140; c = 140; d = 140 }
   -- a control frame and a secondary one wait: M has 140, and so has D
   pub queues-wait : tickOf settings (flow (credits 90 90 90) (16 ∷ []) [] (16 ∷ []) 0) 51 false false false .credits ≡ record { m = 140; a = 100; b = 100; c = 100; d = 140 }
-  -- A control frame of 40 bytes. Space is 100 − 60 = 40 and 128 − 64 − 24 = 40: it fits both, and credit 101 permits.
-  pub fits-both : test (controlReady settings (ready 101 (60 ∷ []) (64 ∷ 24 ∷ []))) ≡ true
-  pub fits-goes : selectOf settings (ready 101 (60 ∷ []) (64 ∷ 24 ∷ [])) .origin ≡ 1
-  -- M is charged: 101 − 40
-  pub fits-charged : selectOf settings (ready 101 (60 ∷ []) (64 ∷ 24 ∷ [])) .flow .credits ≡ record { m = 61; a = 101; b = 101; c = 100; d = 100 }
-  -- credit 100 does not permit
-  pub not-permitted : test (controlReady settings (ready 100 (60 ∷ []) (64 ∷ 24 ∷ []))) ≡ false
-  -- one byte more in the primary queue, or in the secondary, and it does not fit: the primary frame goes
-  pub primary-full : test (controlReady settings (ready 101 (61 ∷ []) (64 ∷ 24 ∷ []))) ≡ false
-  pub secondary-full : test (controlReady settings (ready 101 (60 ∷ []) (64 ∷ 25 ∷ []))) ≡ false
-  pub primary-goes : selectOf settings (ready 101 (60 ∷ []) (64 ∷ 25 ∷ [])) .origin ≡ 2
-  -- 128 − 64 = 64: mtu is not larger than the space, so that the stage goes; 128 − 49 − 16 = 63: the secondary queue goes, and D, at 50, is not charged
-  pub space-64 : test (needy settings (flow (credits 100 100 50) [] [] (64 ∷ []) (wordOf (frame 40)))) ≡ false
-  pub stage-goes : selectOf settings (flow (credits 100 100 50) [] [] (64 ∷ []) (wordOf (frame 40))) .origin ≡ 4
-  pub space-63 : test (needy settings (flow (credits 100 100 50) [] [] (49 ∷ 16 ∷ []) (wordOf (frame 40)))) ≡ true
-  pub secondary-goes : selectOf settings (flow (credits 100 100 50) [] [] (49 ∷ 16 ∷ []) (wordOf (frame 40))) .origin ≡ 3
-  pub none-charged : selectOf settings (flow (credits 100 100 50) [] [] (49 ∷ 16 ∷ []) (wordOf (frame 40))) .flow .credits .d ≡ 50
-  -- an empty stage: the secondary frame of 64 bytes goes where D, at 101, permits, and leaves it 37; at 100 nothing goes
-  pub permitted-charged : selectOf settings (flow (credits 100 100 101) [] [] (64 ∷ []) 0) .flow .credits .d ≡ 37
-  pub nothing-goes : selectOf settings (flow (credits 100 100 100) [] [] (64 ∷ []) 0) .origin ≡ 0
   -- Client B of 40 bytes: B lacks at 100, so it is excess, marked, and C and D pay; where B has 101 it pays with D, unmarked; where D lacks it is 6.
   pub excess : clientOf settings (flow (credits 100 200 200) [] [] [] 0) 1 40 3 false .mark ≡ 1
   pub excess-pays : clientOf settings (flow (credits 100 200 200) [] [] [] 0) 1 40 3 false .flow .credits ≡ credits 100 160 160
@@ -103,27 +77,13 @@ pub record Examples : Type 0 where
   pub d-larger : clientOf settings (flow (credits 50 90 60) [] [] [] 0) 2 40 3 false .detail ≡ 41
 
 pub examples : Examples
-unfolding test tickOf selectOf wayOf refusedOr firstOf first pushed emptyQueue spaceOf queue.firstFrame queue.taken
+unfolding tickOf wayOf refusedOr firstOf first pushed emptyQueue
 examples =
     record {
       stage-waits = refl;
       none-waits = refl;
       b-waits = refl;
       queues-wait = refl;
-      fits-both = refl;
-      fits-goes = refl;
-      fits-charged = refl;
-      not-permitted = refl;
-      primary-full = refl;
-      secondary-full = refl;
-      primary-goes = refl;
-      space-64 = refl;
-      stage-goes = refl;
-      space-63 = refl;
-      secondary-goes = refl;
-      none-charged = refl;
-      permitted-charged = refl;
-      nothing-goes = refl;
       excess = refl;
       excess-pays = refl;
       own-rate = refl;

@@ -1,4 +1,4 @@
--- Where the frames are, as lists: an offer appends its frame, a selection takes a first one, and no call moves another.
+-- Where the frames are, as lists: an offer appends its frame, and neither it nor a tick moves another.
 -- Assumes nothing.
 use Prim.Native.Nat.{ℕ, _≤_}
 use mathlib.Core.Bool.{Bool}
@@ -6,31 +6,28 @@ use mathlib.Core.List.{[], _∷_, _++_}
 use mathlib.Core.Path.{_≡_, refl, ap, _∙_}
 use native.Mathlib.Omega.{arith}
 use borrow.Author.Tests.{lt-ltb}
-use Rattle.decide.specs.Test.{facts}
 use Rattle.decide.proofs.Refused.{of-answer}
 use Rattle.queue.specs.declared.Frame.{Frame}
 use Rattle.queue.specs.declared.Queue.{Queue}
 use Rattle.queue.specs.Frame.{FrameOk, wordOf}
 use Rattle.queue.specs.Queue.{framesOf, pushed, spaceOf}
-use Rattle.queue.proofs.Laws.{empty-frames, push-appends, take-first}
+use Rattle.queue.proofs.Laws.{empty-frames, push-appends}
 use Rattle.queue.proofs.Word.{frame-fits, word-frame, word-not-empty}
 use Rattle.settings.specs.declared.Settings.{Settings}
 use Rattle.settings.specs.Range.{SettingsOk}
+use Rattle.credits.specs.Way.{wayOf}
 use Rattle.flow.specs.declared.Client.{Client}
 use Rattle.flow.specs.declared.Flow.{Flow}
 use Rattle.flow.specs.declared.Line.{Line}
 use Rattle.flow.specs.declared.Line.the-variants.{Control, Primary, Secondary}
-use Rattle.flow.specs.declared.Selected.{Selected}
 use Rattle.flow.specs.Parts.{queueOf, capacityOf, boundsOf, withQueue}
 use Rattle.flow.specs.Range.{FlowOk}
 use Rattle.flow.specs.Tick.{startOf, tickOf}
-use Rattle.flow.specs.Offer.{enterOf, wayOf, clientFrame, clientOf}
-use Rattle.flow.specs.Select.{controlReady, primaryReady, needy, stageReady, secondaryReady, selectOf}
-use Rattle.flow.proofs.Kept.{needy-holds, client-frame-ok}
+use Rattle.flow.specs.Offer.{enterOf, clientFrame, clientOf}
+use Rattle.flow.proofs.Kept.{client-frame-ok}
 use Rattle.flow.proofs.Offer.{enter-taken}
 use Rattle.flow.proofs.Range.{bounds-ok, start-queue}
-use Rattle.flow.proofs.Select.{Goes, control, primary, pressed, staged, secondary, nothing, goes}
-use Rattle.flow.specs.Frames.{stageFrames, Moves}
+use Rattle.flow.specs.Frames.{stageFrames}
 
 same-queue : (f : Flow) (l : Line) (q : Queue) → queueOf (withQueue f l q) l ≡ q
 same-queue f Control q = refl
@@ -70,45 +67,3 @@ module _ {s : Settings} (good : SettingsOk s) (f : Flow) where
       of-answer _ _ (λ (r : Client). r .number ≡ 0 → stageFrames (r .flow) ≡ x ∷ []) _
       (λ z e. rw (lt-ltb 0 (wordOf x) (word-not-empty (bounds-ok good) ok), word-frame x (frame-fits (bounds-ok good) ok)))
       (λ z e. absurd (omega arith))
-
-module _ {s : Settings} {f : Flow} (good : SettingsOk s) (ok : FlowOk s f) where
-  row-moves : {r : Selected} → Goes s f r → Moves f r
-  row-moves (control a) =
-      record {
-        of-control = take-first (ok .queues Control) (lt-ltb 0 (f .control .count) (facts (controlReady s f) a .0));
-        of-primary = refl;
-        of-secondary = refl;
-        of-stage = refl;
-      }
-  row-moves (primary a b) =
-      record {
-        of-control = refl;
-        of-primary = take-first (ok .queues Primary) (lt-ltb 0 (f .primary .count) (facts (primaryReady f) b));
-        of-secondary = refl;
-        of-stage = refl;
-      }
-  row-moves (pressed a b c) =
-      record {
-        of-control = refl;
-        of-primary = refl;
-        of-secondary = take-first (ok .queues Secondary) (needy-holds ok good (facts (needy s f) c));
-        of-stage = refl;
-      }
-  row-moves (staged a b c d) =
-      record {
-        of-control = refl;
-        of-primary = refl;
-        of-secondary = refl;
-        of-stage = rw (lt-ltb 0 (f .stage) (facts (stageReady f) d));
-      }
-  row-moves (secondary a b c d e) =
-      record {
-        of-control = refl;
-        of-primary = refl;
-        of-secondary = take-first (ok .queues Secondary) (lt-ltb 0 (f .secondary .count) (facts (secondaryReady s f) e .0));
-        of-stage = refl;
-      }
-  row-moves (nothing a b c d e) = record { of-control = refl; of-primary = refl; of-secondary = refl; of-stage = refl }
-
-  pub select-moves : Moves f (selectOf s f)
-  select-moves = row-moves (goes s f)

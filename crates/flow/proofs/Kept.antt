@@ -1,47 +1,42 @@
--- Every call keeps the range: a queue by the laws of pushing and taking, credits by those of events, the stage by its frame's range.
+-- Ticks and offers keep the range: a queue by the law of pushing, credits by those of events, the stage by its frame's range.
 -- Assumes nothing.
 use Prim.Native.Nat.{ℕ}
-use mathlib.Core.Bool.{Bool, true}
-use mathlib.Core.List.{List, [], _∷_}
-use mathlib.Core.Logic.{_⊎_, inl, inr}
-use mathlib.Core.Path.{_≡_, refl}
-use native.Mathlib.Omega.{arith}
-use borrow.Author.Tests.{lt-ltb}
-use Rattle.decide.specs.Test.{Holds, facts}
+use mathlib.Core.Bool.{Bool}
+use mathlib.Core.List.{List}
+use mathlib.Core.Logic.{_⊎_, inr}
+use mathlib.Core.Path.{_≡_}
 use Rattle.decide.proofs.Cases.{by-cases, le-or}
 use Rattle.decide.proofs.Refused.{of-answer}
 use Rattle.shaper.specs.declared.Event.{Event}
 use Rattle.queue.specs.declared.Frame.{Frame}
 use Rattle.queue.specs.declared.Queue.{Queue}
 use Rattle.queue.specs.Frame.{FrameOk, frameOf, wordOf}
-use Rattle.queue.specs.Queue.{pushed, taken, holdsFrame, spaceOf}
-use Rattle.queue.specs.Queue as queue
+use Rattle.queue.specs.Queue.{pushed, spaceOf}
 use Rattle.queue.specs.Range.{QueueOk}
-use Rattle.queue.proofs.Laws.{push-ok, take-ok, tight-holds}
+use Rattle.queue.proofs.Laws.{push-ok}
 use Rattle.queue.proofs.Word.{frame-fits, word-frame}
 use Rattle.settings.specs.declared.Settings.{Settings}
 use Rattle.settings.specs.Range.{SettingsOk}
+use Rattle.credits.specs.declared.Which.{Which}
+use Rattle.credits.specs.Which.{sends, fed}
+use Rattle.credits.specs.Way.{needsOf, wayOf}
+use Rattle.credits.proofs.Ways.{mark-most, way-mark}
+use Rattle.credits.proofs.Range.{fed-ok}
 use Rattle.flow.specs.declared.Client.{Client}
 use Rattle.flow.specs.declared.Flow.{Flow}
 use Rattle.flow.specs.declared.Line.{Line}
 use Rattle.flow.specs.declared.Line.the-variants.{Control, Primary, Secondary}
-use Rattle.flow.specs.declared.Selected.{Selected}
-use Rattle.flow.specs.declared.Which.{Which}
-use Rattle.flow.specs.declared.Which.the-variants.{M, D}
-use Rattle.flow.specs.Which.{sends, fed}
 use Rattle.flow.specs.Parts.{queueOf, capacityOf, boundsOf, withCredits, withStage, withQueue}
 use Rattle.flow.specs.Range.{FlowOk}
 use Rattle.flow.specs.Tick.{tickEvents, tickOf}
-use Rattle.flow.specs.Offer.{enterOf, queueFor, transitOf, controlFrame, controlOf, needsOf, wayOf, clientFrame, clientOf}
-use Rattle.flow.specs.Select.{controlReady, primaryReady, needy, leaves, secondaryReady, selectOf}
-use Rattle.flow.proofs.Offer.{enter-refused, enter-taken, mark-most, way-mark}
-use Rattle.flow.proofs.Range.{bounds-ok, fed-ok, by-line}
-use Rattle.flow.proofs.Select.{Goes, control, primary, pressed, staged, secondary, nothing, goes}
+use Rattle.flow.specs.Offer.{enterOf, queueFor, transitOf, controlFrame, controlOf, clientFrame, clientOf}
+use Rattle.flow.proofs.Offer.{enter-refused, enter-taken}
+use Rattle.flow.proofs.Range.{bounds-ok, by-line}
 
 module _ {s : Settings} {f : Flow} (ok : FlowOk s f) where
   -- ---- one part anew
 
-  credits-kept : SettingsOk s → (events : Which → List Event) → FlowOk s (withCredits f (fed s (f .credits) events))
+  pub credits-kept : SettingsOk s → (events : Which → List Event) → FlowOk s (withCredits f (fed s (f .credits) events))
   credits-kept good events =
       record {
         credits = fed-ok s (f .credits) events good (ok .credits);
@@ -49,7 +44,7 @@ module _ {s : Settings} {f : Flow} (ok : FlowOk s f) where
         stage = ok .stage;
       }
 
-  stage-kept : (w : ℕ) → (w ≡ 0) ⊎ FrameOk (boundsOf s) (frameOf w) → FlowOk s (withStage f w)
+  pub stage-kept : (w : ℕ) → (w ≡ 0) ⊎ FrameOk (boundsOf s) (frameOf w) → FlowOk s (withStage f w)
   stage-kept w h =
       record {
         credits = ok .credits;
@@ -57,21 +52,13 @@ module _ {s : Settings} {f : Flow} (ok : FlowOk s f) where
         stage = h;
       }
 
-  queue-kept : (l : Line) (q : Queue) → QueueOk (boundsOf s) (capacityOf s l) q → FlowOk s (withQueue f l q)
+  pub queue-kept : (l : Line) (q : Queue) → QueueOk (boundsOf s) (capacityOf s l) q → FlowOk s (withQueue f l q)
   queue-kept Control q h =
       record { credits = ok .credits; queues = by-line s (withQueue f Control q) h (ok .queues Primary) (ok .queues Secondary); stage = ok .stage }
   queue-kept Primary q h =
       record { credits = ok .credits; queues = by-line s (withQueue f Primary q) (ok .queues Control) h (ok .queues Secondary); stage = ok .stage }
   queue-kept Secondary q h =
       record { credits = ok .credits; queues = by-line s (withQueue f Secondary q) (ok .queues Control) (ok .queues Primary) h; stage = ok .stage }
-
-  -- a frame that leaves
-  leave-kept : (l : Line) → holdsFrame (queueOf f l) ≡ true → FlowOk s (leaves f l .flow)
-  leave-kept l h = queue-kept l (taken (queueOf f l)) (take-ok (ok .queues l) h)
-
-  -- needy implies a frame: the capacity is at least twice the mtu
-  pub needy-holds : SettingsOk s → Holds (needy s f) → holdsFrame (f .secondary) ≡ true
-  needy-holds good h = tight-holds (ok .queues Secondary) (omega (arith, good .of-queues .secondary-least)) h
 
 -- ---- the calls
 
@@ -113,15 +100,3 @@ module _ {s : Settings} (good : SettingsOk s) where
       of-answer _ _ (λ (r : Client). FlowOk s (r .flow)) _
       (λ e. stage-kept (credits-kept ok good (sends (needsOf (wayOf s (f .credits) class)) size)) (wordOf x) (inr (rw (word-frame x (frame-fits (bounds-ok good) inside)) inside)))
       (λ e. ok)
-
-  row-kept : {f : Flow} {r : Selected} → FlowOk s f → Goes s f r → FlowOk s (r .flow)
-  row-kept {f} ok (control a) = leave-kept (credits-kept ok good (sends (M ∷ []) (queue.firstFrame (f .control) .size))) Control (lt-ltb 0 (f .control .count) (facts (controlReady s f) a .0))
-  row-kept {f} ok (primary a b) = leave-kept ok Primary (lt-ltb 0 (f .primary .count) (facts (primaryReady f) b))
-  row-kept {f} ok (pressed a b c) = leave-kept ok Secondary (needy-holds ok good (facts (needy s f) c))
-  row-kept {f} ok (staged a b c d) = stage-kept ok 0 (inl refl)
-  row-kept {f} ok (secondary a b c d e) =
-      leave-kept (credits-kept ok good (sends (D ∷ []) (queue.firstFrame (f .secondary) .size))) Secondary (lt-ltb 0 (f .secondary .count) (facts (secondaryReady s f) e .0))
-  row-kept {f} ok (nothing a b c d e) = ok
-
-  pub select-kept : {f : Flow} → FlowOk s f → FlowOk s (selectOf s f .flow)
-  select-kept {f} ok = row-kept ok (goes s f)

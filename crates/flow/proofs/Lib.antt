@@ -1,12 +1,7 @@
 pub mod Range
-pub mod Charge
-pub mod Short
 pub mod Held
 pub mod Tick
 pub mod Offer
-pub mod Select
-pub mod Picking
-pub mod Ready
 pub mod Kept
 pub mod Events
 pub mod Frames

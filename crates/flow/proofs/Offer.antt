@@ -4,36 +4,31 @@ use Prim.Native.Nat.{ℕ, _≤_, _<_}
 use mathlib.Core.Bool.{Bool, true, false, cond, _&&_, and-false}
 use mathlib.Core.List.{[], _∷_}
 use mathlib.Core.Path.{_≡_, refl, ap, _∙_}
-use native.Mathlib.Omega.{arith}
-use borrow.Author.Tests.{lt-ltb, le-ltb, eqb-false}
+use borrow.Author.Tests.{lt-ltb, le-ltb}
 use lib.Dec.{eqb}
 use Rattle.decide.specs.Refusal.{refusedOr, RefusedExactly}
-use Rattle.decide.proofs.Cases.{of-each}
 use Rattle.decide.proofs.Refusal.{in-order, refused-exactly}
 use Rattle.decide.proofs.Refused.{number-by}
 use Rattle.queue.specs.declared.Frame.{Frame}
 use Rattle.queue.specs.Queue.{spaceOf}
 use Rattle.settings.specs.declared.Settings.{Settings}
+use Rattle.credits.specs.declared.Credits.{Credits}
+use Rattle.credits.specs.declared.Way.{Way}
+use Rattle.credits.specs.declared.Way.the-variants.{ClassA, ClassB, Excess}
+use Rattle.credits.specs.declared.Which.{Which}
+use Rattle.credits.specs.declared.Which.the-variants.{B, C, D}
+use Rattle.credits.specs.Which.{permitsOf, permitsAll}
+use Rattle.credits.specs.Short.{shortAll}
+use Rattle.credits.specs.Way.{needsOf, markOf, wayOf}
+use Rattle.credits.proofs.Ways.{way-b-failing, way-c}
 use Rattle.flow.specs.declared.Client.{Client}
-use Rattle.flow.specs.declared.Credits.{Credits}
 use Rattle.flow.specs.declared.Entered.{Entered}
 use Rattle.flow.specs.declared.Flow.{Flow}
 use Rattle.flow.specs.declared.Line.{Line}
 use Rattle.flow.specs.declared.Line.the-variants.{Primary, Secondary}
-use Rattle.flow.specs.declared.Way.{Way}
-use Rattle.flow.specs.declared.Way.the-variants.{ClassA, ClassB, Excess}
-use Rattle.flow.specs.declared.Which.{Which}
-use Rattle.flow.specs.declared.Which.the-variants.{B, C, D}
-use Rattle.flow.specs.Which.{permitsOf, permitsAll}
-use Rattle.flow.specs.Short.{shortAll}
 use Rattle.flow.specs.Parts.{queueOf, capacityOf, stageHolds}
-use Rattle.flow.specs.Offer.{enterFaults, notEnteredOf, appendedOf, enterOf, queueFor, needsOf, markOf, wayOf, clientFaults, clientFrame, refusedOf, laidOf, clientAs, clientOf}
+use Rattle.flow.specs.Offer.{enterFaults, notEnteredOf, appendedOf, enterOf, queueFor, clientFaults, clientFrame, refusedOf, laidOf, clientAs, clientOf}
 use Rattle.flow.specs.Events.{wayBack}
-
-pub mark-most : (w : Way) → markOf w ≤ 1
-mark-most ClassA = omega arith
-mark-most ClassB = omega arith
-mark-most Excess = omega arith
 
 -- ---- into a queue
 
@@ -69,34 +64,6 @@ transit-c s = refl
 -- ---- the way of a client frame
 
 module _ (s : Settings) (c : Credits) where
-  -- Client A goes as A.
-  pub way-a : wayOf s c 0 ≡ ClassA
-  unfolding wayOf
-  way-a = refl
-
-  -- Client B goes as B where B and D permit;
-  pub way-b : permitsAll s c (B ∷ D ∷ []) ≡ true → wayOf s c 1 ≡ ClassB
-  unfolding wayOf
-  way-b p = rw p
-
-  -- failing that it is tried as excess.
-  pub way-b-failing : permitsAll s c (B ∷ D ∷ []) ≡ false → wayOf s c 1 ≡ Excess
-  unfolding wayOf
-  way-b-failing p = rw p
-
-  -- Client C goes as excess.
-  pub way-c : wayOf s c 2 ≡ Excess
-  unfolding wayOf
-  way-c = refl
-
-  -- only B and C are marked
-  pub way-mark : (class : ℕ) → markOf (wayOf s c class) ≤ class
-  unfolding wayOf
-  way-mark class =
-      of-each (λ (w : Way). markOf w ≤ class) (eqb class 0) ClassA (cond (eqb class 1 && permitsAll s c (needsOf ClassB)) ClassB Excess)
-      (λ e. omega arith)
-      (λ e. let n = eqb-false class 0 e in let m = mark-most (cond (eqb class 1 && permitsAll s c (needsOf ClassB)) ClassB Excess) in omega arith)
-
   -- class and mark say how a frame went in
   pub way-back : (class : ℕ) → wayBack class (markOf (wayOf s c class)) ≡ wayOf s c class
   unfolding wayOf

@@ -1,16 +1,11 @@
--- The range of a flow: the test says exactly the named facts, both ways; a fresh flow has it; and no events take a credit out of it.
+-- The range of a flow: the test says exactly the named facts, both ways; and a fresh flow has it.
 -- Assumes nothing.
 use Prim.Native.Nat.{_≤_}
 use mathlib.Core.Bool.{true}
-use mathlib.Core.List.{List}
 use mathlib.Core.Logic.{inl, inr, ⊎-elim}
 use mathlib.Core.Path.{_≡_, refl}
 use native.Mathlib.Omega.{arith}
 use Rattle.decide.specs.Test.{test, Holds, facts, passes}
-use Rattle.shaper.specs.declared.Event.{Event}
-use Rattle.shaper.specs.Limits.{limitsOk}
-use Rattle.shaper.specs.Credit.{endCredit}
-use Rattle.shaper.proofs.Credit.{end-max}
 use Rattle.queue.specs.Frame.{BoundsOk, frameOf}
 use Rattle.queue.specs.Queue.{emptyQueue}
 use Rattle.queue.specs.Range.{queueOk, QueueOk}
@@ -18,32 +13,21 @@ use Rattle.queue.proofs.Word.{frame-facts, frame-holds}
 use Rattle.queue.proofs.Range.{queue-facts, queue-holds}
 use Rattle.queue.proofs.Laws.{empty-ok}
 use Rattle.settings.specs.declared.Settings.{Settings}
-use Rattle.settings.specs.Range.{BucketOk, SettingsOk}
-use Rattle.settings.proofs.Range.{limits-hold}
-use Rattle.flow.specs.declared.Credits.{Credits}
+use Rattle.settings.specs.Range.{SettingsOk}
+use Rattle.credits.specs.declared.Which.{Which}
+use Rattle.credits.specs.declared.Which.the-variants.{M, A, B, C, D}
+use Rattle.credits.specs.Which.{bucketOf, creditOf}
+use Rattle.credits.proofs.Range.{bucket-ok}
 use Rattle.flow.specs.declared.Flow.{Flow}
 use Rattle.flow.specs.declared.Line.{Line}
 use Rattle.flow.specs.declared.Line.the-variants.{Control, Primary, Secondary}
-use Rattle.flow.specs.declared.Which.{Which}
-use Rattle.flow.specs.declared.Which.the-variants.{M, A, B, C, D}
-use Rattle.flow.specs.Which.{bucketOf, creditOf, limitsFor, fed}
 use Rattle.flow.specs.Parts.{queueOf, capacityOf, boundsOf}
 use Rattle.flow.specs.Range.{flowOk, FlowOk}
 use Rattle.flow.specs.Tick.{startOf}
 
--- ---- the settings, shaper by shaper and queue by queue
+-- ---- the settings, queue by queue
 
 module _ {s : Settings} (ok : SettingsOk s) where
-  pub bucket-ok : (w : Which) → BucketOk (s .mtu) (bucketOf s w)
-  bucket-ok M = ok .of-m
-  bucket-ok A = ok .of-a
-  bucket-ok B = ok .of-b
-  bucket-ok C = ok .of-c
-  bucket-ok D = ok .of-d
-
-  pub limits-ok : (w : Which) → Holds (limitsOk (limitsFor s w))
-  limits-ok w = limits-hold (s .mtu) (bucketOf s w) (ok .mtu-least) (ok .mtu-most) (bucket-ok w)
-
   pub bounds-ok : BoundsOk (boundsOf s)
   bounds-ok = record { mtu-most = ok .mtu-most }
 
@@ -92,21 +76,6 @@ module _ (s : Settings) (f : Flow) where
       passes
       (flowOk s f)
       ((c M, (c A, (c B, (c C, c D)))), (q Control, (q Primary, (q Secondary, ⊎-elim (λ z. inl z) (λ r. inr (frame-holds (boundsOf s) (frameOf (f .stage)) r)) (ok .stage)))))
-
--- ---- the credits that events leave
-
-module _ (s : Settings) (c : Credits) (events : Which → List Event) where
-  -- a shaper's credit is that of its events
-  pub credit-fed : (w : Which) → creditOf (fed s c events) w ≡ endCredit (limitsFor s w) (creditOf c w) (events w)
-  credit-fed M = refl
-  credit-fed A = refl
-  credit-fed B = refl
-  credit-fed C = refl
-  credit-fed D = refl
-
-  -- and at most hiLimit
-  pub fed-ok : SettingsOk s → ((w : Which) → creditOf c w ≤ bucketOf s w .hi) → (w : Which) → creditOf (fed s c events) w ≤ bucketOf s w .hi
-  fed-ok ok h w = rw (credit-fed w) (end-max (limitsFor s w) (limits-ok ok w) (events w) (creditOf c w) (h w))
 
 -- ---- a fresh flow
 

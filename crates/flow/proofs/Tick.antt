@@ -9,15 +9,15 @@ use Rattle.shaper.specs.Credit.{next}
 use Rattle.shaper.specs.Credit as shaper
 use Rattle.queue.specs.Queue.{holdsFrame}
 use Rattle.settings.specs.declared.Settings.{Settings}
+use Rattle.credits.specs.declared.Which.{Which}
+use Rattle.credits.specs.declared.Which.the-variants.{M, A, B, C, D}
+use Rattle.credits.specs.Which.{bucketOf, creditOf, limitsFor}
+use Rattle.credits.proofs.Range.{credit-fed}
 use Rattle.flow.specs.declared.Flow.{Flow}
-use Rattle.flow.specs.declared.Which.{Which}
-use Rattle.flow.specs.declared.Which.the-variants.{M, A, B, C, D}
-use Rattle.flow.specs.Which.{bucketOf, creditOf, limitsFor}
 use Rattle.flow.specs.Parts.{stageHolds, withCredits}
 use Rattle.flow.specs.Tick.{waits, amountOf, tickEvents, tickOf}
 use Rattle.flow.specs.Frames.{Holding, Staged}
 use Rattle.flow.proofs.Held.{holding, staged}
-use Rattle.flow.proofs.Range.{credit-fed}
 
 or-true : (a b : Bool) → ((a || b) ≡ true) ↔ ((a ≡ true) ⊎ (b ≡ true))
 or-true a b = (either a b, ⊎-elim (λ p. rw p) (or-r a b))

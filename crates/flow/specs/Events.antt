@@ -1,25 +1,21 @@
--- What each call is to each shaper: one event per tick, one send per charge. It is told from the call, its answer, and the station as it
--- was but for its credits.
+-- What an offer is to each shaper: one send per charge, told from the call and its answer. And what it is that events feed the shapers, which ticks,
+-- offers and selections share.
 -- Assumes nothing.
 use Prim.Native.Nat.{ℕ}
-use mathlib.Core.Bool.{cond, not, _&&_}
-use mathlib.Core.List.{List, [], _∷_}
+use mathlib.Core.Bool.{cond}
+use mathlib.Core.List.{List, []}
 use mathlib.Core.Path.{_≡_}
 use lib.Dec.{eqb}
-use Rattle.decide.specs.Test.{test}
 use Rattle.shaper.specs.declared.Event.{Event}
 use Rattle.shaper.specs.Credit.{AllValid, Permitted, endCredit}
 use Rattle.settings.specs.declared.Settings.{Settings}
+use Rattle.credits.specs.declared.Way.{Way}
+use Rattle.credits.specs.declared.Way.the-variants.{ClassA, ClassB, Excess}
+use Rattle.credits.specs.declared.Which.{Which}
+use Rattle.credits.specs.Which.{creditOf, limitsFor, sends}
+use Rattle.credits.specs.Way.{needsOf}
 use Rattle.flow.specs.declared.Client.{Client}
 use Rattle.flow.specs.declared.Flow.{Flow}
-use Rattle.flow.specs.declared.Selected.{Selected}
-use Rattle.flow.specs.declared.Way.{Way}
-use Rattle.flow.specs.declared.Way.the-variants.{ClassA, ClassB, Excess}
-use Rattle.flow.specs.declared.Which.{Which}
-use Rattle.flow.specs.declared.Which.the-variants.{M, D}
-use Rattle.flow.specs.Which.{creditOf, limitsFor, sends}
-use Rattle.flow.specs.Offer.{needsOf}
-use Rattle.flow.specs.Select.{needy}
 
 -- transit and control frames are charged to nobody
 abbrev pub noEvents : Which → List Event
@@ -32,13 +28,6 @@ wayBack class mark = cond (eqb class 0) ClassA (cond (eqb mark 0) ClassB Excess)
 -- a client frame that was taken
 abbrev pub clientEvents : ℕ → ℕ → Client → Which → List Event
 clientEvents class size r = sends (cond (eqb (r .number) 0) (needsOf (wayBack class (r .mark))) []) size
-
--- control (M charged); secondary, if mtu > its space (nothing charged); secondary, if D permits (D charged)
-abbrev pub chargesOf : Settings → Flow → ℕ → List Which
-chargesOf s f origin = cond (eqb origin 1) (M ∷ []) (cond (eqb origin 3 && not (test (needy s f))) (D ∷ []) [])
-
-abbrev pub selectEvents : Settings → Flow → Selected → Which → List Event
-selectEvents s f r = sends (chargesOf s f (r .origin)) (r .frame .size)
 
 -- From f to g each shaper saw these events: its credit is theirs, every send was permitted at its place, and each is an event of a record.
 pub record Feeds (s : Settings) (f g : Flow) (events : Which → List Event) : Type 0 where

@@ -1,10 +1,7 @@
-pub mod Which
-pub mod Short
 pub mod Parts
 pub mod Range
 pub mod Tick
 pub mod Offer
-pub mod Select
-pub mod Pick
+pub mod Leave
 pub mod Events
 pub mod Frames

@@ -11,18 +11,15 @@ use Rattle.queue.specs.Queue.{pushed, spaceOf}
 use Rattle.shaper.specs.Short.{detailOf}
 use Rattle.settings.specs.declared.Settings.{Settings}
 use Rattle.settings.specs.Range.{SettingsOk}
+use Rattle.credits.specs.declared.Way.{Way}
+use Rattle.credits.specs.Which.{permitsAll, sends, fed}
+use Rattle.credits.specs.Short.{shortAll}
+use Rattle.credits.specs.Way.{needsOf, markOf, wayOf}
 use Rattle.flow.specs.declared.Client.{Client}
-use Rattle.flow.specs.declared.Credits.{Credits}
 use Rattle.flow.specs.declared.Entered.{Entered}
 use Rattle.flow.specs.declared.Flow.{Flow}
 use Rattle.flow.specs.declared.Line.{Line}
 use Rattle.flow.specs.declared.Line.the-variants.{Control, Primary, Secondary}
-use Rattle.flow.specs.declared.Way.{Way}
-use Rattle.flow.specs.declared.Way.the-variants.{ClassA, ClassB, Excess}
-use Rattle.flow.specs.declared.Which.{Which}
-use Rattle.flow.specs.declared.Which.the-variants.{A, B, C, D}
-use Rattle.flow.specs.Which.{permitsAll, sends, fed}
-use Rattle.flow.specs.Short.{shortAll}
 use Rattle.flow.specs.Parts.{queueOf, capacityOf, boundsOf, stageHolds, withCredits, withStage, withQueue}
 use Rattle.flow.specs.Range.{FlowOk}
 
@@ -64,22 +61,6 @@ abbrev pub controlOf : Settings → Flow → ℕ → Entered
 controlOf s f size = enterOf s f Control (controlFrame size)
 
 -- ---- into the stage
-
--- Client A needs and charges A. Client B needs and charges B and D. Excess B and C need C and D, charge both,
-abbrev pub needsOf : Way → List Which
-needsOf ClassA = A ∷ []
-needsOf ClassB = B ∷ D ∷ []
-needsOf Excess = C ∷ D ∷ []
-
--- and are marked eligible.
-abbrev pub markOf : Way → ℕ
-markOf ClassA = 0
-markOf ClassB = 0
-markOf Excess = 1
-
--- Client B .. failing that it is tried as excess.
-unfoldable pub wayOf : Settings → Credits → ℕ → Way
-wayOf s c class = cond (eqb class 0) ClassA (cond (eqb class 1 && permitsAll s c (needsOf ClassB)) ClassB Excess)
 
 -- 5: the stage already holds a frame; 6: a needed shaper doesn't permit; 7: the congested fair rate would be passed, by a frame that is eligible
 abbrev pub clientFaults : Settings → Flow → Way → Bool → List Fault

@@ -3,26 +3,17 @@
 use Prim.Native.Nat.{ℕ, _≤_}
 use mathlib.Core.Logic.{_⊎_}
 use mathlib.Core.Path.{_≡_}
-use Rattle.decide.specs.Test.{Test, _≤?_, _≡?_, _∧?_, _∨?_}
+use Rattle.decide.specs.Test.{Test, _≡?_, _∧?_, _∨?_}
 use Rattle.queue.specs.declared.Bounds.{Bounds}
 use Rattle.queue.specs.Frame.{frameOf, frameOk, FrameOk}
 use Rattle.queue.specs.Range.{queueOk, QueueOk}
 use Rattle.settings.specs.declared.Settings.{Settings}
-use Rattle.flow.specs.declared.Credits.{Credits}
+use Rattle.credits.specs.declared.Which.{Which}
+use Rattle.credits.specs.Which.{bucketOf, creditOf}
+use Rattle.credits.specs.Range.{creditsOk}
 use Rattle.flow.specs.declared.Flow.{Flow}
 use Rattle.flow.specs.declared.Line.{Line}
-use Rattle.flow.specs.declared.Which.{Which}
-use Rattle.flow.specs.Which.{bucketOf, creditOf}
 use Rattle.flow.specs.Parts.{queueOf, capacityOf, boundsOf}
-
--- Credits are 0 to hiLimit.
-abbrev pub creditsOk : Settings → Credits → Test
-creditsOk s c =
-    c .m ≤? s .shapers .m .hi
-    ∧? c .a ≤? s .shapers .a .hi
-    ∧? c .b ≤? s .shapers .b .hi
-    ∧? c .c ≤? s .shapers .c .hi
-    ∧? c .d ≤? s .shapers .d .hi
 
 -- no frame, or one in range
 abbrev pub stageOk : Bounds → ℕ → Test

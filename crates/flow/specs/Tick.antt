@@ -7,10 +7,10 @@ use Rattle.shaper.specs.declared.Event.{Event}
 use Rattle.shaper.specs.Credit as shaper
 use Rattle.queue.specs.Queue.{emptyQueue, holdsFrame}
 use Rattle.settings.specs.declared.Settings.{Settings}
+use Rattle.credits.specs.declared.Which.{Which}
+use Rattle.credits.specs.declared.Which.the-variants.{M, A, B, C, D}
+use Rattle.credits.specs.Which.{bucketOf, fed}
 use Rattle.flow.specs.declared.Flow.{Flow}
-use Rattle.flow.specs.declared.Which.{Which}
-use Rattle.flow.specs.declared.Which.the-variants.{M, A, B, C, D}
-use Rattle.flow.specs.Which.{bucketOf, fed}
 use Rattle.flow.specs.Parts.{stageHolds, withCredits}
 
 -- Credit starts at loLimit. Each queue has 128 slots, all empty at the start; so is the stage.

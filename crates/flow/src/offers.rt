@@ -1,25 +1,16 @@
 // Frames in: transit and control frames into the queues, client frames into the stage.
 ghost use mathlib.Core.Path.{_≡_};
-ghost use mathlib.Core.Bool.{true};
-ghost use mathlib.Core.List.{[], _∷_};
-ghost use Rattle.flow.specs.Which.{permitsAll, sends, fed};
-ghost use Rattle.flow.specs.Short.{shortAll};
-ghost use Rattle.flow.specs.Offer.{Offered, enterOf, queueFor, transitOf, controlFrame, controlOf, needsOf, markOf, wayOf, refusedOf, clientOf};
+ghost use Rattle.queue.specs.Queue.{spaceOf};
+ghost use Rattle.flow.specs.Parts.{queueOf, capacityOf};
+ghost use Rattle.flow.specs.Offer.{Offered, enterOf, queueFor, transitOf, controlFrame, controlOf, refusedOf, clientOf};
 use crate::Client;
-use crate::Credits;
 use crate::Entered;
 use crate::Flow;
 use crate::Line;
-use crate::Way;
-use crate::Which;
+use credits::CLASS_A;
+use credits::MARKED;
 use queue::Frame;
 use settings::Settings;
-
-const CLASS_A: u32 = 0;
-
-const CLASS_B: u32 = 1;
-
-const MARKED: u32 = 1;
 
 impl Flow {
     // Takes a transit frame into the queue of its class.
@@ -93,90 +84,36 @@ impl Flow {
         }
     }
 
+    // How large a frame may be that a queue still has room for. It is asked of the queue where it stands, so that none is copied.
+    fn space(self, settings: Settings, line: Line) -> u32
+        ensures { λ r. ⌜ r ≡ spaceOf (queueOf self line) (capacityOf settings line) ⌝ }
+    {
+        match line {
+            Line::Control => self.control.space(settings.queues.control),
+            Line::Primary => self.primary.space(settings.queues.primary),
+            Line::Secondary => self.secondary.space(settings.queues.secondary),
+        }
+    }
+
     // Takes a frame into a queue, where it has the space.
     fn enter(self, settings: Settings, line: Line, frame: Frame) -> Entered
         requires { ⌜ Offered settings self frame ⌝ }
         ensures { λ r. ⌜ r ≡ enterOf settings self line frame ⌝ }
     {
-        let queue = self.queue(line);
-        let capacity = line.capacity(settings);
-        if queue.space(capacity) < frame.size {
+        if self.space(settings, line) < frame.size {
             return Entered {
                 number: 4,
                 detail: 0,
                 flow: self,
             };
         }
+        let queue = self.queue(line);
         let longer = queue.push(frame);
         let next = self.with_queue(line, longer);
         Entered {
             number: 0,
             detail: 0,
             flow: next,
-        }
-    }
-}
-
-impl Credits {
-    // How a client frame of this class goes in.
-    fn way(self, settings: Settings, class: u32) -> Way
-        ensures { λ r. ⌜ r ≡ wayOf settings self class ⌝ }
-    {
-        if class == CLASS_A {
-            return Way::ClassA;
-        }
-        if (class == CLASS_B) & (self.short_all(settings, Way::ClassB) == 0) {
-            return Way::ClassB;
-        }
-        Way::Excess
-    }
-
-    // How far short the shapers are that a way needs, where there are two the larger; 0 where each permits.
-    fn short_all(self, settings: Settings, way: Way) -> u64
-        ensures { λ r. ⌜ r ≡ shortAll settings self (needsOf way) ⌝ }
-    {
-        match way {
-            Way::ClassA => self.short(settings, Which::A),
-            Way::ClassB => self.short_of_two(settings, Which::B, Which::D),
-            Way::Excess => self.short_of_two(settings, Which::C, Which::D),
-        }
-    }
-
-    // How far short two shapers are: the larger shortfall.
-    fn short_of_two(self, settings: Settings, one: Which, other: Which) -> u64
-        ensures { λ r. ⌜ r ≡ shortAll settings self (one ∷ other ∷ []) ⌝ }
-    {
-        decide::larger(self.short(settings, one), self.short(settings, other))
-    }
-
-    // The credits after a frame of this size is charged to every shaper that its way needs, and that permits it.
-    fn pay(self, settings: Settings, way: Way, size: u32) -> Credits
-        requires { ⌜ permitsAll settings self (needsOf way) ≡ true ⌝ }
-        ensures { λ r. ⌜ r ≡ fed settings self (sends (needsOf way) size) ⌝ }
-    {
-        match way {
-            Way::ClassA => self.charge(settings, Which::A, size),
-            Way::ClassB => {
-                let left = self.charge(settings, Which::B, size);
-                left.charge(settings, Which::D, size)
-            }
-            Way::Excess => {
-                let left = self.charge(settings, Which::C, size);
-                left.charge(settings, Which::D, size)
-            }
-        }
-    }
-}
-
-impl Way {
-    // The mark of a frame that goes this way.
-    fn mark(self) -> u32
-        ensures { λ r. ⌜ r ≡ markOf self ⌝ }
-    {
-        match self {
-            Way::ClassA => 0,
-            Way::ClassB => 0,
-            Way::Excess => MARKED,
         }
     }
 }

@@ -11,7 +11,7 @@ use Rattle.wire.proofs.Numbers.{digits-mod}
 use Rattle.settings.specs.Words.{word, settingsPart}
 use Rattle.queue.specs.declared.Queue.{Queue}
 use Rattle.queue.specs.Queue.{pushed}
-use Rattle.flow.specs.declared.Credits.{Credits}
+use Rattle.credits.specs.declared.Credits.{Credits}
 use Rattle.flow.specs.declared.Line.{Line}
 use Rattle.flow.specs.declared.Line.the-variants.{Control, Primary, Secondary}
 use Rattle.flow.specs.Parts.{withCredits, withStage, withQueue}

@@ -11,10 +11,10 @@ use Rattle.wire.specs.Parts.{Part, nth, offset}
 use Rattle.wire.proofs.Places.{Stands}
 use Rattle.wire.proofs.Laid.{part-stands}
 use Rattle.wire.proofs.Placed.{placed-stand, laidOut-bytes}
-use Rattle.flow.specs.declared.Credits.{Credits}
+use Rattle.credits.specs.declared.Credits.{Credits}
 use Rattle.fair.specs.declared.Four.{Four}
 use Rattle.fair.specs.declared.Decided.{Decided}
-use Rattle.fair.specs.declared.Received.{Received}
+use Rattle.heard.specs.declared.Received.{Received}
 use Rattle.fair.specs.declared.Fair.{Fair}
 use Rattle.station.specs.declared.Held.{Held}
 use Rattle.slots.specs.Slots.{wordsBytes, WordsFit}

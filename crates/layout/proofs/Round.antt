@@ -17,8 +17,8 @@ use Rattle.settings.specs.Range.{SettingsOk}
 use Rattle.wire.proofs.Placed.{laidOut-bytes}
 use Rattle.settings.proofs.Words as settings
 use Rattle.settings.proofs.Words.{wordAt}
+use Rattle.credits.specs.declared.Which.the-variants.{M, A, B, C, D}
 use Rattle.flow.specs.declared.Line.the-variants.{Control, Primary, Secondary}
-use Rattle.flow.specs.declared.Which.the-variants.{M, A, B, C, D}
 use Rattle.flow.specs.Range.{FlowOk}
 use Rattle.fair.specs.declared.Four.{Four}
 use Rattle.fair.specs.declared.Fair.{Fair}

@@ -10,12 +10,12 @@ use Rattle.wire.specs.Parts.{Part, bytesPart, group, laidOut}
 use Rattle.settings.specs.Words.{settingsLength, word, settingsPart, settingsAt, Fits32, SettingsFit}
 use Rattle.queue.specs.declared.Frame.{Frame}
 use Rattle.queue.specs.Queue.{pushed, taken}
-use Rattle.flow.specs.declared.Credits.{Credits}
+use Rattle.credits.specs.declared.Credits.{Credits}
 use Rattle.flow.specs.declared.Line.{Line}
 use Rattle.flow.specs.declared.Line.the-variants.{Control, Primary, Secondary}
 use Rattle.fair.specs.declared.Four.{Four}
 use Rattle.fair.specs.declared.Decided.{Decided}
-use Rattle.fair.specs.declared.Received.{Received}
+use Rattle.heard.specs.declared.Received.{Received}
 use Rattle.fair.specs.declared.Fair.{Fair}
 use Rattle.station.specs.declared.Station.{Station}
 use Rattle.slots.specs.Slots.{queueLength, wordsBytes, words-length, queueBytes, queueAt, WordsFit, QueueFits}

@@ -11,7 +11,7 @@ ghost use Rattle.layout.specs.Layout.{fourAt, decidedAt, receivedAt, fai
 use fair::Decided;
 use fair::Fair;
 use fair::Four;
-use fair::Received;
+use heard::Received;
 use settings::Settings;
 
 // Where the parts stand behind the counters, each behind the one before, and how many bytes they take together.

@@ -5,7 +5,7 @@ ghost use Prim.Native.Nat.{_+_, _%_, _≤_};
 ghost use lib.ListN.{length};
 ghost use Rattle.decide.specs.Test.{test};
 ghost use Rattle.wire.specs.Wire.{digits, put};
-ghost use Rattle.flow.specs.Pick.{sightOf};
+ghost use Rattle.selection.specs.Pick.{sightOf};
 ghost use Rattle.station.specs.Range.{stationOk};
 ghost use Rattle.station.specs.Pick.{pickOf};
 ghost use Rattle.station.specs.Offers.{givenFrame};
@@ -16,13 +16,13 @@ ghost use Rattle.layout.specs.Reading.{readingLength, heldWords, reading
 
 mod fairness;
 
+use credits::Credits;
 use fair::Fair;
 use fair::Four;
-use flow::Credits;
 use flow::Flow;
 use flow::Line;
-use flow::Sight;
 use queue::Frame;
+use selection::Sight;
 use settings::Settings;
 use station::Held;
 use station::Pick;
@@ -67,7 +67,8 @@ pub fn read(s: &[u8]) -> Station
 }
 
 // Whether that station is in range: the test of `Station::in_range`, made where the bytes lie, so that no queue is copied for it. The slice is cut to its own
-// length first: so it is kept in registers, which is quicker.
+// length first: so it is kept in registers, which is quicker. The fairness state is asked before the queues: behind many tests the compiler holds a call for rare,
+// and hands it a copy of the settings.
 pub fn in_range(whole: &[u8]) -> bool
     requires { ⌜ length (now whole) ≡ stationLength ⌝ }
     ensures { λ r. ⌜ r ≡ test (stationOk (stationAt (now (whole .entry)))) ⌝ }
@@ -80,6 +81,7 @@ pub fn in_range(whole: &[u8]) -> bool
     let settings = Settings::read(s, SETTINGS);
     let bounds = flow::bounds(settings);
     let room = settings.queues;
+    let fair = fairness::in_range_at(s, FAIR, settings);
     if !read_credits(s, 0).in_range(settings) {
         return false;
     }
@@ -95,7 +97,7 @@ pub fn in_range(whole: &[u8]) -> bool
     if !flow::stage_ok(bounds, wire::get32(s, STAGE)) {
         return false;
     }
-    fairness::in_range_at(s, FAIR, settings)
+    fair
 }
 
 // What goes next in that station, in range or not. Of each queue it uses the front alone.

@@ -17,14 +17,15 @@ use Rattle.queue.specs.Frame.{frameOk, FrameOk}
 use Rattle.queue.specs.Queue.{emptyQueue, framesOf, pushed, spaceOf}
 use Rattle.queue.proofs.Word.{frame-holds}
 use Rattle.rates.specs.Rates.{ownRateOf}
+use Rattle.credits.specs.declared.Which.{Which}
+use Rattle.credits.specs.Which.{permitsAll}
+use Rattle.credits.specs.Way.{needsOf, markOf}
 use Rattle.flow.specs.declared.Entered.{Entered}
 use Rattle.flow.specs.declared.Flow.{Flow}
 use Rattle.flow.specs.declared.Line.{Line}
 use Rattle.flow.specs.declared.Line.the-variants.{Control, Primary, Secondary}
-use Rattle.flow.specs.declared.Which.{Which}
-use Rattle.flow.specs.Which.{permitsAll}
 use Rattle.flow.specs.Parts.{queueOf, capacityOf, boundsOf, stageHolds, withCredits, withQueue}
-use Rattle.flow.specs.Offer.{queueFor, controlFrame, needsOf, markOf}
+use Rattle.flow.specs.Offer.{queueFor, controlFrame}
 use Rattle.flow.specs.Tick as flow
 use Rattle.flow.specs.Frames.{Staged}
 use Rattle.flow.proofs.Held.{staged}

@@ -22,8 +22,11 @@ use Rattle.paper.proofs.OfSettings as OfSettings
 use Rattle.paper.proofs.OfQueue as OfQueue
 use Rattle.paper.proofs.OfRates as OfRates
 use Rattle.paper.proofs.OfAdvert as OfAdvert
+use Rattle.paper.proofs.OfHeard as OfHeard
 use Rattle.paper.proofs.OfFair as OfFair
+use Rattle.paper.proofs.OfCredits as OfCredits
 use Rattle.paper.proofs.OfFlow as OfFlow
+use Rattle.paper.proofs.OfSelection as OfSelection
 use Rattle.paper.proofs.OfStation as OfStation
 use Rattle.paper.proofs.OfSlots as OfSlots
 use Rattle.paper.proofs.OfLayout as OfLayout
@@ -55,8 +58,11 @@ answers-determined =
       of-queue = OfQueue.functions;
       of-rates = OfRates.functions;
       of-advert = OfAdvert.functions;
+      of-heard = OfHeard.functions;
       of-fair = OfFair.functions;
+      of-credits = OfCredits.functions;
       of-flow = OfFlow.functions;
+      of-selection = OfSelection.functions;
       of-station = OfStation.functions;
       of-slots = OfSlots.functions;
       of-layout = OfLayout.functions;

@@ -14,8 +14,8 @@ use Rattle.flow.specs.Parts.{boundsOf}
 use Rattle.flow.specs.Offer.{queueFor, controlFrame}
 use Rattle.advert.specs.declared.Advert.{Advert}
 use Rattle.advert.specs.Frame.{whole, advertIn}
-use Rattle.fair.specs.Range.{ttlOk}
-use Rattle.fair.specs.Advertise.{ownRinglet, ownAddress}
+use Rattle.heard.specs.Range.{ttlOk}
+use Rattle.heard.specs.Frame.{ownRinglet, ownAddress}
 use Rattle.station.specs.declared.Station.{Station}
 use Rattle.station.specs.Range.{stationOk, StationOk}
 use Rattle.station.specs.Calls.{flagsOk}

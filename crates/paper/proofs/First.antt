@@ -35,19 +35,20 @@ use Rattle.ring.proofs.Exactly.{size-exactly, word-exactly, index-exactly, code
 use Rattle.wrap.specs.Walking.{badHome, pathFaults}
 use Rattle.wrap.proofs.Exactly.{home-exactly}
 use Rattle.advert.specs.Frame.{advertLength, whole, advertIn}
+use Rattle.credits.specs.declared.Way.{Way}
+use Rattle.credits.specs.declared.Way.the-variants.{ClassA, Excess}
+use Rattle.credits.specs.Which.{permitsAll}
+use Rattle.credits.specs.Short.{shortAll, AllExceed}
+use Rattle.credits.specs.Way.{needsOf, markOf}
+use Rattle.credits.proofs.Ways.{way-a}
+use Rattle.credits.proofs.Short.{short-least, tried-excess}
 use Rattle.flow.specs.declared.Line.{Line}
 use Rattle.flow.specs.declared.Line.the-variants.{Control}
-use Rattle.flow.specs.declared.Way.{Way}
-use Rattle.flow.specs.declared.Way.the-variants.{ClassA, Excess}
-use Rattle.flow.specs.Which.{permitsAll}
-use Rattle.flow.specs.Short.{shortAll, AllExceed}
 use Rattle.flow.specs.Parts.{queueOf, capacityOf, boundsOf}
-use Rattle.flow.specs.Offer.{queueFor, controlFrame, needsOf, markOf}
+use Rattle.flow.specs.Offer.{queueFor, controlFrame}
 use Rattle.flow.proofs.Held.{staged}
-use Rattle.flow.proofs.Offer.{way-a}
-use Rattle.flow.proofs.Short.{short-least, tried-excess}
-use Rattle.fair.specs.Range.{ttlOk}
-use Rattle.fair.specs.Advertise.{ownRinglet, ownAddress}
+use Rattle.heard.specs.Range.{ttlOk}
+use Rattle.heard.specs.Frame.{ownRinglet, ownAddress}
 use Rattle.fair.proofs.Count.{over-exactly}
 use Rattle.station.specs.Range.{stationOk}
 use Rattle.station.specs.Calls.{flagsOk, rangeFault}

@@ -11,7 +11,8 @@ use Rattle.decide.specs.Refusal.{Fault, firstOf, ranked, RefusedExactly}
 use Rattle.decide.proofs.Cases.{by-cases}
 use Rattle.decide.proofs.Tests.{failing}
 use Rattle.advert.specs.Frame.{advertLength}
-use Rattle.fair.specs.Advertise.{ownAddress, toldOf}
+use Rattle.heard.specs.Frame.{ownAddress}
+use Rattle.fair.specs.Advertise.{toldOf}
 use Rattle.decide.proofs.Refusal.{refused-exactly}
 use Rattle.decide.proofs.Refused.{carried-by}
 use Rattle.wire.specs.Wire.{digits, Bytes}

@@ -12,10 +12,10 @@ use Rattle.wire.specs.Wire.{le, be, digits, put}
 use Rattle.slots.specs.Slots.{wordsAt}
 use Rattle.queue.specs.Queue.{framesFrom, framesOf, firstFrame, taken, sizes}
 use Rattle.queue.proofs.Laws.{space-left, space-full}
-use Rattle.flow.specs.declared.Which.{Which}
-use Rattle.flow.specs.declared.Which.the-variants.{M, A, B, C, D}
-use Rattle.flow.specs.Which.{numberOf, member}
-use Rattle.flow.proofs.Charge.{same-which}
+use Rattle.credits.specs.declared.Which.{Which}
+use Rattle.credits.specs.declared.Which.the-variants.{M, A, B, C, D}
+use Rattle.credits.specs.Which.{numberOf, member}
+use Rattle.credits.proofs.Charge.{same-which}
 use Rattle.flow.proofs.Held.{head-first}
 use Rattle.rates.proofs.Formulas.{smoothed-is, aged-is, ramped-is, allowance-is, own-is, share-is}
 use Rattle.answer.specs.Bytes.{bitOf}

@@ -9,7 +9,6 @@ functions =
       fair-told = λ self settings. by-equation;
       fair-heard = λ self advert. by-equation;
       four-in-range = λ self. by-equation;
-      ttl-ok = λ ttl. by-equation;
       fair-in-range = λ self settings. by-equation;
       fair-start = λ settings. by-equation;
       fair-is-beyond = λ self hops. by-equation;
@@ -17,6 +16,4 @@ functions =
       fair-count = λ self settings origin mark hops size. by-equation;
       fair-age = λ self settings held. by-equation;
       fair-share = λ self settings. by-equation;
-      is-own-ringlet = λ settings advert. by-equation;
-      is-own-address = λ settings advert. by-equation;
     }

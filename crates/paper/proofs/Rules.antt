@@ -11,13 +11,14 @@ use Rattle.shaper.specs.declared.Event.the-variants.{Send}
 use Rattle.shaper.specs.Credit.{endCredit}
 use Rattle.shaper.proofs.Credit.{permits-exactly}
 use Rattle.shaper.proofs.Short.{shortfall-least, permits-short}
-use Rattle.flow.specs.declared.Credits.{Credits}
-use Rattle.flow.specs.declared.Which.{Which}
-use Rattle.flow.specs.Which.{bucketOf, creditOf, limitsFor, member, sends, fed}
-use Rattle.flow.proofs.Range.{credit-fed}
+use Rattle.credits.specs.declared.Credits.{Credits}
+use Rattle.credits.specs.declared.Which.{Which}
+use Rattle.credits.specs.Which.{bucketOf, creditOf, limitsFor, member, sends, fed}
+use Rattle.credits.proofs.Range.{credit-fed}
+use Rattle.credits.proofs.Ways as way
+use Rattle.credits.proofs.Short as short
 use Rattle.flow.proofs.Tick as waiting
 use Rattle.flow.proofs.Offer as offer
-use Rattle.flow.proofs.Short as short
 use Rattle.fair.specs.declared.Fair.{Fair}
 use Rattle.advert.specs.declared.Advert.{Advert}
 use Rattle.advert.specs.Frame.{whole, advertBytes, AdvertFits, parsedOf}
@@ -81,10 +82,10 @@ enters =
       transit-a = offer.transit-a;
       transit-b = offer.transit-b;
       transit-c = offer.transit-c;
-      client-a = offer.way-a;
-      client-b = offer.way-b;
-      client-b-failing = offer.way-b-failing;
-      client-c = offer.way-c;
+      client-a = way.way-a;
+      client-b = way.way-b;
+      client-b-failing = way.way-b-failing;
+      client-c = way.way-c;
       needs-a = refl;
       needs-b = refl;
       needs-excess = refl;

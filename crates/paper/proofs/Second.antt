@@ -10,10 +10,10 @@ use lib.ListN.{length}
 use Rattle.decide.specs.Test.{Test, test, Holds, facts, passes}
 use Rattle.settings.specs.declared.Settings.{Settings}
 use Rattle.flow.specs.declared.Flow.{Flow}
-use Rattle.flow.specs.Select.{controlReady, primaryReady, needy, stageReady, secondaryReady}
-use Rattle.flow.proofs.Ready as ready
-use Rattle.flow.proofs.Select as select
-use Rattle.flow.proofs.Frames.{select-moves}
+use Rattle.selection.specs.Select.{controlReady, primaryReady, needy, stageReady, secondaryReady}
+use Rattle.selection.proofs.Ready as ready
+use Rattle.selection.proofs.Select as select
+use Rattle.selection.proofs.Frames.{select-moves}
 use Rattle.fair.specs.declared.Fair.{Fair}
 use Rattle.fair.proofs.Age as interval
 use Rattle.fair.proofs.ReadBack.{frame-read-back}

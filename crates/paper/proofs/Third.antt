@@ -18,9 +18,9 @@ use Rattle.account.proofs.Promises.{summarize-written, summarized-written}
 use Rattle.account.proofs.Pieces.{cut-joins}
 use Rattle.settings.specs.declared.Settings.{Settings}
 use Rattle.settings.specs.Range.{SettingsOk}
-use Rattle.flow.specs.declared.Which.{Which}
-use Rattle.flow.specs.Which.{bucketOf, limitsFor}
-use Rattle.flow.proofs.Range.{bucket-ok, limits-ok}
+use Rattle.credits.specs.declared.Which.{Which}
+use Rattle.credits.specs.Which.{bucketOf, limitsFor}
+use Rattle.credits.proofs.Range.{bucket-ok, limits-ok}
 use Rattle.station.specs.History.{Recorded}
 use Rattle.station.proofs.History.{credit-of-record}
 use Rattle.sheet.specs.Sheet.{sheetLength, summaryAt}

@@ -15,20 +15,21 @@ use Rattle.settings.specs.Range.{SettingsOk}
 use Rattle.queue.specs.declared.Frame.{Frame}
 use Rattle.queue.specs.Frame.{FrameOk, wordOf}
 use Rattle.queue.specs.Queue.{framesOf, sizes, spaceOf}
-use Rattle.flow.specs.declared.Credits.{Credits}
+use Rattle.credits.specs.declared.Credits.{Credits}
+use Rattle.credits.specs.declared.Way.{Way}
+use Rattle.credits.specs.declared.Which.{Which}
+use Rattle.credits.specs.declared.Which.the-variants.{M, D}
+use Rattle.credits.specs.Which.{bucketOf, creditOf, permitsAll, sends, fed}
+use Rattle.credits.specs.Short.{shortAll}
+use Rattle.credits.specs.Way.{wayOf, needsOf, markOf}
 use Rattle.flow.specs.declared.Line.{Line}
 use Rattle.flow.specs.declared.Line.the-variants.{Control}
-use Rattle.flow.specs.declared.Way.{Way}
-use Rattle.flow.specs.declared.Which.{Which}
-use Rattle.flow.specs.declared.Which.the-variants.{M, D}
-use Rattle.flow.specs.Which.{bucketOf, creditOf, permitsAll, sends, fed}
-use Rattle.flow.specs.Short.{shortAll}
 use Rattle.flow.specs.Parts.{queueOf, capacityOf, boundsOf, withCredits, withStage}
 use Rattle.flow.specs.Tick.{waits}
-use Rattle.flow.specs.Offer.{queueFor, wayOf, needsOf, markOf, clientFrame}
+use Rattle.flow.specs.Offer.{queueFor, clientFrame}
 use Rattle.flow.specs.Events.{wayBack}
-use Rattle.flow.specs.Select as flow
 use Rattle.flow.specs.Frames.{Staged}
+use Rattle.selection.specs.Select as selection
 use Rattle.fair.specs.declared.Fair.{Fair}
 use Rattle.fair.specs.Age as interval
 use Rattle.fair.specs.Count.{countOf}
@@ -150,7 +151,7 @@ pub record Acts (st : Station) : Type 0 where
       → Stages st class size hops (wayOf (st .settings) (st .flow .credits) class)
   -- The selected frame is counted by where it came from, its mark, hops and size.
   pub select :
-      let r = flow.selectOf (st .settings) (st .flow) in
+      let r = selection.selectOf (st .settings) (st .flow) in
       selectOf st ≡ record {
         number = 0;
         detail = 0;
@@ -181,8 +182,8 @@ pub record Traces (st : Station) (w : Which) (r : Answer) : Type 0 where
   pub no-client : (class size hops : ℕ) → (r .number ≡ 0 → ⊥) → trace w (history.offerClient class size hops) r st ≡ []
   -- of a selected frame, to M where it is a control frame, and to D where it is a secondary one and mtu ≤ its queue's space.
   pub managed : r .origin ≡ 1 → trace w history.select r st ≡ sends (M ∷ []) (r .frame .size) w
-  pub secondary : r .origin ≡ 3 → test (flow.needy (st .settings) (st .flow)) ≡ false → trace w history.select r st ≡ sends (D ∷ []) (r .frame .size) w
-  pub needy : r .origin ≡ 3 → test (flow.needy (st .settings) (st .flow)) ≡ true → trace w history.select r st ≡ []
+  pub secondary : r .origin ≡ 3 → test (selection.needy (st .settings) (st .flow)) ≡ false → trace w history.select r st ≡ sends (D ∷ []) (r .frame .size) w
+  pub needy : r .origin ≡ 3 → test (selection.needy (st .settings) (st .flow)) ≡ true → trace w history.select r st ≡ []
   pub elsewhere : (r .origin ≡ 1 → ⊥) → (r .origin ≡ 3 → ⊥) → trace w history.select r st ≡ []
   -- No other call is an event to a shaper.
   pub transit : (class size hops eligible : ℕ) → trace w (history.offerTransit class size hops eligible) r st ≡ []

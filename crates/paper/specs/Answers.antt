@@ -22,8 +22,11 @@ use Rattle.paper.specs.OfSettings as OfSettings
 use Rattle.paper.specs.OfQueue as OfQueue
 use Rattle.paper.specs.OfRates as OfRates
 use Rattle.paper.specs.OfAdvert as OfAdvert
+use Rattle.paper.specs.OfHeard as OfHeard
 use Rattle.paper.specs.OfFair as OfFair
+use Rattle.paper.specs.OfCredits as OfCredits
 use Rattle.paper.specs.OfFlow as OfFlow
+use Rattle.paper.specs.OfSelection as OfSelection
 use Rattle.paper.specs.OfStation as OfStation
 use Rattle.paper.specs.OfSlots as OfSlots
 use Rattle.paper.specs.OfLayout as OfLayout
@@ -53,8 +56,11 @@ pub record AnswersDetermined : Type 0 where
   pub of-queue : OfQueue.Functions
   pub of-rates : OfRates.Functions
   pub of-advert : OfAdvert.Functions
+  pub of-heard : OfHeard.Functions
   pub of-fair : OfFair.Functions
+  pub of-credits : OfCredits.Functions
   pub of-flow : OfFlow.Functions
+  pub of-selection : OfSelection.Functions
   pub of-station : OfStation.Functions
   pub of-slots : OfSlots.Functions
   pub of-layout : OfLayout.Functions

@@ -37,10 +37,10 @@ use Rattle.queue.specs.declared.Bounds.{Bounds}
 use Rattle.queue.specs.Frame.{hopsOk, frameOk, FrameOk}
 use Rattle.queue.specs.Range.{AllOk, queueOk, QueueOk}
 use Rattle.advert.specs.Frame.{advertLength}
+use Rattle.credits.specs.declared.Which.{Which}
+use Rattle.credits.specs.declared.Which.the-variants.{A, C, D}
+use Rattle.credits.specs.Which.{bucketOf, creditOf}
 use Rattle.flow.specs.declared.Line.the-variants.{Control}
-use Rattle.flow.specs.declared.Which.{Which}
-use Rattle.flow.specs.declared.Which.the-variants.{A, C, D}
-use Rattle.flow.specs.Which.{bucketOf, creditOf}
 use Rattle.flow.specs.Offer.{queueFor}
 use Rattle.sheet.specs.Sheet.{sheetLength}
 use Rattle.layout.specs.Reading.{readingLength}

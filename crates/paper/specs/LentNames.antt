@@ -22,10 +22,10 @@ use Rattle.sheet.specs.Sheet.{sheetLength, sheetOf, handed}
 use Rattle.settings.specs.declared.Settings.{Settings}
 use Rattle.queue.specs.declared.Front.{Front}
 use Rattle.queue.specs.Front.{fronted}
-use Rattle.flow.specs.declared.Sight.{Sight}
-use Rattle.flow.specs.declared.Which.{Which}
-use Rattle.flow.specs.Select as flow
-use Rattle.flow.specs.Pick.{seenIn}
+use Rattle.credits.specs.declared.Which.{Which}
+use Rattle.selection.specs.declared.Sight.{Sight}
+use Rattle.selection.specs.Select as selection
+use Rattle.selection.specs.Pick.{seenIn}
 use Rattle.fair.specs.declared.Fair.{Fair}
 use Rattle.fair.specs.Count.{countOf}
 use Rattle.station.specs.declared.Station.{Station}
@@ -121,7 +121,7 @@ pub record SheetNames : Type 0 where
 pub record SightNames : Type 0 where
   -- What goes next in a station, in range or not: what the table selects, counted, and what it leaves but for the queue that the frame left.
   pub picked : (st : Station)
-      → let r = flow.selectOf (st .settings) (st .flow) in
+      → let r = selection.selectOf (st .settings) (st .flow) in
       pickOf st ≡ record {
         origin = r .origin;
         frame = r .frame;

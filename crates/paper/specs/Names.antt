@@ -21,20 +21,22 @@ use Rattle.queue.specs.declared.Queue.{Queue}
 use Rattle.queue.specs.Frame.{frameOf}
 use Rattle.queue.specs.Queue.{framesFrom, framesOf, firstFrame, taken, spaceOf, sizes}
 use Rattle.advert.specs.declared.Advert.{Advert}
-use Rattle.flow.specs.declared.Credits.{Credits}
+use Rattle.credits.specs.declared.Credits.{Credits}
+use Rattle.credits.specs.declared.Way as entry
+use Rattle.credits.specs.declared.Which.{Which}
+use Rattle.credits.specs.declared.Which.the-variants.{M, A, B, C, D}
+use Rattle.credits.specs.Which.{bucketOf, creditOf, limitsFor, member, sends, fed}
+use Rattle.credits.specs.Way.{markOf}
 use Rattle.flow.specs.declared.Flow.{Flow}
-use Rattle.flow.specs.declared.Selected.{Selected}
-use Rattle.flow.specs.Frames.{Holding, Staged, stageFrames, gone}
+use Rattle.flow.specs.Frames.{Holding, Staged, stageFrames}
 use Rattle.flow.specs.declared.Line.{Line}
 use Rattle.flow.specs.declared.Line.the-variants.{Control, Primary, Secondary}
-use Rattle.flow.specs.declared.Way as entry
-use Rattle.flow.specs.declared.Which.{Which}
-use Rattle.flow.specs.declared.Which.the-variants.{M, A, B, C, D}
-use Rattle.flow.specs.Which.{bucketOf, creditOf, limitsFor, member, sends, fed}
 use Rattle.flow.specs.Parts.{queueOf, capacityOf, boundsOf, withCredits, withStage, withQueue}
-use Rattle.flow.specs.Select.{originOf, leaves, leavesCharged, leavesStage}
 use Rattle.flow.specs.Events.{wayBack}
-use Rattle.flow.specs.Offer.{markOf, clientFrame}
+use Rattle.flow.specs.Offer.{clientFrame}
+use Rattle.selection.specs.declared.Selected.{Selected}
+use Rattle.selection.specs.Frames.{gone}
+use Rattle.selection.specs.Select.{originOf, leaves, leavesCharged, leavesStage}
 use Rattle.rates.specs.Rates.{smoothedOf, agedOf, rampedOf, allowanceOf, ownRateOf, shareOf}
 use Rattle.fair.specs.declared.Fair.{Fair}
 use Rattle.fair.specs.declared.Four.{Four}

@@ -3,10 +3,10 @@
 use Prim.Native.Nat.{ℕ}
 use Rattle.advert.specs.declared.Advert.{Advert}
 use Rattle.decide.specs.Test.{test}
-use Rattle.fair.specs.Advertise.{heardOf, ownAddress, ownRinglet, toldOf}
+use Rattle.fair.specs.Advertise.{heardOf, toldOf}
 use Rattle.fair.specs.Age.{ageOf}
 use Rattle.fair.specs.Count.{beyond, countOf, over}
-use Rattle.fair.specs.Range.{fairOk, fourOk, ttlOk}
+use Rattle.fair.specs.Range.{fairOk, fourOk}
 use Rattle.fair.specs.Start.{startOf}
 use Rattle.fair.specs.declared.Fair.{Fair}
 use Rattle.fair.specs.declared.Four.{Four}
@@ -23,8 +23,6 @@ pub record Functions : Type 0 where
   pub fair-heard : (self : Fair) (advert : Advert) → Determined (λ (r : Fair). r ≡ heardOf self advert)
   -- Four::in_range
   pub four-in-range : (self : Four) → Determined (λ (r : Bool). r ≡ test (fourOk self))
-  -- ttl_ok
-  pub ttl-ok : (ttl : ℕ) → Determined (λ (r : Bool). r ≡ test (ttlOk ttl))
   -- Fair::in_range
   pub fair-in-range : (self : Fair) (settings : Settings) → Determined (λ (r : Bool). r ≡ test (fairOk settings self))
   -- Fair::start
@@ -39,7 +37,3 @@ pub record Functions : Type 0 where
   pub fair-age : (self : Fair) (settings : Settings) (held : ℕ) → Determined (λ (r : Fair). r ≡ ageOf self settings held)
   -- Fair::share
   pub fair-share : (self : Fair) (settings : Settings) → Determined (λ (r : ℕ). r ≡ shareOf (self .decided .allowed) (settings .fairness .age) (settings .fairness .ticks))
-  -- is_own_ringlet
-  pub is-own-ringlet : (settings : Settings) (advert : Advert) → Determined (λ (r : Bool). r ≡ test (ownRinglet settings advert))
-  -- is_own_address
-  pub is-own-address : (settings : Settings) (advert : Advert) → Determined (λ (r : Bool). r ≡ test (ownAddress settings advert))

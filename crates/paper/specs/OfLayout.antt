@@ -1,14 +1,14 @@
 -- Public functions of `layout`, by name: two answers that meet the contract are equal.
 -- Assumes nothing.
 use Prim.Native.Nat.{ℕ}
+use Rattle.credits.specs.declared.Credits.{Credits}
 use Rattle.decide.specs.Test.{test}
 use Rattle.fair.specs.Range.{fairOk}
 use Rattle.fair.specs.declared.Decided.{Decided}
 use Rattle.fair.specs.declared.Fair.{Fair}
 use Rattle.fair.specs.declared.Four.{Four}
-use Rattle.fair.specs.declared.Received.{Received}
-use Rattle.flow.specs.declared.Credits.{Credits}
 use Rattle.flow.specs.declared.Line.{Line}
+use Rattle.heard.specs.declared.Received.{Received}
 use Rattle.layout.specs.Layout.{creditsWords, decidedWords, fairAt, fairBytes, fairPlace, fourWords, pushedAt, receivedWords, stagePlace, stationAt, stationBytes, takenFrom}
 use Rattle.layout.specs.Reading.{readingBytes}
 use Rattle.settings.specs.declared.Settings.{Settings}

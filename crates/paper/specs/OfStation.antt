@@ -3,7 +3,7 @@
 use Prim.Native.Nat.{ℕ}
 use Rattle.decide.specs.Test.{test}
 use Rattle.fair.specs.declared.Fair.{Fair}
-use Rattle.flow.specs.declared.Sight.{Sight}
+use Rattle.selection.specs.declared.Sight.{Sight}
 use Rattle.settings.specs.declared.Settings.{Settings}
 use Rattle.station.specs.Calls.{ageOf, freshOf, selectOf, startOf, tickOf}
 use Rattle.station.specs.Hear.{hearOf, tellOf}

@@ -20,10 +20,10 @@ use Rattle.queue.specs.declared.Queue.{Queue}
 use Rattle.queue.specs.Frame.{FrameOk}
 use Rattle.queue.specs.Queue.{framesOf, sizes, spaceOf}
 use Rattle.advert.specs.Frame.{advertLength}
+use Rattle.credits.specs.Way.{wayOf, markOf}
 use Rattle.flow.specs.declared.Line.{Line}
 use Rattle.flow.specs.Frames.{Staged}
 use Rattle.flow.specs.Parts.{queueOf, capacityOf, boundsOf}
-use Rattle.flow.specs.Offer.{wayOf, markOf}
 use Rattle.ring.specs.declared.Way.{Way}
 use Rattle.ring.specs.Choosing.{reachesOf}
 use Rattle.station.specs.Range.{StationOk}

@@ -9,17 +9,18 @@ use lib.Dec.{eqb}
 use lib.ListN.{length}
 use Rattle.decide.specs.Test.{test}
 use Rattle.settings.specs.declared.Settings.{Settings}
-use Rattle.flow.specs.declared.Credits.{Credits}
+use Rattle.credits.specs.declared.Credits.{Credits}
+use Rattle.credits.specs.declared.Which.{Which}
+use Rattle.credits.specs.declared.Which.the-variants.{M, A, B, C, D}
+use Rattle.credits.specs.declared.Way.the-variants.{ClassA, ClassB, Excess}
+use Rattle.credits.specs.Which.{bucketOf, creditOf, permitsOf, permitsAll, member, sends, fed}
+use Rattle.credits.specs.Short.{shortOf, shortAll}
+use Rattle.credits.specs.Way.{wayOf, needsOf, markOf}
 use Rattle.flow.specs.declared.Line.the-variants.{Primary, Secondary}
-use Rattle.flow.specs.declared.Which.{Which}
-use Rattle.flow.specs.declared.Which.the-variants.{M, A, B, C, D}
-use Rattle.flow.specs.declared.Way.the-variants.{ClassA, ClassB, Excess}
-use Rattle.flow.specs.Which.{bucketOf, creditOf, permitsOf, permitsAll, member, sends, fed}
-use Rattle.flow.specs.Short.{shortOf, shortAll}
 use Rattle.flow.specs.Tick.{waits}
-use Rattle.flow.specs.Offer.{queueFor, wayOf, needsOf, markOf}
+use Rattle.flow.specs.Offer.{queueFor}
 use Rattle.flow.specs.Frames.{Holding, Staged}
-use Rattle.fair.specs.declared.Received.{Received}
+use Rattle.heard.specs.declared.Received.{Received}
 use Rattle.fair.specs.declared.Fair.{Fair}
 use Rattle.wire.specs.Wire.{be}
 use Rattle.advert.specs.declared.Advert.{Advert}
@@ -27,7 +28,8 @@ use Rattle.advert.specs.declared.Parsed.{Parsed}
 use Rattle.advert.specs.Frame.{whole, advertIn, parsedOf, advertBytes}
 use Rattle.rates.specs.Rates.{countedOf}
 use Rattle.fair.specs.Count.{beyond, countOf, withCounters}
-use Rattle.fair.specs.Advertise.{ownFrame, passedOn, withReceived, toldOf, heardOf}
+use Rattle.heard.specs.Frame.{ownFrame}
+use Rattle.fair.specs.Advertise.{passedOn, withReceived, toldOf, heardOf}
 use Rattle.station.specs.declared.Station.{Station}
 use Rattle.station.specs.Calls.{tickOf, amountFor}
 

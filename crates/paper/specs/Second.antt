@@ -17,16 +17,17 @@ use Rattle.queue.specs.declared.Frame.{Frame}
 use Rattle.queue.specs.declared.Bounds.{Bounds}
 use Rattle.queue.specs.Frame.{FrameOk, wordOf, frameOf}
 use Rattle.queue.specs.Queue.{framesOf, firstFrame, spaceOf}
-use Rattle.flow.specs.declared.Credits.{Credits}
+use Rattle.credits.specs.declared.Credits.{Credits}
+use Rattle.credits.specs.declared.Which.{Which}
+use Rattle.credits.specs.declared.Which.the-variants.{M, D}
+use Rattle.credits.specs.Which.{creditOf, sends, fed}
 use Rattle.flow.specs.declared.Flow.{Flow}
 use Rattle.flow.specs.declared.Line.the-variants.{Control, Primary, Secondary}
-use Rattle.flow.specs.declared.Which.{Which}
-use Rattle.flow.specs.declared.Which.the-variants.{M, D}
-use Rattle.flow.specs.Which.{creditOf, sends, fed}
-use Rattle.flow.specs.Select as flow
-use Rattle.flow.specs.Select.{controlReady, primaryReady, needy, stageReady, secondaryReady, leaves, leavesCharged, leavesStage, nothingOf}
 use Rattle.flow.specs.Range.{FlowOk}
-use Rattle.flow.specs.Frames.{Holding, Staged, Moves}
+use Rattle.flow.specs.Frames.{Holding, Staged}
+use Rattle.selection.specs.Select as selection
+use Rattle.selection.specs.Select.{controlReady, primaryReady, needy, stageReady, secondaryReady, leaves, leavesCharged, leavesStage, nothingOf}
+use Rattle.selection.specs.Frames.{Moves}
 use Rattle.fair.specs.declared.Fair.{Fair}
 use Rattle.advert.specs.declared.Advert.{Advert}
 use Rattle.fair.specs.Age as interval
@@ -82,20 +83,20 @@ pub record Ready (s : Settings) (f : Flow) : Type 0 where
 pub record Selects (s : Settings) (f : Flow) : Type 0 where
   pub ready : Ready s f
   -- control, if its head's size fits the space of both transit queues and M permits (M charged);
-  pub control : Holds (controlReady s f) → flow.selectOf s f ≡ leavesCharged s f Control M
+  pub control : Holds (controlReady s f) → selection.selectOf s f ≡ leavesCharged s f Control M
   -- primary;
-  pub primary : (Holds (controlReady s f) → ⊥) → Holds (primaryReady f) → flow.selectOf s f ≡ leaves f Primary
+  pub primary : (Holds (controlReady s f) → ⊥) → Holds (primaryReady f) → selection.selectOf s f ≡ leaves f Primary
   -- secondary, if mtu > its space (nothing charged);
-  pub needy-secondary : (Holds (controlReady s f) → ⊥) → (Holds (primaryReady f) → ⊥) → Holds (needy s f) → flow.selectOf s f ≡ leaves f Secondary
+  pub needy-secondary : (Holds (controlReady s f) → ⊥) → (Holds (primaryReady f) → ⊥) → Holds (needy s f) → selection.selectOf s f ≡ leaves f Secondary
   -- stage;
   pub stage : (Holds (controlReady s f) → ⊥) → (Holds (primaryReady f) → ⊥) → (Holds (needy s f) → ⊥) → Holds (stageReady f)
-      → flow.selectOf s f ≡ leavesStage f
+      → selection.selectOf s f ≡ leavesStage f
   -- secondary, if D permits (D charged);
   pub secondary : (Holds (controlReady s f) → ⊥) → (Holds (primaryReady f) → ⊥) → (Holds (needy s f) → ⊥) → (Holds (stageReady f) → ⊥)
-      → Holds (secondaryReady s f) → flow.selectOf s f ≡ leavesCharged s f Secondary D
+      → Holds (secondaryReady s f) → selection.selectOf s f ≡ leavesCharged s f Secondary D
   -- nothing.
   pub nothing : (Holds (controlReady s f) → ⊥) → (Holds (primaryReady f) → ⊥) → (Holds (needy s f) → ⊥) → (Holds (stageReady f) → ⊥)
-      → (Holds (secondaryReady s f) → ⊥) → flow.selectOf s f ≡ nothingOf f
+      → (Holds (secondaryReady s f) → ⊥) → selection.selectOf s f ≡ nothingOf f
   -- Where it came from: control 1, primary 2, secondary 3, stage 4, nothing 0; and where nothing goes nothing changes.
   pub origins : (leavesCharged s f Control M .origin ≡ 1) × (leaves f Primary .origin ≡ 2) × (leaves f Secondary .origin ≡ 3) × (leavesStage f .origin ≡ 4)
       × (leavesCharged s f Secondary D .origin ≡ 3)
@@ -105,7 +106,7 @@ pub record Selects (s : Settings) (f : Flow) : Type 0 where
   pub d-charged : leavesCharged s f Secondary D .flow .credits ≡ fed s (f .credits) (sends (D ∷ []) (firstFrame (f .secondary) .size))
   pub uncharged : (leaves f Primary .flow .credits ≡ f .credits) × (leaves f Secondary .flow .credits ≡ f .credits) × (leavesStage f .flow .credits ≡ f .credits)
   -- The chosen frame leaves its queue, where it was first; no other frame moves.
-  pub moves : SettingsOk s → FlowOk s f → Moves f (flow.selectOf s f)
+  pub moves : SettingsOk s → FlowOk s f → Moves f (selection.selectOf s f)
 
 -- ---- fair rates: an aging interval, with so many bytes in the secondary queue
 

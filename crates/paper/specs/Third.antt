@@ -31,8 +31,8 @@ use Rattle.account.specs.Pieces.{Tree, Cuts, joinedAlong}
 use Rattle.settings.specs.declared.Settings.{Settings}
 use Rattle.settings.specs.Range.{SettingsOk}
 use Rattle.settings.specs.Words.{settingsAt}
-use Rattle.flow.specs.declared.Which.{Which}
-use Rattle.flow.specs.Which.{bucketOf, creditOf, limitsFor}
+use Rattle.credits.specs.declared.Which.{Which}
+use Rattle.credits.specs.Which.{bucketOf, creditOf, limitsFor}
 use Rattle.station.specs.Calls.{freshOf}
 use Rattle.station.specs.History.{Call, after, recordOf}
 use Rattle.sheet.specs.Sheet.{sheetLength, summaryAt}

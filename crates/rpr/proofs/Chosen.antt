@@ -16,11 +16,11 @@ use Rattle.queue.specs.Frame.{FrameOk, frameOf}
 use Rattle.queue.proofs.Laws.{first-ok}
 use Rattle.flow.specs.declared.Flow.{Flow}
 use Rattle.flow.specs.declared.Line.the-variants.{Control, Primary, Secondary}
-use Rattle.flow.specs.declared.Selected as flow
 use Rattle.flow.specs.Range.{FlowOk}
-use Rattle.flow.specs.Select.{controlReady, primaryReady, needy, secondaryReady}
-use Rattle.flow.proofs.Select.{Goes, control, primary, pressed, staged, secondary, nothing, goes, nothing-exactly}
-use Rattle.flow.proofs.Kept.{needy-holds}
+use Rattle.selection.specs.declared.Selected as selection
+use Rattle.selection.specs.Select.{controlReady, primaryReady, needy, secondaryReady}
+use Rattle.selection.proofs.Select.{Goes, control, primary, pressed, staged, secondary, nothing, goes, nothing-exactly}
+use Rattle.selection.proofs.Kept.{needy-holds}
 use Rattle.station.specs.declared.Station.{Station}
 use Rattle.station.specs.declared.Selected.{Selected}
 use Rattle.station.specs.Range.{stationOk, StationOk}
@@ -41,7 +41,7 @@ unfolding digits
 of-none origin w h e = omega arith
 
 module _ {s : Settings} {f : Flow} (good : SettingsOk s) (ok : FlowOk s f) where
-  of-row : {r : flow.Selected} → Goes s f r → EachByte (selectedBytes (r .origin) (r .frame))
+  of-row : {r : selection.Selected} → Goes s f r → EachByte (selectedBytes (r .origin) (r .frame))
   of-row (control a) = of-frame 1 (omega arith) (first-ok (ok .queues Control) (lt-ltb 0 (f .control .count) (facts (controlReady s f) a .0)))
   of-row (primary a b) = of-frame 2 (omega arith) (first-ok (ok .queues Primary) (lt-ltb 0 (f .primary .count) (facts (primaryReady f) b)))
   of-row (pressed a b c) = of-frame 3 (omega arith) (first-ok (ok .queues Secondary) (needy-holds ok good (facts (needy s f) c)))

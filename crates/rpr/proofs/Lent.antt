@@ -13,8 +13,8 @@ use Rattle.wire.specs.Wire.{Bytes}
 use Rattle.settings.specs.declared.Settings.{Settings}
 use Rattle.settings.specs.Range.{settingsOk}
 use Rattle.settings.specs.Words.{settingsAt}
-use Rattle.flow.specs.declared.Which.{Which}
-use Rattle.flow.specs.Which.{creditOf}
+use Rattle.credits.specs.declared.Which.{Which}
+use Rattle.credits.specs.Which.{creditOf}
 use Rattle.station.specs.declared.Station.{Station}
 use Rattle.station.specs.Range.{StationOk}
 use Rattle.station.specs.Calls.{freshOf}

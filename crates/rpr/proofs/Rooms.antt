@@ -14,7 +14,8 @@ use Rattle.wire.proofs.Numbers.{digitsBe-bytes}
 use Rattle.wire.proofs.Placed.{laidOut-bytes}
 use Rattle.advert.specs.declared.Advert.{Advert}
 use Rattle.advert.specs.Frame.{partsOf, advertBytes}
-use Rattle.fair.specs.Advertise.{ownAddress, toldOf}
+use Rattle.heard.specs.Frame.{ownAddress}
+use Rattle.fair.specs.Advertise.{toldOf}
 use Rattle.station.specs.declared.Station.{Station}
 use Rattle.station.specs.declared.Done.{Done}
 use Rattle.station.specs.declared.Told.{Told}

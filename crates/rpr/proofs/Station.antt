@@ -15,10 +15,10 @@ use Rattle.decide.proofs.Cases.{by-cases}
 use Rattle.decide.proofs.Refused.{carried-by, number-by}
 use Rattle.wire.specs.Wire.{digits}
 use Rattle.queue.specs.declared.Frame.{Frame}
+use Rattle.credits.specs.Way.{markOf}
+use Rattle.credits.proofs.Ways.{mark-most}
 use Rattle.flow.specs.declared.Client.{Client}
 use Rattle.flow.specs.declared.Line.{Line}
-use Rattle.flow.specs.Offer.{markOf}
-use Rattle.flow.proofs.Offer.{mark-most}
 use Rattle.station.specs.Range.{stationOk}
 use Rattle.station.specs.Answers.{chosenOf}
 use Rattle.station.specs.declared.Client as station

@@ -14,15 +14,15 @@ use Rattle.shaper.specs.declared.Event.{Event}
 use Rattle.settings.specs.declared.Settings.{Settings}
 use Rattle.settings.specs.Words.{settingsAt}
 use Rattle.queue.specs.Queue as queue
+use Rattle.credits.specs.declared.Credits.{Credits}
+use Rattle.credits.specs.declared.Which.{Which}
+use Rattle.credits.specs.Which.{creditOf, sends}
 use Rattle.flow.specs.declared.Client as flow
-use Rattle.flow.specs.declared.Credits.{Credits}
 use Rattle.flow.specs.declared.Flow.{Flow}
-use Rattle.flow.specs.declared.Selected as selection
-use Rattle.flow.specs.declared.Which.{Which}
-use Rattle.flow.specs.Which.{creditOf, sends}
 use Rattle.flow.specs.Parts.{withCredits}
-use Rattle.flow.specs.Events.{chargesOf}
-use Rattle.flow.proofs.Select.{Goes, control, primary, pressed, staged, secondary, nothing, goes}
+use Rattle.selection.specs.declared.Selected as selection
+use Rattle.selection.specs.Events.{chargesOf}
+use Rattle.selection.proofs.Select.{Goes, control, primary, pressed, staged, secondary, nothing, goes}
 use Rattle.station.specs.declared.Station.{Station}
 use Rattle.station.specs.declared.Selected.{Selected}
 use Rattle.station.specs.Range.{StationOk}

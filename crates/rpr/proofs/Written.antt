@@ -14,9 +14,8 @@ use Rattle.wire.specs.Wire.{digits, put, Bytes}
 use Rattle.queue.specs.declared.Frame.{Frame}
 use Rattle.queue.specs.declared.Queue.{Queue}
 use Rattle.queue.specs.Queue.{pushed, taken, spaceOf}
+use Rattle.credits.specs.declared.Credits.{Credits}
 use Rattle.flow.specs.declared.Client as flow
-use Rattle.flow.specs.declared.Selected as selection
-use Rattle.flow.specs.declared.Credits.{Credits}
 use Rattle.flow.specs.declared.Flow.{Flow}
 use Rattle.flow.specs.declared.Line.{Line}
 use Rattle.flow.specs.declared.Line.the-variants.{Control, Primary, Secondary}
@@ -24,7 +23,8 @@ use Rattle.flow.specs.Parts.{queueOf, capacityOf, withCredits, withStage, withQ
 use Rattle.flow.specs.Tick.{tickOf}
 use Rattle.flow.specs.Offer.{enterOf}
 use Rattle.flow.proofs.Offer.{enter-taken}
-use Rattle.flow.proofs.Select.{Goes, control, primary, pressed, staged, secondary, nothing, goes}
+use Rattle.selection.specs.declared.Selected as selection
+use Rattle.selection.proofs.Select.{Goes, control, primary, pressed, staged, secondary, nothing, goes}
 use Rattle.fair.specs.declared.Fair.{Fair}
 use Rattle.fair.specs.declared.Four.{Four}
 use Rattle.fair.specs.Count.{withCounters}

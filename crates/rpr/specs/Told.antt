@@ -5,7 +5,7 @@ use mathlib.Core.List.{List, [], _∷_, _++_}
 use lib.ListN.{getD}
 use Rattle.wire.specs.Wire.{le, digits}
 use Rattle.shaper.specs.declared.Event.{Event}
-use Rattle.flow.specs.declared.Which.{Which}
+use Rattle.credits.specs.declared.Which.{Which}
 use Rattle.station.specs.declared.Station.{Station}
 use Rattle.station.specs.History.{Call, Answer, trace}
 use Rattle.layout.specs.Layout.{stationAt}

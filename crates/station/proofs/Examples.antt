@@ -13,15 +13,17 @@ use Rattle.settings.specs.declared.Bucket.{Bucket}
 use Rattle.settings.specs.declared.Settings.{Settings}
 use Rattle.settings.specs.Range.{settingsOk}
 use Rattle.shaper.specs.declared.Event.the-variants.{Waiting, Send}
-use Rattle.flow.specs.declared.Which.the-variants.{C, D}
+use Rattle.credits.specs.declared.Which.the-variants.{C, D}
+use Rattle.credits.specs.Way.{wayOf}
 use Rattle.flow.specs.Range.{flowOk}
 use Rattle.flow.specs.Tick as flow
-use Rattle.flow.specs.Offer.{queueFor, wayOf}
-use Rattle.flow.specs.Select as selection
+use Rattle.flow.specs.Offer.{queueFor}
+use Rattle.selection.specs.Select as selection
 use Rattle.fair.specs.Range.{fairOk}
 use Rattle.fair.specs.Count.{raisedOf}
 use Rattle.fair.specs.Age.{adjustOf, allowedOf, allowedcOf}
-use Rattle.fair.specs.Advertise.{receivedOf, toldOf}
+use Rattle.heard.specs.Frame.{receivedOf}
+use Rattle.fair.specs.Advertise.{toldOf}
 use Rattle.station.specs.declared.Station.{Station}
 use Rattle.station.specs.Range.{stationOk}
 use Rattle.station.specs.Calls.{freshOf}

@@ -15,8 +15,9 @@ use Rattle.advert.specs.declared.Advert.{Advert}
 use Rattle.advert.specs.declared.Parsed.the-variants.{Frame, Refused}
 use Rattle.advert.specs.Frame.{whole, advertIn, parsedOf}
 use Rattle.advert.proofs.Parsing.{parsed-whole, parsed-not}
-use Rattle.fair.specs.Range.{ttlOk}
-use Rattle.fair.specs.Advertise.{ownRinglet, ownAddress, toldOf}
+use Rattle.heard.specs.Range.{ttlOk}
+use Rattle.heard.specs.Frame.{ownRinglet, ownAddress}
+use Rattle.fair.specs.Advertise.{toldOf}
 use Rattle.station.specs.declared.Station.{Station}
 use Rattle.station.specs.Range.{stationOk}
 use Rattle.station.specs.Answers.{refusedOf, doneOf}

@@ -9,18 +9,19 @@ use Rattle.shaper.specs.Credit.{endCredit, Permitted}
 use Rattle.shaper.specs.Credit as shaper
 use Rattle.settings.specs.declared.Settings.{Settings}
 use Rattle.settings.specs.Range.{SettingsOk}
-use Rattle.flow.specs.declared.Credits.{Credits}
+use Rattle.credits.specs.declared.Credits.{Credits}
+use Rattle.credits.specs.declared.Which.{Which}
+use Rattle.credits.specs.declared.Which.the-variants.{M, A, B, C, D}
+use Rattle.credits.specs.Which.{creditOf, limitsFor}
 use Rattle.flow.specs.declared.Flow.{Flow}
 use Rattle.flow.specs.declared.Line.the-variants.{Control}
-use Rattle.flow.specs.declared.Which.{Which}
-use Rattle.flow.specs.declared.Which.the-variants.{M, A, B, C, D}
-use Rattle.flow.specs.Which.{creditOf, limitsFor}
 use Rattle.flow.specs.Parts.{withCredits}
 use Rattle.flow.specs.Tick.{waits, amountOf}
 use Rattle.flow.specs.Offer.{queueFor, controlFrame}
 use Rattle.flow.specs.Events.{noEvents, Feeds}
 use Rattle.flow.proofs.Range.{start-credit}
-use Rattle.flow.proofs.Events.{none-feeds, feeds-then, tick-feeds, enter-feeds, client-feeds, select-feeds}
+use Rattle.flow.proofs.Events.{none-feeds, feeds-then, tick-feeds, enter-feeds, client-feeds}
+use Rattle.selection.proofs.Events.{select-feeds}
 use Rattle.station.specs.declared.Station.{Station}
 use Rattle.station.specs.declared.Done.{Done}
 use Rattle.station.specs.declared.Client.{Client}

@@ -21,11 +21,12 @@ use Rattle.flow.specs.declared.Line.{Line}
 use Rattle.flow.specs.declared.Line.the-variants.{Control}
 use Rattle.flow.specs.Parts.{boundsOf}
 use Rattle.flow.specs.Offer.{queueFor, controlFrame, enterOf}
-use Rattle.flow.specs.Select.{selectOf}
 use Rattle.flow.specs.Range.{FlowOk}
-use Rattle.flow.proofs.Kept.{tick-kept, transit-kept, control-kept, client-kept, select-kept}
-use Rattle.fair.specs.Range.{ttlOk}
-use Rattle.fair.specs.Advertise.{ownRinglet, ownAddress}
+use Rattle.flow.proofs.Kept.{tick-kept, transit-kept, control-kept, client-kept}
+use Rattle.selection.specs.Select.{selectOf}
+use Rattle.selection.proofs.Kept.{select-kept}
+use Rattle.heard.specs.Range.{ttlOk}
+use Rattle.heard.specs.Frame.{ownRinglet, ownAddress}
 use Rattle.fair.proofs.Age.{age-in-range}
 use Rattle.fair.proofs.Count.{count-in-range}
 use Rattle.fair.proofs.Heard.{heard-in-range}

@@ -15,8 +15,8 @@ use Rattle.advert.specs.Frame.{advertBytes, advertIn}
 use Rattle.advert.proofs.ReadBack.{parsed-fits}
 use Rattle.settings.specs.declared.Settings.{Settings}
 use Rattle.settings.specs.Range.{SettingsOk}
-use Rattle.fair.specs.declared.Received.{Received}
-use Rattle.fair.specs.Advertise.{receivedOf, ownAddress}
+use Rattle.heard.specs.declared.Received.{Received}
+use Rattle.heard.specs.Frame.{receivedOf, ownAddress}
 use Rattle.fair.specs.ReadBack.{ReadBack}
 use Rattle.fair.proofs.ReadBack.{frame-read-back}
 use Rattle.station.specs.declared.Station.{Station}

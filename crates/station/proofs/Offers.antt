@@ -16,12 +16,13 @@ use Rattle.queue.specs.Frame.{frameOk, FrameOk, BoundsOk, wordOf}
 use Rattle.queue.specs.Queue.{pushed, spaceOf}
 use Rattle.decide.proofs.Tests.{same-test}
 use Rattle.queue.proofs.Word.{frame-facts}
+use Rattle.credits.specs.Which.{permitsAll, sends, fed}
+use Rattle.credits.specs.Way.{needsOf, markOf}
 use Rattle.flow.specs.declared.Client as flow
 use Rattle.flow.specs.declared.Entered.{Entered}
 use Rattle.flow.specs.declared.Line.{Line}
-use Rattle.flow.specs.Which.{permitsAll, sends, fed}
 use Rattle.flow.specs.Parts.{queueOf, capacityOf, boundsOf, stageHolds, withCredits, withStage, withQueue}
-use Rattle.flow.specs.Offer.{Offered, enterFaults, enterOf, needsOf, markOf, clientFaults, clientFrame}
+use Rattle.flow.specs.Offer.{Offered, enterFaults, enterOf, clientFaults, clientFrame}
 use Rattle.flow.proofs.Range.{bounds-ok}
 use Rattle.flow.proofs.Offer.{enter-refused, enter-taken, client-full, client-barred, client-over, client-taken}
 use Rattle.station.specs.declared.Station.{Station}

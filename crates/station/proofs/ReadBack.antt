@@ -6,8 +6,9 @@ use mathlib.Core.Path.{_≡_, sym, ap, subst, _∙_}
 use Rattle.decide.specs.Test.{test, passes, decided}
 use Rattle.advert.specs.declared.Advert.{Advert}
 use Rattle.advert.specs.Frame.{advertBytes}
-use Rattle.fair.specs.Range.{ttlOk}
-use Rattle.fair.specs.Advertise.{toldOf, ownRinglet, ownAddress}
+use Rattle.heard.specs.Range.{ttlOk}
+use Rattle.heard.specs.Frame.{ownRinglet, ownAddress}
+use Rattle.fair.specs.Advertise.{toldOf}
 use Rattle.fair.proofs.ReadBack.{frame-read-back}
 use Rattle.station.specs.declared.Station.{Station}
 use Rattle.station.specs.declared.Told.{Told}

@@ -7,11 +7,12 @@ use native.Mathlib.Omega.{arith}
 use Rattle.decide.specs.Test.{test}
 use Rattle.decide.proofs.Cases.{by-cases, true-or-false}
 use Rattle.rates.specs.Rates.{countedOf}
-use Rattle.flow.specs.Select.{nothingOf}
-use Rattle.flow.specs.declared.Pick as picks
-use Rattle.flow.specs.Pick.{sightOf, leftOf}
-use Rattle.flow.proofs.Select.{nothing-exactly}
-use Rattle.flow.proofs.Picking as flow
+use Rattle.flow.specs.Leave.{leftOf}
+use Rattle.selection.specs.Select.{nothingOf}
+use Rattle.selection.specs.declared.Pick as picks
+use Rattle.selection.specs.Pick.{sightOf}
+use Rattle.selection.proofs.Select.{nothing-exactly}
+use Rattle.selection.proofs.Picking as selection
 use Rattle.settings.specs.declared.Settings.{Settings}
 use Rattle.fair.specs.declared.Fair.{Fair}
 use Rattle.fair.specs.Count.{beyond, raisedOf, countOf}
@@ -41,7 +42,7 @@ leaving st p =
 
 -- What is chosen is what is picked, and the station that this leaves.
 pub pick-leaves : (st : Station) → chosenOf st ≡ leaving st (pickOf st)
-pick-leaves st = ap (givenOf st) (flow.pick-leaves (st .settings) (st .flow))
+pick-leaves st = ap (givenOf st) (selection.pick-leaves (st .settings) (st .flow))
 
 -- what is picked of the frames and credits, and counted
 abbrev pub counting : Settings → Fair → picks.Pick → Pick
@@ -50,7 +51,7 @@ counting s f p =
 
 -- A station that looks like this one picks the same.
 pub sight-picks : (st : Station) → pickOf (seenAs (st .settings) (sightOf (st .flow)) (st .fair)) ≡ pickOf st
-sight-picks st = ap (counting (st .settings) (st .fair)) (flow.sight-picks (st .settings) (st .flow))
+sight-picks st = ap (counting (st .settings) (st .fair)) (selection.sight-picks (st .settings) (st .flow))
 
 -- ---- nothing
 

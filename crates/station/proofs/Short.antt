@@ -12,10 +12,10 @@ use Rattle.decide.proofs.Refusal.{in-order}
 use Rattle.decide.proofs.Refused.{of-answer, number-by}
 use Rattle.shaper.specs.Short.{detailOf}
 use Rattle.queue.specs.Frame.{frameOk}
-use Rattle.flow.specs.Which.{permitsAll}
+use Rattle.credits.specs.Which.{permitsAll}
+use Rattle.credits.specs.Way.{needsOf, markOf}
+use Rattle.credits.proofs.Short.{permits-short, short-most}
 use Rattle.flow.specs.Parts.{boundsOf, stageHolds}
-use Rattle.flow.specs.Offer.{needsOf, markOf}
-use Rattle.flow.proofs.Short.{permits-short, short-most}
 use Rattle.station.specs.declared.Station.{Station}
 use Rattle.station.specs.declared.Client.{Client}
 use Rattle.station.specs.Range.{stationOk}

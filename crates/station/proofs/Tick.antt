@@ -6,9 +6,9 @@ use mathlib.Core.Path.{_≡_, refl, ap, _∙_}
 use lib.Dec.{eqb}
 use Rattle.decide.specs.Test.{Holds, passes}
 use Rattle.rates.specs.Rates.{shareOf}
-use Rattle.flow.specs.declared.Which.{Which}
-use Rattle.flow.specs.declared.Which.the-variants.{C}
-use Rattle.flow.specs.Which.{bucketOf, creditOf}
+use Rattle.credits.specs.declared.Which.{Which}
+use Rattle.credits.specs.declared.Which.the-variants.{C}
+use Rattle.credits.specs.Which.{bucketOf, creditOf}
 use Rattle.flow.specs.Tick.{waits}
 use Rattle.flow.specs.Tick as ticked
 use Rattle.flow.proofs.Tick as flow

@@ -4,8 +4,8 @@
 use Prim.Native.Nat.{ℕ}
 use Rattle.queue.specs.Frame.{frameOf}
 use Rattle.flow.specs.declared.Flow.{Flow}
-use Rattle.flow.specs.declared.Selected as flow
-use Rattle.flow.specs.Select.{selectOf}
+use Rattle.selection.specs.declared.Selected as selection
+use Rattle.selection.specs.Select.{selectOf}
 use Rattle.fair.specs.declared.Fair.{Fair}
 use Rattle.fair.specs.Count.{countOf}
 use Rattle.station.specs.declared.Station.{Station}
@@ -33,7 +33,7 @@ doneOf next = record { number = 0; detail = 0; station = next }
 -- ---- what selection answers
 
 -- the station that the chosen frame has left, and in which it is counted: by where it came from, its mark, hops and size
-abbrev pub countedOf : Station → flow.Selected → Station
+abbrev pub countedOf : Station → selection.Selected → Station
 countedOf st r =
     record {
       settings = st .settings;
@@ -42,7 +42,7 @@ countedOf st r =
     }
 
 -- the chosen frame
-abbrev pub givenOf : Station → flow.Selected → Selected
+abbrev pub givenOf : Station → selection.Selected → Selected
 givenOf st r = record { number = 0; detail = 0; origin = r .origin; frame = r .frame; station = countedOf st r }
 
 abbrev pub chosenOf : Station → Selected

@@ -8,7 +8,7 @@ use Rattle.decide.specs.Test.{Test, test, _≤?_, _∧?_}
 use Rattle.decide.specs.Refusal.{Fault, fault, firstOf, refusedOr}
 use Rattle.settings.specs.declared.Settings.{Settings}
 use Rattle.settings.specs.Range.{settingsOk}
-use Rattle.flow.specs.declared.Which.{Which}
+use Rattle.credits.specs.declared.Which.{Which}
 use Rattle.flow.specs.Tick as flow
 use Rattle.flow.specs.Tick.{amountOf}
 use Rattle.rates.specs.Rates.{shareOf}

@@ -7,7 +7,8 @@ use Rattle.decide.specs.Test.{test}
 use Rattle.decide.specs.Refusal.{Fault, fault, firstOf, refusedOr}
 use Rattle.advert.specs.declared.Advert.{Advert}
 use Rattle.advert.specs.Frame.{whole, advertIn}
-use Rattle.fair.specs.Advertise.{ringletFault, ttlFault, addressFault, heardOf, toldOf}
+use Rattle.heard.specs.Frame.{ringletFault, ttlFault, addressFault}
+use Rattle.fair.specs.Advertise.{heardOf, toldOf}
 use Rattle.station.specs.declared.Station.{Station}
 use Rattle.station.specs.declared.Done.{Done}
 use Rattle.station.specs.declared.Told.{Told}

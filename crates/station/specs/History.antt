@@ -11,10 +11,11 @@ use Rattle.shaper.specs.Credit.{endCredit, Permitted, AllValid}
 use Rattle.settings.specs.declared.Settings.{Settings}
 use Rattle.queue.specs.declared.Frame.{Frame}
 use Rattle.queue.specs.Frame.{frameOf}
-use Rattle.flow.specs.declared.Which.{Which}
-use Rattle.flow.specs.Which.{bucketOf, limitsFor}
+use Rattle.credits.specs.declared.Which.{Which}
+use Rattle.credits.specs.Which.{bucketOf, limitsFor}
 use Rattle.flow.specs.Tick.{tickEvents}
-use Rattle.flow.specs.Events.{clientEvents, selectEvents}
+use Rattle.flow.specs.Events.{clientEvents}
+use Rattle.selection.specs.Events.{selectEvents}
 use Rattle.station.specs.declared.Station.{Station}
 use Rattle.station.specs.declared.Done.{Done}
 use Rattle.station.specs.declared.Client.{Client}

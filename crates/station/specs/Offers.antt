@@ -7,15 +7,16 @@ use Rattle.decide.specs.Test.{test}
 use Rattle.decide.specs.Refusal.{Fault, fault, firstOf, refusedOr}
 use Rattle.queue.specs.declared.Frame.{Frame}
 use Rattle.queue.specs.Frame.{frameOk}
+use Rattle.credits.specs.declared.Way.{Way}
 use Rattle.flow.specs.declared.Client as flow
 use Rattle.flow.specs.declared.Entered.{Entered}
 use Rattle.flow.specs.declared.Line.{Line}
 use Rattle.flow.specs.declared.Line.the-variants.{Control}
-use Rattle.flow.specs.declared.Way.{Way}
 use Rattle.shaper.specs.Short.{detailOf}
+use Rattle.credits.specs.Short.{shortAll}
+use Rattle.credits.specs.Way.{needsOf, wayOf}
 use Rattle.flow.specs.Parts.{boundsOf}
-use Rattle.flow.specs.Short.{shortAll}
-use Rattle.flow.specs.Offer.{enterFaults, enterOf, queueFor, controlFrame, needsOf, wayOf, clientFaults, clientOf}
+use Rattle.flow.specs.Offer.{enterFaults, enterOf, queueFor, controlFrame, clientFaults, clientOf}
 use Rattle.fair.specs.Count.{over}
 use Rattle.station.specs.declared.Station.{Station}
 use Rattle.station.specs.declared.Done.{Done}

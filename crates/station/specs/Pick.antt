@@ -1,8 +1,8 @@
 -- Selection without the queues: what it says, and what it leaves of the station but for the queue that the frame left.
 -- Assumes nothing.
 use Rattle.settings.specs.declared.Settings.{Settings}
-use Rattle.flow.specs.declared.Sight.{Sight}
-use Rattle.flow.specs.Pick.{seenIn}
+use Rattle.selection.specs.declared.Sight.{Sight}
+use Rattle.selection.specs.Pick.{seenIn}
 use Rattle.fair.specs.declared.Fair.{Fair}
 use Rattle.station.specs.declared.Station.{Station}
 use Rattle.station.specs.declared.Pick.{Pick}

@@ -58,16 +58,16 @@ impl Station {
         requires { ⌜ good ≡ test (stationOk self) ⌝ }
         ensures { λ r. ⌜ r ≡ listenOf self said ⌝ }
     {
-        if fair::is_own_ringlet(self.settings, said) {
+        if heard::is_own_ringlet(self.settings, said) {
             return self.refused(2);
         }
         if !good {
             return self.refused(1);
         }
-        if !fair::ttl_ok(said.ttl as u32) {
+        if !heard::ttl_ok(said.ttl as u32) {
             return self.refused(3);
         }
-        if fair::is_own_address(self.settings, said) {
+        if heard::is_own_address(self.settings, said) {
             return self.refused(11);
         }
         let next = self.changed(said);

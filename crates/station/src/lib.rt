@@ -13,14 +13,14 @@ mod hearing;
 mod showing;
 
 use advert::Advert;
+use credits::Credits;
 use fair::Decided;
 use fair::Fair;
 use fair::Four;
-use fair::Received;
-use flow::Credits;
 use flow::Flow;
-use flow::Sight;
+use heard::Received;
 use queue::Frame;
+use selection::Sight;
 use settings::Settings;
 
 // A station: what it was set to, its credits, queues and stage, and what it knows of rates and congestion.
@@ -229,7 +229,7 @@ impl Station {
     {
         let settings = self.settings;
         let flow = self.flow;
-        let sight = flow.sight();
+        let sight = Sight::of(flow);
         let pick = picked(settings, sight, self.fair);
         let frame = pick.frame;
         let credits = pick.credits;

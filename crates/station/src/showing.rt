@@ -7,10 +7,10 @@ use crate::Held;
 use crate::Reading;
 use crate::Shown;
 use crate::Station;
+use credits::Credits;
 use fair::Decided;
 use fair::Four;
-use fair::Received;
-use flow::Credits;
+use heard::Received;
 use queue::Frame;
 use queue::Queue;
 

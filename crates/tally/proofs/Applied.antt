@@ -8,9 +8,10 @@ use mathlib.Core.Path.{_≡_, refl, ap, _∙_}
 use native.Mathlib.Numerals.{add-one}
 use native.Mathlib.Omega.{arith}
 use borrow.Author.Tests.{ne-eqb}
-use lib.Dec.{eqb}
+use lib.Dec.{eqb, leb}
 use lib.ListN.{length, getD, set}
 use lib.Seq.{getD-set-same, getD-set-other}
+use mir.Val.{boolByte}
 use Rattle.decide.specs.Test.{Holds, split, both, _≡?_}
 use Rattle.decide.proofs.Cases.{by-cases, le-or}
 use Rattle.shaper.specs.declared.Limits.{Limits}
@@ -20,7 +21,7 @@ use Rattle.tally.specs.declared.Part.{Part}
 use Rattle.tally.specs.declared.Parts.{Parts}
 use Rattle.tally.specs.Tally.{Within, startOf, pickOf, fallOf, barOf, stepOf}
 use Rattle.tally.specs.Part.{room, unsent, nonePart, growOf, Roomy, PartWithin, appliedTo, appliedBy, totalOf, goodOf, Steady, PartsFit, laneOf, overOf, Lanes}
-use Rattle.tally.proofs.Cases.{pick-tick, fall-max, bar-never, bar-level}
+use Rattle.tally.proofs.Cases.{pick-tick, fall-max, bar-never, bar-level, low-counted}
 
 -- ---- bounds, whatever the events hold
 
@@ -178,17 +179,17 @@ module _ (rise k v : ℕ) (t : Tally) (hv : v ≤ mostAmount) (h : v ≤ t .leve
 -- ---- part behind part
 
 -- n parts are applied: what the chain over them keeps
-pub record Gone (rise : ℕ) (t : Tally) (ps : ℕ → Part) (n b peak low : ℕ) : Type 0 where
+pub record Gone (rise : ℕ) (t : Tally) (ps : ℕ → Part) (n b peak low late : ℕ) : Type 0 where
   pub level-is : appliedBy rise t ps n .level ≡ b + (rise + room)
   pub peak-is : appliedBy rise t ps n .peak ≡ peak + rise
-  pub low-is : appliedBy rise t ps n .low ≡ low
+  pub low-is : appliedBy rise t ps n .low ≡ barOf 1 late low
 
 module _ (rise : ℕ) (t : Tally) (ps : ℕ → Part) where
-  pub gone-none : rise + room ≤ t .level → rise ≤ t .peak → Gone rise t ps 0 (t .level - (rise + room)) (t .peak - rise) (t .low)
-  unfolding appliedBy
+  pub gone-none : rise + room ≤ t .level → rise ≤ t .peak → Gone rise t ps 0 (t .level - (rise + room)) (t .peak - rise) (t .low) 0
+  unfolding appliedBy barOf
   gone-none h g = record { level-is = omega arith; peak-is = omega arith; low-is = refl }
 
-  module _ (n b peak low : ℕ) (g : Gone rise t ps n b peak low) (fits : rise + room ≤ b + ps n .level) where
+  module _ (n b peak low late : ℕ) (g : Gone rise t ps n b peak low late) (fits : rise + room ≤ b + ps n .level) where
     abbrev so-far : Tally
     so-far = appliedBy rise t ps n
 
@@ -198,11 +199,11 @@ module _ (rise : ℕ) (t : Tally) (ps : ℕ → Part) where
         (λ h. rw (bar-never (so-far .level + ps n .low) (so-far .peak + room) _ (omega (arith, g .level-is, g .peak-is)), bar-never (b + ps n .low) peak _ h) refl)
         (λ h. rw (bar-level (so-far .level + ps n .low) (so-far .peak + room) _ (omega (arith, g .level-is, g .peak-is)), bar-level (b + ps n .low) peak _ h) (omega (arith, g .level-is)))
 
-    pub gone-more : Gone rise t ps (n + 1) (b + ps n .level - (rise + room)) (max peak (b + ps n .top)) (min (barOf (b + ps n .low) peak (b + ps n .low)) low)
+    pub gone-more : Gone rise t ps (n + 1) (b + ps n .level - (rise + room)) (max peak (b + ps n .top)) (min (b + ps n .low) low) (late + boolByte (leb (b + ps n .low) peak))
     unfolding appliedBy
     gone-more =
         rw (add-one n)
-        (record { level-is = omega (arith, g .level-is); peak-is = omega (arith, g .level-is, g .peak-is); low-is = rw (g .low-is, more-low) refl })
+        (record { level-is = omega (arith, g .level-is); peak-is = omega (arith, g .level-is, g .peak-is); low-is = rw (g .low-is, more-low) (low-counted (b + ps n .low) peak late low) })
 
 -- ---- parts of a row, side by side
 

@@ -1,11 +1,12 @@
 -- What a step and a growing part pick, case by case: one law for each branch of their choices, and their bounds.
 -- Assumes nothing.
-use Prim.Native.Nat.{ℕ, _≤_, _<_, min, max}
+use Prim.Native.Nat.{ℕ, _+_, _≤_, _<_, min, max}
 use mathlib.Core.Bool.{Bool, true, false, _&&_, cond}
 use mathlib.Core.Path.{_≡_, refl}
 use native.Mathlib.Omega.{arith}
 use borrow.Author.Tests.{eq-eqb, ne-eqb, le-leb, lt-leb, lt-ltb, le-ltb}
-use lib.Dec.{ltb}
+use lib.Dec.{leb, ltb}
+use mir.Val.{boolByte}
 use Rattle.decide.specs.Test.{split, _≡?_}
 use Rattle.decide.proofs.Cases.{by-cases, le-or}
 use Rattle.tally.specs.Tally.{pickOf, fallOf, barOf}
@@ -42,6 +43,21 @@ module _ (rise depth level : ℕ) where
   pub bar-level : depth < rise → barOf rise depth level ≡ level
   unfolding barOf
   bar-level h = simp (lt-leb rise depth h)
+
+-- a low that comes too late is counted, at most once
+pub count-max : (b : Bool) → boolByte b ≤ 1
+count-max true = omega arith
+count-max false = omega arith
+
+-- where lows that come too late are counted the least of all is kept beside: it counts where none was
+pub low-counted : (x peak late low : ℕ) → min (barOf x peak x) (barOf 1 late low) ≡ barOf 1 (late + boolByte (leb x peak)) (min x low)
+low-counted x peak late low =
+    by-cases (le-or x peak)
+    (λ h. rw (bar-never x peak x h, le-leb x peak h, bar-never 1 (late + 1) (min x low) (omega arith)) (omega arith))
+    (λ h. rw (bar-level x peak x h, lt-leb x peak h)
+    (by-cases (le-or 1 late)
+    (λ k. rw (bar-never 1 late low k, bar-never 1 (late + 0) (min x low) (omega arith)) (omega arith))
+    (λ k. rw (bar-level 1 late low k, bar-level 1 (late + 0) (min x low) (omega arith)) refl)))
 
 -- ---- what a part chooses
 

@@ -13,9 +13,6 @@ use crate::bar;
 // How far above hiLimit - loLimit the level of a part begins, 2^20: eight events take less off it.
 const ROOM: u32 = 1048576;
 
-// The same in 64 bits.
-const WIDE_ROOM: u64 = ROOM as u64;
-
 // The low of a part in which nothing was sent: above every level.
 const UNSENT: u32 = 16777216;
 
@@ -56,19 +53,22 @@ impl Part {
 
 impl Tally {
     // The tally after eight parts that stand one behind the other: eight turns for 64 events. On the way `base` is the level less that at which a part begins, and
-    // `peak` is the peak less rise: a part whose low lies there or below holds a send that comes too late (`bar`, of these two).
-    pub fn over(self, rise: u64, parts: Parts) -> Self
+    // `peak` is the peak less rise: a part whose low lies there or below holds a send that comes too late. `late` is how many do: one is enough for a low of 0 (`bar`).
+    // The sum with which a part begins is made in 32 bits: so the compiler keeps it as one number.
+    pub fn over(self, rise: u32, parts: Parts) -> Self
         requires { ⌜ Within mostEvents self × PartsFit parts × (rise ≤ 1048576) ⌝ }
         ensures { λ r. ⌜ r ≡ overOf rise self parts ⌝ }
     {
-        let begin = rise + WIDE_ROOM;
+        let begin = (rise + ROOM) as u64;
         let mut base = self.level - begin;
-        let mut peak = self.peak - rise;
+        let mut peak = self.peak - rise as u64;
         let mut low = self.low;
+        let mut late: u64 = 0;
         let mut i: usize = 0;
         while i < 8 {
             let there = base + parts.lows[i] as u64;
-            low = decide::lesser(bar(there, peak, there), low);
+            low = decide::lesser(there, low);
+            late += (there <= peak) as u64;
             peak = decide::larger(peak, base + parts.tops[i] as u64);
             base = base + parts.levels[i] as u64 - begin;
             i += 1;
@@ -78,8 +78,8 @@ impl Tally {
         Self {
             accrued: self.accrued + gained,
             level: level,
-            peak: peak + rise,
-            low: low,
+            peak: peak + rise as u64,
+            low: bar(1, late, low),
         }
     }
 }

@@ -1,10 +1,10 @@
 // What is printed of a reading: its 31 words, each behind its name.
 use crate::print;
 use crate::print::number;
+use credits::Credits;
 use fair::Decided;
 use fair::Four;
-use fair::Received;
-use flow::Credits;
+use heard::Received;
 use script::print::text;
 use station::Reading;
 use station::Shown;

@@ -3,7 +3,6 @@
 use Prim.Native.Nat.{_+_, _-_, _*_, _≤_}
 use mathlib.Core.Path.{_≡_, sym, _∙_}
 use native.Mathlib.Omega.{arith}
-use borrow.Author.Needs.{needs}
 use Rattle.decide.specs.Test.{Holds}
 use Rattle.shaper.specs.declared.Limits.{Limits}
 use Rattle.shaper.specs.Limits.{limitsOk, mostEvents}
@@ -30,9 +29,6 @@ parts-requires c κs =
     let r = ranges (c .before .before .before .args .limits) (c .before .before .before .pre .1 .sound .0) in
     (c .before .before .before .pre .0, r .2, r .3)
 
-cast-over : tie.Need-cast-over
-cast-over c = let r = ranges (c .before .before .before .before .args .limits) (c .before .before .before .before .pre .1 .sound .0) in search needs
-
 over-requires : tie.Need-over-requires
 over-requires c κs =
     let a = c .before .before .before .before .args in
@@ -50,4 +46,4 @@ returns c =
     (side .good, λ g. rw (c .over .ensures, over-applied (l .hi - l .lo) (a .start) (c .before .parts .result) _ side (ranges l (pre .1 .sound .0) .2) (within-more (a .n) mostEvents (a .start) (pre .1 .few) (pre .1 .within))) (row-passed l (a .s .now) (λ j. bytes j .fits) (a .from) (a .n) (a .start) (pre .1) (pre .3) 8 (pre .2) (pre .0) (all-good _ 8 (sym (side .good) ∙ g))))
 
 pub block-spec : {M : Type 1} → statement M
-block-spec = tie.close (tie.spec sub-rise sub-parts parts-requires cast-over over-requires returns)
+block-spec = tie.close (tie.spec sub-rise sub-parts parts-requires over-requires returns)

@@ -1,4 +1,4 @@
--- `layout::in_range` meets its contract. Each part is asked where it stands: one that is out of range puts the station out, and the last says what is left.
+-- `layout::in_range` meets its contract. Each part is asked where it stands: one that is out of range puts the station out, and the fairness state says what is left.
 -- Assumes nothing.
 use mathlib.Core.Bool.{Bool}
 use mathlib.Core.Path.{_≡_, sym, ap, _∙_}
@@ -7,10 +7,11 @@ use lib.ListN.{length, take}
 use Rattle.decide.specs.Test.{Test, test, said}
 use Rattle.settings.specs.Range.{settingsOk}
 use Rattle.queue.specs.Range.{queueOk}
+use Rattle.credits.specs.Range.{creditsOk}
 use Rattle.flow.specs.declared.Line.{Line}
 use Rattle.flow.specs.declared.Line.the-variants.{Control, Primary, Secondary}
 use Rattle.flow.specs.Parts.{queueOf, capacityOf, boundsOf}
-use Rattle.flow.specs.Range.{creditsOk, stageOk, flowOk}
+use Rattle.flow.specs.Range.{stageOk, flowOk}
 use Rattle.fair.specs.Range.{fairOk}
 use Rattle.station.specs.declared.Station.{Station}
 use Rattle.station.specs.Range.{stationOk}
@@ -38,10 +39,14 @@ settings-known : (c : tie.After-room) → c .before .before .read .result ≡ he
 unfolding stationAt
 settings-known c = rw (whole-cut _ (c .before .before .before .before .before .before .before .pre)) at (c .before .before .read .ensures)
 
-credits-asked : (c : tie.After-in-range) → c .in-range .result ≡ test (creditsOk (held (c .before .before) .settings) (held (c .before .before) .flow .credits))
+fair-asked : (c : tie.After-in-range-at2) → c .in-range-at2 .result ≡ test (fairOk (held (c .before) .settings) (held (c .before) .fair))
+unfolding stationAt
+fair-asked c = rw (settings-known (c .before), whole-cut _ (c .before .before .before .before .before .before .before .before .pre)) at (c .in-range-at2 .ensures)
+
+credits-asked : (c : tie.After-in-range) → c .in-range .result ≡ test (creditsOk (held (c .before .before .before) .settings) (held (c .before .before .before) .flow .credits))
 unfolding stationAt
 credits-asked c =
-    let r = c .before .before in
+    let r = c .before .before .before in
     rw (settings-known r, c .before .read-credits .ensures, whole-cut _ (r .before .before .before .before .before .before .before .pre)) at (c .in-range .ensures)
 
 -- a queue, whichever it is
@@ -53,21 +58,17 @@ queue-asked : (c : tie.After-room) (l : Line) {good : Bool}
     → good ≡ test (lineOk (held c) l)
 queue-asked c l e = rw (c .before .bounds .ensures, settings-known c, whole-cut _ (c .before .before .before .before .before .before .before .pre), queue-here) at e
 
+abbrev asking : tie.After-stage-ok → tie.After-in-range-at2
+asking c = c .before .before .before .before .before .before .before .before .before .before .before
+
 abbrev staging : tie.After-stage-ok → tie.After-room
-staging c = c .before .before .before .before .before .before .before .before .before .before .before
+staging c = asking c .before
 
 stage-asked : (c : tie.After-stage-ok) → c .stage-ok .result ≡ test (stageOk (boundsOf (held (staging c) .settings)) (held (staging c) .flow .stage))
 unfolding stationAt
 stage-asked c =
-    let r = c .before .before .before .before .before .before .before .before .before .before .before in
+    let r = c .before .before .before .before .before .before .before .before .before .before .before .before in
     rw (r .before .bounds .ensures, settings-known r, c .before .get32 .ensures, whole-cut _ (r .before .before .before .before .before .before .before .pre)) at (c .stage-ok .ensures)
-
-abbrev ending : tie.After-in-range-at2 → tie.After-room
-ending c = staging (c .before .before)
-
-fair-asked : (c : tie.After-in-range-at2) → c .in-range-at2 .result ≡ test (fairOk (held (ending c) .settings) (held (ending c) .fair))
-unfolding stationAt
-fair-asked c = rw (settings-known (ending c), whole-cut _ (ending c .before .before .before .before .before .before .before .pre)) at (c .in-range-at2 .ensures)
 
 -- ---- the tests, one after the other
 
@@ -93,6 +94,10 @@ read-requires c κs = search needs
 bounds-requires : tie.Need-bounds-requires
 bounds-requires c κs = search needs
 
+in-range-at-requires-2 : tie.Need-in-range-at-requires-2
+in-range-at-requires-2 c κs = let start = c .before .before .before .before .before .before .before in
+    omega (arith, ap length (whole-cut (start .args .whole .now) (start .pre)), start .pre)
+
 read-credits-requires : tie.Need-read-credits-requires
 read-credits-requires c κs = search needs
 
@@ -101,7 +106,7 @@ in-range-requires c κs = search needs
 
 returns-2 : tie.Need-returns-2
 unfolding stationOk flowOk
-returns-2 c = let st = held (c .before .before .before) in
+returns-2 c = let st = held (c .before .before .before .before) in
     part-out st (creditsOk (st .settings) (st .flow .credits)) (λ h. h .1 .0 .0) (credits-asked (c .before)) (c .if2 .taken)
 
 in-range-requires-2 : tie.Need-in-range-requires-2
@@ -110,7 +115,7 @@ in-range-requires-2 c κs = search needs
 returns-3 : tie.Need-returns-3
 unfolding stationOk flowOk
 returns-3 c =
-    let r = c .before .before .before .before .before in
+    let r = c .before .before .before .before .before .before in
     part-out (held r) (lineOk (held r) Control) (λ h. h .1 .0 .1 .0) (queue-asked r Control (c .before .in-range2 .ensures)) (c .if3 .taken)
 
 in-range-requires-3 : tie.Need-in-range-requires-3
@@ -119,7 +124,7 @@ in-range-requires-3 c κs = search needs
 returns-4 : tie.Need-returns-4
 unfolding stationOk flowOk
 returns-4 c =
-    let r = c .before .before .before .before .before .before .before in
+    let r = c .before .before .before .before .before .before .before .before in
     part-out (held r) (lineOk (held r) Primary) (λ h. h .1 .0 .1 .1 .0) (queue-asked r Primary (c .before .in-range3 .ensures)) (c .if4 .taken)
 
 in-range-requires-4 : tie.Need-in-range-requires-4
@@ -128,7 +133,7 @@ in-range-requires-4 c κs = search needs
 returns-5 : tie.Need-returns-5
 unfolding stationOk flowOk
 returns-5 c =
-    let r = c .before .before .before .before .before .before .before .before .before in
+    let r = c .before .before .before .before .before .before .before .before .before .before in
     part-out (held r) (lineOk (held r) Secondary) (λ h. h .1 .0 .1 .1 .1 .0) (queue-asked r Secondary (c .before .in-range4 .ensures)) (c .if5 .taken)
 
 get32-requires : tie.Need-get32-requires
@@ -142,23 +147,18 @@ unfolding stationOk flowOk
 returns-6 c = let st = held (staging (c .before)) in
     part-out st (stageOk (boundsOf (st .settings)) (st .flow .stage)) (λ h. h .1 .0 .1 .1 .1 .1) (stage-asked (c .before)) (c .if6 .taken)
 
-in-range-at-requires-2 : tie.Need-in-range-at-requires-2
-in-range-at-requires-2 c κs =
-    let start : _ = c .before .before .before .before .before .before .before .before .before .before .before .before .before .before .before .before .before .before .before in
-    omega (arith, ap length (whole-cut (start .args .whole .now) (start .pre)), start .pre)
-
 returns-7 : tie.Need-returns-7
 unfolding flowOk
 returns-7 c =
-    let stage : _ = c .before in
+    let stage : _ = c in
     let secondary : _ = stage .before .before .before in
     let primary : _ = secondary .before .before in
     let control : _ = primary .before .before in
     let credits : _ = control .before .before in
-    let settings : _ = credits .before .before .before .before .before .before in
-    let r = ending c in
+    let settings : _ = credits .before .before .before .before .before .before .before in
+    let r = staging (c .before) in
     let st = held r in
-    fair-asked c
+    fair-asked (asking (c .before))
     ∙ sym
     (last-says st (said (settingsOk (st .settings)) (settings-asked (settings .before)) (settings .if1 .left)) (
       said (creditsOk (st .settings) (st .flow .credits)) (credits-asked (credits .before)) (credits .if2 .left),
@@ -185,6 +185,7 @@ in-range-spec =
     returns
     read-requires
     bounds-requires
+    in-range-at-requires-2
     read-credits-requires
     in-range-requires
     returns-2
@@ -197,5 +198,4 @@ in-range-spec =
     get32-requires
     stage-ok-requires
     returns-6
-    in-range-at-requires-2
     returns-7)

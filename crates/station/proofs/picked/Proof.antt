@@ -1,7 +1,7 @@
 -- The frame is the one that the table selects, and is counted.
 -- Assumes nothing.
 use mathlib.Core.Path.{ap, _∙_}
-use Rattle.flow.specs.declared.Pick as flow
+use Rattle.selection.specs.declared.Pick as selection
 use Rattle.fair.specs.declared.Fair.{Fair}
 use Rattle.station.specs.declared.Pick.{Pick}
 use Rattle.station.proofs.Select.{counting}
@@ -10,7 +10,7 @@ use Rattle.station.proofs.picked.Statement.{statement}
 use Rattle.station.proofs.picked.Tie as tie
 
 -- this is picked, and leaves the fairness state so
-abbrev given : flow.Pick → Fair → Pick
+abbrev given : selection.Pick → Fair → Pick
 given p f = record { origin = p .origin; frame = p .frame; credits = p .credits; stage = p .stage; fair = f }
 
 pick-requires : tie.Need-pick-requires

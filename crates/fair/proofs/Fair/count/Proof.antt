@@ -1,6 +1,10 @@
 -- `fair::Fair::count` meets its contract: each of the four counters is raised where the frame counts for it.
 -- Assumes nothing.
+use mathlib.Core.Bool.{and-true}
+use mathlib.Core.Path.{sym}
+use lib.Dec.{eqb}
 use Rattle.decide.specs.Test.{test}
+use Rattle.fair.proofs.Count.{unmarked}
 use borrow.Author.Needs.{needs}
 use Rattle.fair.proofs.Fair.count.Statement.{statement}
 use Rattle.fair.proofs.Fair.count.Tie as tie
@@ -21,8 +25,12 @@ raised-requires-4 : tie.Need-raised-requires-4
 raised-requires-4 c κs = search needs
 
 returns : tie.Need-returns
+returns c = let a = c .before .args in
+    sym (unmarked (a .self) (a .settings) (a .hops) (a .size) (a .origin) (a .mark) (c .if1 .taken))
+
+returns-2 : tie.Need-returns-2
 unfolding test
-returns c = let third = c .before in
+returns-2 c = let third = c .before in
     let second = third .before in
     let first = second .before in
     rw (
@@ -31,15 +39,19 @@ returns c = let third = c .before in
       second .raised2 .ensures,
       first .raised .ensures,
       first .before .before .is-beyond .ensures,
+      first .before .before .before .if1 .left,
+      and-true (eqb (first .before .before .before .before .args .origin) 4),
+      and-true (eqb (first .before .before .before .before .args .origin) 3),
     )
 
 pub count-spec : {M : Type 1} → statement M
 count-spec =
     tie.close
     (tie.spec
+    returns
     is-beyond-requires
     raised-requires
     raised-requires-2
     raised-requires-3
     raised-requires-4
-    returns)
+    returns-2)

@@ -2,8 +2,8 @@
 -- Assumes nothing.
 use mathlib.Core.Path.{sym, _∙_}
 use native.Mathlib.Omega.{arith}
-use Rattle.flow.specs.Offer.{needsOf, wayOf}
-use Rattle.flow.proofs.Short.{permits-short, denied-short}
+use Rattle.credits.specs.Way.{needsOf, wayOf}
+use Rattle.credits.proofs.Short.{permits-short, denied-short}
 use Rattle.flow.proofs.Offer.{client-full, client-barred, client-over, client-taken}
 use borrow.Author.Needs.{needs}
 use Rattle.flow.proofs.Flow.client.Statement.{statement}

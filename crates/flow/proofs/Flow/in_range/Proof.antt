@@ -3,8 +3,9 @@
 use mathlib.Core.List.{[], _∷_}
 use Rattle.queue.specs.Range.{queueOk}
 use Rattle.decide.proofs.Chain.{chain}
+use Rattle.credits.specs.Range.{creditsOk}
 use Rattle.flow.specs.Parts.{boundsOf}
-use Rattle.flow.specs.Range.{creditsOk, stageOk, flowOk}
+use Rattle.flow.specs.Range.{stageOk, flowOk}
 use Rattle.flow.proofs.Flow.in_range.Statement.{statement}
 use Rattle.flow.proofs.Flow.in_range.Tie as tie
 

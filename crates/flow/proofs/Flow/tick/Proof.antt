@@ -3,7 +3,7 @@
 use Prim.Native.Nat.{ℕ}
 use mathlib.Core.Bool.{_||_}
 use mathlib.Core.Path.{_≡_, ap, _∙_}
-use Rattle.flow.specs.declared.Which.the-variants.{M, C, D}
+use Rattle.credits.specs.declared.Which.the-variants.{M, C, D}
 use Rattle.flow.proofs.Tick.{ticks, tick-each}
 use Rattle.flow.proofs.Flow.tick.Statement.{statement}
 use Rattle.flow.proofs.Flow.tick.Tie as tie

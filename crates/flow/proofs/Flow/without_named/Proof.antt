@@ -2,7 +2,7 @@
 -- Assumes nothing.
 use mathlib.Core.Path.{sym, ap, _∙_}
 use borrow.Author.Tests.{ne-eqb}
-use Rattle.flow.specs.Pick.{withoutNamed}
+use Rattle.flow.specs.Leave.{withoutNamed}
 use Rattle.flow.proofs.Flow.without_named.Statement.{statement}
 use Rattle.flow.proofs.Flow.without_named.Tie as tie
 

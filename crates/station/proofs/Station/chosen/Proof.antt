@@ -7,8 +7,8 @@ use borrow.Author.Needs.{needs}
 use Rattle.station.proofs.Station.chosen.Statement.{statement}
 use Rattle.station.proofs.Station.chosen.Tie as tie
 
-sight-requires : tie.Need-sight-requires
-sight-requires c κs = search needs
+of-requires : tie.Need-of-requires
+of-requires c κs = search needs
 
 picked-requires : tie.Need-picked-requires
 picked-requires c κs = search needs
@@ -21,8 +21,8 @@ returns c =
     let out = c .before .before .before .before in
     let seen = out .before in
     let st = seen .before .before .before .args .self in
-    let e : out .picked .result ≡ pickOf st = rw (seen .sight .ensures) at (out .picked .ensures) ∙ sight-picks st in
+    let e : out .picked .result ≡ pickOf st = rw (seen .of .ensures) at (out .picked .ensures) ∙ sight-picks st in
     rw (c .leave .ensures, e) (sym (pick-leaves st))
 
 pub chosen-spec : {M : Type 1} → statement M
-chosen-spec = tie.close (tie.spec sight-requires picked-requires leave-requires returns)
+chosen-spec = tie.close (tie.spec of-requires picked-requires leave-requires returns)

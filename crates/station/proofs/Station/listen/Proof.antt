@@ -2,7 +2,7 @@
 -- Assumes nothing.
 use mathlib.Core.Path.{sym, _∙_}
 use Rattle.decide.specs.Test.{left, taken}
-use Rattle.fair.specs.Range.{ttlOk}
+use Rattle.heard.specs.Range.{ttlOk}
 use Rattle.station.specs.Range.{stationOk}
 use Rattle.station.proofs.Hear.{listen-own, listen-lost, listen-far, listen-self, listen-done}
 use borrow.Author.Needs.{needs}

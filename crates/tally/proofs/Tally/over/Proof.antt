@@ -4,21 +4,28 @@ use Prim.Native.Nat.{_+_, _-_, _*_, _≤_}
 use mathlib.Core.Path.{_≡_, refl}
 use native.Mathlib.Omega.{arith}
 use borrow.Author.Needs.{needs}
+use lib.Dec.{leb}
+use lib.ListN.{getD}
 use Rattle.tally.specs.Part.{laneOf}
+use Rattle.tally.proofs.Cases.{count-max}
 use Rattle.tally.proofs.Applied.{Gone, gone-none, gone-more}
 use Rattle.tally.proofs.Tally.over.Statement.{statement}
 use Rattle.tally.proofs.Tally.over.Tie as tie
 
 abbrev Inv-loop : tie.InvT-loop
-Inv-loop self rise parts begin base₀ peak₀ low₀ i₀ base peak low i =
+Inv-loop self rise parts begin base₀ peak₀ low₀ late₀ i₀ base peak low late i =
     (i ≤ 8) × (self .level ≤ base + 2097152 + 2097152 * i) × (base ≤ self .level + 8388608 * i) × (peak ≤ self .peak + self .level + 8388608 + 8388608 * i)
-    × Gone rise self (laneOf parts) i base peak low
+    × (late ≤ i)
+    × Gone rise self (laneOf parts) i base peak low late
 
 abbrev μ-loop : tie.MeasureT-loop
-μ-loop self rise parts begin base₀ peak₀ low₀ i₀ base peak low i = 8 - i
+μ-loop self rise parts begin base₀ peak₀ low₀ late₀ i₀ base peak low late i = 8 - i
 
 add-begin : tie.Need-add-begin Inv-loop μ-loop
 add-begin c = search needs
+
+cast-begin : tie.Need-cast-begin Inv-loop μ-loop
+cast-begin c = search needs
 
 sub-base : tie.Need-sub-base Inv-loop μ-loop
 sub-base c = search needs
@@ -27,7 +34,7 @@ sub-peak : tie.Need-sub-peak Inv-loop μ-loop
 sub-peak c = search needs
 
 loop-holds : tie.Need-loop-holds Inv-loop μ-loop
-loop-holds c = (omega arith, omega arith, omega arith, omega arith, gone-none (c .before .before .args .rise) (c .before .before .args .self) (laneOf (c .before .before .args .t3)) (omega arith) (omega arith))
+loop-holds c = (omega arith, omega arith, omega arith, omega arith, omega arith, gone-none (c .before .before .args .rise) (c .before .before .args .self) (laneOf (c .before .before .args .t3)) (omega arith) (omega arith))
 
 mul-there : tie.Need-mul-there Inv-loop μ-loop
 mul-there c = search needs
@@ -44,11 +51,18 @@ add-there c =
     let fit = c .before .before .before .before .before .pre .1 .lows (L .i) (c .before .loop-test .taken) in
     omega arith
 
-bar-requires : tie.Need-bar-requires Inv-loop μ-loop
-bar-requires c κs = search needs
-
 lesser-requires : tie.Need-lesser-requires Inv-loop μ-loop
 lesser-requires c κs = search needs
+
+cast-late : tie.Need-cast-late Inv-loop μ-loop
+cast-late c = search needs
+
+add-late : tie.Need-add-late Inv-loop μ-loop
+add-late c =
+    let L = c .before .before .before .loop in
+    let a = c .before .before .before .before .before .before .args in
+    let count = count-max (leb (L .base + getD (a .t3 .lows) (L .i) 0) (L .peak)) in
+    omega arith
 
 mul-larger : tie.Need-mul-larger Inv-loop μ-loop
 mul-larger c = search needs
@@ -61,8 +75,8 @@ cast-larger c = search needs
 
 add-larger : tie.Need-add-larger Inv-loop μ-loop
 add-larger c =
-    let L = c .before .before .before .before .before .loop in
-    let fit = c .before .before .before .before .before .before .before .before .pre .1 .tops (L .i) (c .before .before .before .before .loop-test .taken) in
+    let L = c .before .before .before .before .loop in
+    let fit = c .before .before .before .before .before .before .before .pre .1 .tops (L .i) (c .before .before .before .loop-test .taken) in
     omega arith
 
 larger-requires : tie.Need-larger-requires Inv-loop μ-loop
@@ -76,14 +90,14 @@ element-copy-out-base c = search needs
 
 cast-base : tie.Need-cast-base Inv-loop μ-loop
 cast-base c =
-    let L = c .before .before .before .before .before .before .before .loop in
-    let fit = c .before .before .before .before .before .before .before .before .before .before .pre .1 .levels (L .i) (c .before .before .before .before .before .before .loop-test .taken) in
+    let L = c .before .before .before .before .before .before .loop in
+    let fit = c .before .before .before .before .before .before .before .before .before .pre .1 .levels (L .i) (c .before .before .before .before .before .loop-test .taken) in
     omega arith
 
 add-base : tie.Need-add-base Inv-loop μ-loop
 add-base c =
-    let L = c .before .before .before .before .before .before .before .loop in
-    let fit = c .before .before .before .before .before .before .before .before .before .before .pre .1 .levels (L .i) (c .before .before .before .before .before .before .loop-test .taken) in
+    let L = c .before .before .before .before .before .before .loop in
+    let fit = c .before .before .before .before .before .before .before .before .before .pre .1 .levels (L .i) (c .before .before .before .before .before .loop-test .taken) in
     omega arith
 
 sub-base-2 : tie.Need-sub-base-2 Inv-loop μ-loop
@@ -97,20 +111,21 @@ loop-less c = search needs
 
 loop-again : tie.Need-loop-again Inv-loop μ-loop
 loop-again c =
-    let L = c .before .before .before .before .before .before .before .loop in
-    let a = c .before .before .before .before .before .before .before .before .before .before .args in
-    let h = c .before .before .before .before .before .before .loop-test .taken in
-    let fits = c .before .before .before .before .before .before .before .before .before .before .pre .1 in
+    let L = c .before .before .before .before .before .before .loop in
+    let a = c .before .before .before .before .before .before .before .before .before .args in
+    let h = c .before .before .before .before .before .loop-test .taken in
+    let fits = c .before .before .before .before .before .before .before .before .before .pre .1 in
     let level = fits .levels (L .i) h in
     let top = fits .tops (L .i) h in
+    let count = count-max (leb (L .base + getD (a .t3 .lows) (L .i) 0) (L .peak)) in
     let peak = c .before .larger .ensures in
-    let low = c .before .before .before .lesser .ensures in
-    let held = c .before .before .before .before .bar .ensures in (
+    let low = c .before .before .before .lesser .ensures in (
       omega arith,
       omega arith,
       omega arith,
       omega arith,
-      rw (peak, low, held) (gone-more (a .rise) (a .self) (laneOf (a .t3)) (L .i) (L .base) (L .peak) (L .low) (L .inv .4) (omega arith)),
+      omega arith,
+      rw (peak, low) (gone-more (a .rise) (a .self) (laneOf (a .t3)) (L .i) (L .base) (L .peak) (L .low) (L .late) (L .inv .5) (omega arith)),
     )
 
 add-level : tie.Need-add-level Inv-loop μ-loop
@@ -125,19 +140,22 @@ add-less c = search needs
 less-requires : tie.Need-less-requires Inv-loop μ-loop
 less-requires c κs = search needs
 
-add-t24 : tie.Need-add-t24 Inv-loop μ-loop
-add-t24 c = search needs
+add-t15 : tie.Need-add-t15 Inv-loop μ-loop
+add-t15 c = search needs
 
 add-t27 : tie.Need-add-t27 Inv-loop μ-loop
 add-t27 c = search needs
 
+bar-requires : tie.Need-bar-requires Inv-loop μ-loop
+bar-requires c κs = search needs
+
 returns : tie.Need-returns Inv-loop μ-loop
 returns c =
-    let L = c .before .before .before .loop in
-    let a = c .before .before .before .before .before .before .args in
+    let L = c .before .before .before .before .loop in
+    let a = c .before .before .before .before .before .before .before .args in
     let all : L .i ≡ 8 = omega arith in
-    let g : Gone (a .rise) (a .self) (laneOf (a .t3)) 8 (L .base) (L .peak) (L .low) = rw all at (L .inv .4) in
-    rw (c .before .less .ensures, g .level-is, g .peak-is, g .low-is) refl
+    let g : Gone (a .rise) (a .self) (laneOf (a .t3)) 8 (L .base) (L .peak) (L .low) (L .late) = rw all at (L .inv .5) in
+    rw (c .before .before .less .ensures, c .bar .ensures, g .level-is, g .peak-is, g .low-is) refl
 
 pub over-spec : {M : Type 1} → statement M
 over-spec =
@@ -146,6 +164,7 @@ over-spec =
     Inv-loop
     μ-loop
     add-begin
+    cast-begin
     sub-base
     sub-peak
     loop-holds
@@ -153,8 +172,9 @@ over-spec =
     element-copy-out-there
     cast-there
     add-there
-    bar-requires
     lesser-requires
+    cast-late
+    add-late
     mul-larger
     element-copy-out-larger
     cast-larger
@@ -172,6 +192,7 @@ over-spec =
     cast-less
     add-less
     less-requires
-    add-t24
+    add-t15
     add-t27
+    bar-requires
     returns)

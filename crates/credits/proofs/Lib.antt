@@ -1,0 +1,4 @@
+pub mod Range
+pub mod Charge
+pub mod Ways
+pub mod Short

@@ -1,0 +1,4 @@
+pub mod Which
+pub mod Short
+pub mod Range
+pub mod Way

@@ -1,0 +1,4 @@
+pub mod Select
+pub mod Pick
+pub mod Events
+pub mod Frames
