@@ -1,8 +1,8 @@
 /*
  * The range test of a queue in C with the library's own algorithm; part of plain_range.c where it is compiled with SAME_ALGORITHM. A queue without frames is looked at
  * for words that are not 0. In another these are counted over all slots, in one loop of fixed length, and frames are tested where they are held. No frame is 0: where
- * as many words are not 0 as frames are held, every other slot is empty. What C does here that the library does not: it joins words before it compares them with 0,
- * and looks at one run of slots where the frames do not go round the ring.
+ * as many words are not 0 as frames are held, every other slot is empty. What C does here that the library's text does not: it joins words before it compares them with 0,
+ * as the compiler does of itself for the library, and looks at one run of slots where the frames do not go round the ring.
  */
 #ifndef SAME_RANGE_H
 #define SAME_RANGE_H

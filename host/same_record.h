@@ -1,7 +1,8 @@
 /*
  * Records in C with the library's own algorithm; part of plain_record.c where it is compiled with SAME_ALGORITHM. Whole blocks of 64 events are summed without a
  * branch on what the events hold: eight parts of eight events each, every part from a neutral start, so that they run beside each other in the lanes of
- * vectors, and then the parts one behind the other. A block with a fault, and all behind it, is left to the loop over single events.
+ * vectors, and then the parts one behind the other. A block with a fault, and all behind it, is left to the loop over single events. A low that comes too late is 0 at once
+ * here, where the library counts such lows and asks at the end.
  */
 #ifndef SAME_RECORD_H
 #define SAME_RECORD_H
