@@ -1,12 +1,14 @@
 /*
- * Stations with one thing changed, the library beside plain C: each byte set to each value, and at each place each number at
- * which some range ends. Every call answers and leaves the same on both sides; a refused call leaves every byte as it was.
+ * Stations with one thing changed, the library beside plain C: each byte set to each value, at each place each number at which
+ * some range ends, and the ends of the stored numbers' range, which goes by lpCoef. Every call answers and leaves the same on
+ * both sides; a refused call leaves every byte as it was.
  */
 #include <stdio.h>
 #include <stdlib.h>
 #include <string.h>
 
 #include "calls.h"
+#include "plain_layout.h"
 
 enum { N = RPR_STATION_LENGTH, CALLS = 12 };
 
@@ -91,6 +93,37 @@ static void each_end(uint8_t *station, const uint32_t *words) {
     }
 }
 
+/* A station with one stored number changed. Every call, and the one for the range says whether the number is in it. */
+static void try_stored(const uint8_t *station, unsigned rate, int in_range) {
+    tried++;
+    if ((compare(station, 0, stored_at(rate)) == 0) != in_range) {
+        printf("stored number %u, lpCoef %u: %llu is %s\n", rate, setting(station, LP_COEF), (unsigned long long)stored(station, rate),
+               in_range ? "in range, and refused" : "out of range, and not refused");
+        exit(1);
+    }
+    good += (unsigned)in_range;
+    for (int call = 1; call <= CALLS; call++) compare(station, call, stored_at(rate));
+}
+
+/* By each lpCoef, each stored number at the ends of its range, beside a counter of 0 and of the most: the last that shows a rate one below
+ * the largest, the first and the last that show the largest, the first that shows one more, and such as are too large in their high bits. */
+static void each_stored(const uint8_t *station) {
+    for (unsigned at = 0; at < 2 * RATES; at++) {
+        for (uint32_t lp_coef = 16; lp_coef <= 512; lp_coef *= 2) {
+            uint64_t end = (uint64_t)lp_coef << 31;
+            const uint64_t numbers[] = {end - lp_coef - 1, end - lp_coef, end - 1, end, 2 * end, UINT64_C(1) << 63, UINT64_MAX};
+            uint8_t changed[N];
+            memcpy(changed, station, N);
+            put(changed + SETTINGS + 4 * LP_COEF, lp_coef);
+            set_fair(changed, at % RATES, at < RATES ? 0 : MOST_RATE);
+            for (size_t i = 0; i < sizeof numbers / sizeof numbers[0]; i++) {
+                set_stored(changed, at % RATES, numbers[i]);
+                try_stored(changed, at % RATES, numbers[i] < end);
+            }
+        }
+    }
+}
+
 /* Stations to change, which have heard of congestion. Busy: credit, and frames in each queue and the stage. Staged: in the secondary
  * queue and the stage alone, whose turn comes last. Short: a free stage and too little credit, A, B, C and D each lacking something else. */
 enum state { BUSY, STAGED, SHORT };
@@ -131,6 +164,7 @@ int main(void) {
         live(station, settings, stations[i].state);
         each_byte(station);
         each_end(station, settings);
+        each_stored(station);
     }
     printf("%lu stations, %lu of them in range, %lu offers short of credit: the library and plain C do the same\n", tried, good, lacking);
     return lacking > 0 ? 0 : 1;

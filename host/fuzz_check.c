@@ -213,6 +213,17 @@ static void check_pair(const struct request *r, uint64_t answer, unsigned number
     if ((answer ^ back) != (number == 0 ? (RPR_LEFT ^ RPR_RIGHT) << 8 : 0)) fail(r, answer, "the two ends of a pair part");
 }
 
+/* An interval moves the rates shown towards their counters and not past them. A stored number stands exactly where the two are the same. */
+static void check_smoothed(const struct request *r, uint64_t answer) {
+    if (r->call != call_age || answer != 0) return;
+    const uint8_t *before = r->slices[0].bytes, *after = place(0, &r->slices[0]);
+    for (unsigned rate = 0; rate < RATES; rate++) {
+        uint64_t from = shown(before, rate), to = fair(before, rate), now = shown(after, rate);
+        if ((stored(before, rate) == stored(after, rate)) != (from == to)) fail(r, answer, "a stored number stands or moves where it must not");
+        if (now < least(from, to) || (now > from && now > to)) fail(r, answer, "a smoothed rate moves past its counter");
+    }
+}
+
 /* A frame that shapers turned down: with the bytes missing added to the credits it is not, and with one less it still is. B's own
  * share, of which the answer does not speak, is taken away. */
 static void check_short(const struct request *r, uint64_t answer) {
@@ -257,6 +268,7 @@ unsigned make(struct request *r) {
     for (int i = 0; i < PARAMETERS; i++)
         if (signatures[r->call].parameters[i].holds == HOLDS_station) check_station(r, answer, i);
     check_pair(r, answer, number);
+    check_smoothed(r, answer);
     check_short(r, answer);
     check_plain(r, answer);
     tally[r->call][number]++;

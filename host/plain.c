@@ -221,17 +221,17 @@ uint64_t plain_age(void *lent, size_t length) {
     uint8_t *station = lent;
     uint64_t number = refused(station, length);
     if (number != 0) return number;
-    uint64_t lp = setting(station, LP_COEF), age = setting(station, AGE_COEF), unreserved = setting(station, UNRESERVED);
-    for (unsigned i = 0; i < 4; i++) set_fair(station, SMOOTHED + i, ((lp - 1) * fair(station, SMOOTHED + i) + fair(station, i)) / lp);
+    uint64_t age = setting(station, AGE_COEF), unreserved = setting(station, UNRESERVED);
+    for (unsigned i = 0; i < RATES; i++) set_stored(station, i, stored(station, i) - shown(station, i) + fair(station, i));
     int locally = get(station + SECONDARY + HELD) > setting(station, LOW_THRESHOLD);
-    uint64_t local = locally ? fair(station, SMOOTHED) : unreserved;
+    uint64_t local = locally ? shown(station, ADD_RATE) : unreserved;
     uint64_t received = (uint64_t)fair(station, RECEIVED_RATE) * setting(station, WEIGHT) * setting(station, RATE_UNIT);
     set_fair(station, LOCALLY, (uint64_t)locally);
     set_fair(station, LOCAL_FAIR_RATE, local);
     set_fair(station, ALLOWED_RATE, locally ? least(local, unreserved) : ramped(station, ALLOWED_RATE));
     set_fair(station, ALLOWED_RATE_CONGESTED,
              fair(station, DOWNSTREAM) ? least(unreserved, received) : ramped(station, ALLOWED_RATE_CONGESTED));
-    for (unsigned i = 0; i < 4; i++) set_fair(station, i, fair(station, i) * (age - 1) / age);
+    for (unsigned i = 0; i < RATES; i++) set_fair(station, i, fair(station, i) * (age - 1) / age);
     set_fair(station, OWN_RATE, own_rate(station, local));
     return 0;
 }
@@ -305,6 +305,8 @@ uint64_t plain_show(const void *lent, size_t length, void *room, size_t room_len
     }
     put(reading + 44, get(station + STAGE) != 0);
     put(reading + 48, size_of(get(station + STAGE)));
-    memcpy(reading + 52, station + FAIR, 4 * FAIR_WORDS);
+    memcpy(reading + 52, station + FAIR, 4 * RATES);
+    for (unsigned i = 0; i < RATES; i++) put(reading + 68 + 4 * i, (uint32_t)shown(station, i));
+    memcpy(reading + 84, station + FAIR + 4 * LOCAL_FAIR_RATE, 4 * (FAIR_WORDS - LOCAL_FAIR_RATE));
     return 0;
 }

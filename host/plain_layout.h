@@ -1,12 +1,12 @@
-/* The bytes of a station, for plain C and what the fuzz target changes of credits: where things stand, and how words are read and written. */
+/* The bytes of a station, for plain C and what edges and the fuzz target change of them: where things stand, and how numbers are read and written. */
 #ifndef PLAIN_LAYOUT_H
 #define PLAIN_LAYOUT_H
 
 #include <stdint.h>
 #include <string.h>
 
-/* Where things stand in the 1,770 bytes of a station. */
-enum { CREDITS = 0, CONTROL = 20, PRIMARY = 538, SECONDARY = 1056, STAGE = 1574, FAIR = 1578, SETTINGS = 1650, STATION_LENGTH = 1770 };
+/* Where things stand in the 1,786 bytes of a station. */
+enum { CREDITS = 0, CONTROL = 20, PRIMARY = 538, SECONDARY = 1056, STAGE = 1574, FAIR = 1578, SETTINGS = 1666, STATION_LENGTH = 1786 };
 
 /* A queue: 128 slots of 4 bytes, the bytes held, the first slot's number and the number of frames. */
 enum { SLOTS = 128, HELD = 512, HEAD = 516, COUNT = 517 };
@@ -16,9 +16,9 @@ enum { FRAME_LENGTH = 12, READING_LENGTH = 124, SETTINGS_LENGTH = 120 };
 /* The shapers, in the order of their credits and settings. */
 enum { M, A, B, C, D, SHAPERS };
 
-/* The words of the fairness state. */
+/* The words of the fairness state. The counters of the four rates come first, and then their stored numbers, two words each. */
 enum {
-    ADD_RATE, FW_RATE, ADD_RATE_CONGESTED, FW_RATE_CONGESTED, SMOOTHED, LOCAL_FAIR_RATE = SMOOTHED + 4, ALLOWED_RATE,
+    ADD_RATE, FW_RATE, ADD_RATE_CONGESTED, FW_RATE_CONGESTED, RATES, STORED = RATES, LOCAL_FAIR_RATE = STORED + 2 * RATES, ALLOWED_RATE,
     ALLOWED_RATE_CONGESTED, OWN_RATE, LOCALLY, DOWNSTREAM, RECEIVED_TTL, RECEIVED_HIGH, RECEIVED_LOW, RECEIVED_RATE, FAIR_WORDS
 };
 
@@ -30,7 +30,7 @@ enum {
 
 enum { MOST_RATE = 2147483647, FULL_RATE = 65535, LEAST_TTL = 193, MOST_TTL = 255 };
 
-/* ---- words in bytes ---- */
+/* ---- numbers in bytes ---- */
 
 static inline uint32_t get(const uint8_t *p) {
     uint32_t v;
@@ -44,6 +44,17 @@ static inline uint32_t word(const uint8_t *words, unsigned at) { return get(word
 static inline uint32_t setting(const uint8_t *station, unsigned at) { return word(station + SETTINGS, at); }
 static inline uint32_t fair(const uint8_t *station, unsigned at) { return word(station + FAIR, at); }
 static inline void set_fair(uint8_t *station, unsigned at, uint64_t v) { put(station + FAIR + 4 * at, (uint32_t)v); }
+
+/* The stored number of a rate. Over lpCoef, rounded down, it is the smoothed rate that is shown. */
+static inline unsigned stored_at(unsigned rate) { return FAIR + 4 * STORED + 8 * rate; }
+static inline uint64_t stored(const uint8_t *station, unsigned rate) {
+    uint64_t v;
+    memcpy(&v, station + stored_at(rate), sizeof v);
+    return v;
+}
+
+static inline void set_stored(uint8_t *station, unsigned rate, uint64_t v) { memcpy(station + stored_at(rate), &v, sizeof v); }
+static inline uint64_t shown(const uint8_t *station, unsigned rate) { return stored(station, rate) / setting(station, LP_COEF); }
 
 static inline uint64_t least(uint64_t a, uint64_t b) { return a < b ? a : b; }
 

@@ -72,9 +72,10 @@ static int free_ok(const uint8_t *queue, uint32_t from, uint32_t to) {
 static int fair_ok(const uint8_t *station) {
     const uint8_t *f = station + FAIR;
     uint32_t unreserved = setting(station, UNRESERVED);
-    for (unsigned i = 0; i <= LOCAL_FAIR_RATE; i++)
-        if (word(f, i) > MOST_RATE) return 0;
-    if (word(f, ALLOWED_RATE) > unreserved || word(f, ALLOWED_RATE_CONGESTED) > unreserved) return 0;
+    uint64_t end = setting(station, LP_COEF) * (UINT64_C(1) + MOST_RATE); /* the first stored number that shows more than MOST_RATE */
+    for (unsigned i = 0; i < RATES; i++)
+        if (word(f, i) > MOST_RATE || stored(station, i) >= end) return 0;
+    if (word(f, LOCAL_FAIR_RATE) > MOST_RATE || word(f, ALLOWED_RATE) > unreserved || word(f, ALLOWED_RATE_CONGESTED) > unreserved) return 0;
     if (word(f, OWN_RATE) >= FULL_RATE || word(f, LOCALLY) > 1 || word(f, DOWNSTREAM) > 1) return 0;
     return within(f, RECEIVED_TTL, LEAST_TTL, MOST_TTL) && word(f, RECEIVED_HIGH) <= 65535 && word(f, RECEIVED_RATE) < FULL_RATE;
 }

@@ -1,7 +1,7 @@
 /*
  * The control software of a ring station (IEEE 802.17), as a C host sees it.
  *
- * host/example.c is the page to start from. What each call does is document 01; this header says how it is called.
+ * host/example.c is the page to start from. Documents 01 and 02 say what each call does, this header how it is called.
  *
  * Numbers.   Every number parameter is a uint64_t, so that no value is cut on its way in: a size of 65,600 is refused,
  *            not taken for 64.
@@ -26,8 +26,9 @@
 #include <stddef.h>
 #include <stdint.h>
 
-/* The version of this interface. The first number grows where a host has to change what it calls or lends. */
-#define RPR_VERSION "1.3"
+/* The version of this interface. The first number grows where a host has to change what it calls or lends: from 2.0 on
+ * a station is longer. One of version 1 is refused with 2: compile the host anew, and start its stations anew. */
+#define RPR_VERSION "2.0"
 
 #ifdef __cplusplus
 extern "C" {
@@ -47,8 +48,7 @@ extern "C" {
 
 /* ---- version ---- */
 
-/* The version of the library that is linked: 256 times the first number of RPR_VERSION, and the second. Nothing is
- * refused. */
+/* The version of the library that is linked: 256 times the first number and the second. Nothing is refused. */
 RPR_ANSWERS uint64_t rpr_version(void);
 
 /* ---- refusals ---- */
@@ -125,7 +125,7 @@ enum rpr_origin {
 RPR_HOLDS(sizeof(size_t) == sizeof(uint64_t)); /* the library is for 64-bit machines */
 
 enum {
-    RPR_STATION_LENGTH = 1770,     /* a station; rpr_station_length() answers the same of the library that is linked */
+    RPR_STATION_LENGTH = 1786,     /* a station; rpr_station_length() answers the same of the library that is linked */
     RPR_SETTINGS_LENGTH = 120,     /* struct rpr_settings */
     RPR_READING_LENGTH = 124,      /* struct rpr_reading */
     RPR_FRAME_LENGTH = 12,         /* a fairness frame */
@@ -253,7 +253,7 @@ struct rpr_reading {
     struct rpr_held secondary;
     struct rpr_held stage;
     struct rpr_rates counted;        /* addRate .. fwRateCongested: counted as sent, faded at each interval */
-    struct rpr_rates smoothed;       /* lpAddRate .. lpFwRateCongested */
+    struct rpr_rates smoothed;       /* lpAddRate .. lpFwRateCongested, the rates shown: they reach a steady counter */
     uint32_t local_fair_rate;        /* lpAddRate if locally congested, else unreserved_rate */
     uint32_t allowed_rate;           /* what the station may add */
     uint32_t allowed_rate_congested; /* what it may add beyond the congested station */

@@ -1,4 +1,4 @@
-/* Calls what a station has for fairness, as a host would, and says what differs from document 01. */
+/* Calls what a station has for fairness, as a host would, and says what differs from documents 01 and 02. */
 #include "smoke_station.h"
 
 /* A station that has sent two eligible frames, 60 and 64 bytes. C has 236 - 124 left, D 248 - 124. */
@@ -50,7 +50,17 @@ static void beyond(void) {
     rates("forwarded, and beyond", show().counted, (struct rpr_rates){148, 61, 39, 30});
 }
 
-/* Goes on from busy. lpAddRate becomes floor(124 / 16) = 7, then floor((15 x 7 + 93) / 16) = 12. */
+/* Goes on from beyond, with a stored number of 124 for lpAddRate, 0 for the others. Over 16, rounded down,
+ * each is the rate shown. */
+static void smoothed(void) {
+    age();
+    rates("124 - 7 + 148, 61, 39, 30", show().smoothed, (struct rpr_rates){16, 3, 2, 1});
+    rates("aged", show().counted, (struct rpr_rates){111, 45, 29, 22});
+    age();
+    rates("265 - 16 + 111, 61 - 3 + 45, 39 - 2 + 29, 30 - 1 + 22", show().smoothed, (struct rpr_rates){22, 6, 4, 3});
+}
+
+/* Goes on from busy. lpAddRate is stored as 124, which shows 7, then as 124 - 7 + 93 = 210, which shows 13. */
 static void local(void) {
     transit("B", B, 64, 5, 0, 0);
     transit("C", C, 34, 5, 1, 0);
@@ -60,9 +70,9 @@ static void local(void) {
     age();
     struct rpr_reading r = show();
     expect("114 bytes are", r.locally_congested, 1);
-    expect("localFairRate: lpAddRate", r.local_fair_rate, 12);
-    expect("allowedRate", r.allowed_rate, 12);
-    expect("own rate: floor(12 / 3)", r.own_rate, 4);
+    expect("localFairRate: lpAddRate", r.local_fair_rate, 13);
+    expect("allowedRate", r.allowed_rate, 13);
+    expect("own rate: floor(13 / 3)", r.own_rate, 4);
     rates("aged: floor(93 x 3 / 4)", r.counted, (struct rpr_rates){69, 0, 0, 0});
     tells("own rate", BYTES(255, 0xa0, 2, 0, 0x5e, 0, 0, 1, 0, 0, 0, 4));
     hear("as much as the own rate", BYTES(254, 0xa0, 2, 0, 0x5e, 0, 0, 2, 0, 0, 0, 4), 0);
@@ -76,7 +86,7 @@ static void local(void) {
 /* Goes on from local. Other bits of a frame are not looked at; allowed rates rise by a part in 64 of what lacks. */
 static void cleared(void) {
     age();
-    expect("lpAddRate: floor((15 x 12 + 69) / 16)", show().smoothed.add_rate, 15);
+    expect("lpAddRate: 210 - 13 + 69 = 266", show().smoothed.add_rate, 16);
     expect("allowedRateCongested: 1 x 3", show().allowed_rate_congested, 3);
     hear("FULL_RATE", BYTES(200, 0xef, 2, 0, 0x5e, 0, 0, 2, 0x1f, 0xff, 255, 255), 0);
     struct rpr_reading r = show();
@@ -86,6 +96,50 @@ static void cleared(void) {
     expect("received rate", r.received_rate, 0);
     age();
     expect("3 + floor(9,997 / 64)", show().allowed_rate_congested, 159);
+}
+
+/* An interval in which so many bytes are added, in frames of at most 64, with credit for each. The lpAddRate shown. */
+static uint32_t interval(uint32_t bytes) {
+    while (bytes > 0) {
+        uint32_t size = bytes < 64 ? bytes : 64;
+        tick(0, 0, 1, 0);
+        tick(0, 0, 1, 0);
+        client("a steady source", C, size, 20, MARKED);
+        selects("a steady source", RPR_FROM_STAGE, C, 20, 1, size);
+        bytes -= size;
+    }
+    age();
+    return show().smoothed.add_rate;
+}
+
+/* A steady rate that is less than 2^6 away from the rate shown: this moves towards it and not past it, comes to it within
+ * 6 x 64 intervals, and stays. */
+static void arrives(uint32_t rate) {
+    uint32_t last = show().smoothed.add_rate;
+    for (int i = 0; i < 6 * 64; i++) {
+        uint32_t now = interval(rate);
+        expect("towards the rate", last < rate ? now >= last && now <= rate : now <= last && now >= rate, 1);
+        last = now;
+    }
+    for (int i = 0; i < 64; i++) expect("it stays", interval(rate), rate);
+}
+
+/* The operators' case, with document 02's P7. With ageCoef 1 a counter is 0 after each interval: what is added is the
+ * rate. Over 64, rounded down, the stored number is the rate shown. Towards 100 it rises by 1 each time from 6,336, which
+ * shows 99, to 6,400; towards 40 it falls by 1 each time from 2,687, which shows 41, to 2,623. */
+static void steady(void) {
+    struct rpr_settings s = plain;
+    s.age_coef = 1;
+    s.lp_coef = 64;
+    start(&s);
+    expect("37 frames of 64 bytes: 2,368", interval(2368), 37);
+    expect("2,368 - 37 + 100 = 2,431", interval(100), 37);
+    expect("2,431 - 37 + 100 = 2,494", interval(100), 38);
+    arrives(100);
+    expect("6,400 - 100 + 99 = 6,399", interval(99), 99);
+    arrives(40);
+    expect("2,623 - 40 + 41 = 2,624", interval(41), 41);
+    arrives(0);
 }
 
 static void wrong_frames(void) {
@@ -125,10 +179,12 @@ int main(void) {
     busy();
     downstream();
     beyond();
+    smoothed();
     busy();
     local();
     cleared();
+    steady();
     wrong_frames();
     neighbours();
-    return told("fairness: the library answers as document 01 says");
+    return told("fairness: the library answers as documents 01 and 02 say");
 }

@@ -18,7 +18,7 @@ static void fresh(void) {
     want.local_fair_rate = want.allowed_rate = want.allowed_rate_congested = 10000;
     want.own_rate = 3333;
     want.received_ttl = 255;
-    expect("the version", rpr_version(), 256 * 1 + 3);
+    expect("the version", rpr_version(), 256 * 2 + 0);
     expect("the station's length", rpr_station_length(), RPR_STATION_LENGTH);
     start(&plain);
     struct rpr_reading got = show();
@@ -79,8 +79,9 @@ static void all_refuse(const char *what, uint64_t want) {
     answered(what, rpr_show(LENT(STATION), LENT(ROOM)), ROOM, want);
 }
 
+/* Of version 1 a station has 1,770 bytes. */
 static void lengths(void) {
-    static const size_t others[] = {0, 1, RPR_STATION_LENGTH - 1, RPR_STATION_LENGTH + 1};
+    static const size_t others[] = {0, 1, 1770, RPR_STATION_LENGTH - 1, RPR_STATION_LENGTH + 1};
     for (size_t i = 0; i < sizeof others / sizeof others[0]; i++) {
         lend(SETTINGS, &plain, sizeof plain);
         lend_filled(STATION, 0, others[i]);

@@ -1,5 +1,5 @@
 -- The aging interval, row by row, and its range: each row follows from the definition by whether its test holds. Assumes nothing.
-use Prim.Native.Nat.{ℕ, _+_, _-_, _*_, _/_, _≤_, _<_, min}
+use Prim.Native.Nat.{ℕ, _+_, _-_, _*_, _/_, _^_, _≤_, _<_, min}
 use mathlib.Core.Bool.{true, false}
 use mathlib.Core.Logic.{_↔_}
 use mathlib.Core.Path.{_≡_, refl, ap, _∙_}
@@ -10,16 +10,18 @@ use Rattle.decide.proofs.Tests.{failing}
 use Rattle.decide.proofs.Cases.{of-each}
 use Rattle.rates.specs.Rates.{shownOf, rampedOf, allowanceOf}
 use Rattle.rates.proofs.Formulas.{smoothed-is, shown-is, aged-is, ramped-is, allowance-is, own-is}
-use Rattle.rates.proofs.Bounds.{shown-within, smoothed-within, aged-within, ramped-within, allowance-within, own-within}
+use Rattle.rates.proofs.Bounds.{aged-within, ramped-within, allowance-within, own-within}
+use Rattle.rates.proofs.Steady.{shown-range, shown-within}
 use Rattle.settings.specs.declared.Fairness.{Fairness}
 use Rattle.settings.specs.declared.Settings.{Settings}
 use Rattle.settings.specs.Range.{SettingsOk}
 use Rattle.fair.specs.declared.Four.{Four}
+use Rattle.fair.specs.declared.Stored.{Stored}
 use Rattle.fair.specs.declared.Decided.{Decided}
 use Rattle.fair.specs.declared.Fair.{Fair}
 use Rattle.fair.specs.declared.Adjusted.{Adjusted}
-use Rattle.fair.specs.Range.{FairOk}
-use Rattle.fair.specs.Age.{localTest, adjustOf, allowedOf, allowedcOf, newSmoothed, newAdjusted, ageOf}
+use Rattle.fair.specs.Range.{FourOk, StoredOk, FairOk}
+use Rattle.fair.specs.Age.{SumsFit, smoothOf, shownFour, localTest, adjustOf, allowedOf, allowedcOf, newSmoothed, newAdjusted, ageOf}
 
 -- ---- the cases of each definition
 
@@ -27,8 +29,8 @@ use Rattle.fair.specs.Age.{localTest, adjustOf, allowedOf, allowedcOf, n
 pub local-exactly : (s : Settings) (held : ℕ) → Holds (localTest s held) ↔ (s .queues .threshold < held)
 local-exactly s held = (λ h. h, λ h. h)
 
-module _ (s : Settings) (old : Decided) (lp : Four) (held : ℕ) where
-  pub adjust-congested : test (localTest s held) ≡ true → adjustOf s old lp held ≡ record { congested = 1; local = shownOf (lp .add) }
+module _ (s : Settings) (old : Decided) (lp : Stored) (held : ℕ) where
+  pub adjust-congested : test (localTest s held) ≡ true → adjustOf s old lp held ≡ record { congested = 1; local = shownOf (s .fairness .lp) (lp .add) }
   unfolding adjustOf
   adjust-congested e = rw e
 
@@ -54,18 +56,22 @@ module _ (f : Fair) (g : Fairness) where
   unfolding allowedcOf test
   allowedc-ramped n = rw (ne-eqb (f .received .downstream) 1 n)
 
+-- and the rate shown is floor(s / lpCoef), of each
+pub shown-four : (lpCoef : ℕ) (s : Stored) → shownFour lpCoef s ≡ record { add = s .add / lpCoef; fw = s .fw / lpCoef; addc = s .addc / lpCoef; fwc = s .fwc / lpCoef }
+shown-four n s = λ i. record { add = shown-is n (s .add) i; fw = shown-is n (s .fw) i; addc = shown-is n (s .addc) i; fwc = shown-is n (s .fwc) i }
+
 -- ---- the interval, one law for each sentence
 
 module _ (f : Fair) (s : Settings) (held : ℕ) where
-  -- Each of the four smoothed rates becomes floor(((lpCoef−1) × lp + rate) / lpCoef), of the counters as they are before they age.
+  -- Each stored number s becomes s − floor(s / lpCoef) + rate, of the counters as they are before they age.
   pub interval-smooths :
       let n = s .fairness .lp in
       ageOf f s held .smoothed
       ≡ record {
-        add = ((n - 1) * f .smoothed .add + f .counters .add) / n;
-        fw = ((n - 1) * f .smoothed .fw + f .counters .fw) / n;
-        addc = ((n - 1) * f .smoothed .addc + f .counters .addc) / n;
-        fwc = ((n - 1) * f .smoothed .fwc + f .counters .fwc) / n;
+        add = f .smoothed .add - f .smoothed .add / n + f .counters .add;
+        fw = f .smoothed .fw - f .smoothed .fw / n + f .counters .fw;
+        addc = f .smoothed .addc - f .smoothed .addc / n + f .counters .addc;
+        fwc = f .smoothed .fwc - f .smoothed .fwc / n + f .counters .fwc;
       }
   interval-smooths = λ i. record {
     add = smoothed-is (s .fairness .lp) (f .smoothed .add) (f .counters .add) i;
@@ -101,15 +107,15 @@ module _ (f : Fair) (s : Settings) (held : ℕ) where
 
   -- Locally congested: secondary bytes > low threshold.
   module _ (full : s .queues .threshold < held) where
-    at : newAdjusted f s held ≡ record { congested = 1; local = shownOf (newSmoothed f s .add) }
+    at : newAdjusted f s held ≡ record { congested = 1; local = shownOf (s .fairness .lp) (newSmoothed f s .add) }
     at = adjust-congested s (f .decided) (newSmoothed f s) held (passes (localTest s held) (local-exactly s held .1 full))
 
     pub full-congested : ageOf f s held .decided .congested ≡ 1
     full-congested = ap (λ (a : Adjusted). a .congested) at
 
-    -- localFairRate: lpAddRate if locally congested
-    pub full-local : ageOf f s held .decided .local ≡ ageOf f s held .smoothed .add
-    full-local = ap (λ (a : Adjusted). a .local) at ∙ shown-is (newSmoothed f s .add)
+    -- localFairRate: lpAddRate, as it is shown, if locally congested
+    pub full-local : ageOf f s held .decided .local ≡ ageOf f s held .smoothed .add / s .fairness .lp
+    full-local = ap (λ (a : Adjusted). a .local) at ∙ shown-is (s .fairness .lp) (newSmoothed f s .add)
 
     -- allowedRate: the smaller of localFairRate and unreservedRate if locally congested
     pub full-allowed : ageOf f s held .decided .allowed ≡ min (ageOf f s held .decided .local) (s .fairness .unreserved)
@@ -145,12 +151,12 @@ module _ (f : Fair) (s : Settings) (held : ℕ) where
 
 -- ---- its range
 
-adjusted-within : (s : Settings) (old : Decided) (lp : Four) (held most : ℕ) → lp .add ≤ most → s .fairness .unreserved ≤ most →
+adjusted-within : (s : Settings) (old : Decided) (lp : Stored) (held most : ℕ) → shownOf (s .fairness .lp) (lp .add) ≤ most → s .fairness .unreserved ≤ most →
     (adjustOf s old lp held .congested ≤ 1) × (adjustOf s old lp held .local ≤ most)
 unfolding adjustOf
 adjusted-within s old lp held most h u =
     of-each (λ (a : Adjusted). (a .congested ≤ 1) × (a .local ≤ most)) (test (localTest s held)) _ _
-    (λ e. omega (arith, shown-within (lp .add)))
+    (λ e. omega arith)
     (λ e. omega arith)
 
 allowed-within : (old : ℕ) (g : Fairness) (a : Adjusted) → old ≤ g .unreserved → allowedOf old g a ≤ g .unreserved
@@ -167,15 +173,37 @@ allowedc-within f g h =
     (λ e. allowance-within (f .received .rate) (g .weight) (g .unit) (g .unreserved))
     (λ e. ramped-within (f .decided .allowedc) (g .unreserved) (g .ramp) h)
 
+-- the rates shown stay in their range, since each is at most the larger of the rate shown before and of the counter
+pub smooth-in-range : (lpCoef : ℕ) (s : Stored) (rate : Four) → StoredOk lpCoef s → FourOk rate → StoredOk lpCoef (smoothOf s lpCoef rate)
+smooth-in-range c s rate ok counted =
+    record {
+      add-most = omega (arith, shown-within c (s .add) (rate .add), ok .add-most, counted .add-most);
+      fw-most = omega (arith, shown-within c (s .fw) (rate .fw), ok .fw-most, counted .fw-most);
+      addc-most = omega (arith, shown-within c (s .addc) (rate .addc), ok .addc-most, counted .addc-most);
+      fwc-most = omega (arith, shown-within c (s .fwc) (rate .fwc), ok .fwc-most, counted .fwc-most);
+    }
+
+-- a stored number in range has 40 bits,
+pub stored-below : (lpCoef s : ℕ) → 0 < lpCoef → lpCoef ≤ 512 → shownOf lpCoef s ≤ 2147483647 → s < 2 ^ 40
+stored-below c s p most ok = omega (arith, shown-range c s p .0 ok)
+
+-- so no sum passes 64 bits
+pub sums-fit : (lpCoef : ℕ) (s : Stored) (rate : Four) → 0 < lpCoef → lpCoef ≤ 512 → StoredOk lpCoef s → FourOk rate → SumsFit s rate
+sums-fit c s rate p most ok counted =
+    let below : (x : ℕ) → shownOf c x ≤ 2147483647 → x < 2 ^ 40 = λ x. stored-below c x p most in (
+      omega (arith, below (s .add) (ok .add-most), counted .add-most),
+      omega (arith, below (s .fw) (ok .fw-most), counted .fw-most),
+      omega (arith, below (s .addc) (ok .addc-most), counted .addc-most),
+      omega (arith, below (s .fwc) (ok .fwc-most), counted .fwc-most),
+    )
+
 -- an interval leaves a state in range
 pub age-in-range : (f : Fair) (s : Settings) (held : ℕ) → SettingsOk s → FairOk s f → FairOk s (ageOf f s held)
 age-in-range f s held settings ok =
     let g = s .fairness in
-    let counters = ok .of-counters in
-    let smoothed = ok .of-smoothed in
     let lp = newSmoothed f s in
-    let add = smoothed-within (g .lp) (f .smoothed .add) (f .counters .add) 2147483647 (smoothed .add-most) (counters .add-most) in
-    let adjusted = adjusted-within s (f .decided) lp held 2147483647 add (settings .of-fairness .unreserved-most) in
+    let smoothed = smooth-in-range (g .lp) (f .smoothed) (f .counters) (ok .of-smoothed) (ok .of-counters) in
+    let adjusted = adjusted-within s (f .decided) lp held 2147483647 (smoothed .add-most) (settings .of-fairness .unreserved-most) in
     record {
       of-counters =
           record {
@@ -184,13 +212,7 @@ age-in-range f s held settings ok =
             addc-most = omega (arith, aged-within (f .counters .addc) (g .age));
             fwc-most = omega (arith, aged-within (f .counters .fwc) (g .age));
           };
-      of-smoothed =
-          record {
-            add-most = add;
-            fw-most = smoothed-within (g .lp) (f .smoothed .fw) (f .counters .fw) 2147483647 (smoothed .fw-most) (counters .fw-most);
-            addc-most = smoothed-within (g .lp) (f .smoothed .addc) (f .counters .addc) 2147483647 (smoothed .addc-most) (counters .addc-most);
-            fwc-most = smoothed-within (g .lp) (f .smoothed .fwc) (f .counters .fwc) 2147483647 (smoothed .fwc-most) (counters .fwc-most);
-          };
+      of-smoothed = smoothed;
       of-decided =
           record {
             own-most = own-within (newAdjusted f s held .local) (g .weight) (g .unit);

@@ -3,7 +3,7 @@ use Prim.Native.Nat.{ℕ}
 use mathlib.Core.Bool.{true, false}
 use mathlib.Core.Path.{_≡_, refl}
 use Rattle.decide.specs.Test.{test}
-use Rattle.rates.specs.Rates.{partOf, smoothedOf, shownOf, agedOf, rampedOf, allowanceOf, ownRateOf, countedOf}
+use Rattle.rates.specs.Rates.{partOf, smoothedOf, shownOf, shownOk, agedOf, rampedOf, allowanceOf, ownRateOf, countedOf}
 use Rattle.advert.specs.declared.Advert.{Advert}
 use Rattle.settings.specs.declared.Bucket.{Bucket}
 use Rattle.settings.specs.declared.Settings.{Settings}
@@ -28,11 +28,11 @@ settings =
       site = record {};
     }
 
--- congested both ways, as told by 00-03-00-00-00-04 with this ttl and rate 125, at this own rate
+-- congested both ways, as told by 00-03-00-00-00-04 with this ttl and rate 125, at this own rate; of lpAddRate 2,400 is stored
 abbrev pub state : (own ttl : ℕ) → Fair
 state own ttl = record {
   counters = record { add = 6400; fw = 100; addc = 936; fwc = 2147483600 };
-  smoothed = record { add = 37; fw = 0; addc = 0; fwc = 0 };
+  smoothed = record { add = 2400; fw = 0; addc = 0; fwc = 0 };
   decided = record { local = 136; allowed = 136; allowedc = 1000; own = own; congested = 1 };
   received = record { downstream = 1; ttl = ttl; high = 3; low = 4; rate = 125 };
 }
@@ -52,8 +52,11 @@ pub record Examples : Type 0 where
   -- a stage frame of 64 bytes, and a secondary one, whose twin stops at its largest
   pub stage : countOf settings (state 17 250) 4 1 7 64 .counters ≡ record { add = 6464; fw = 100; addc = 1000; fwc = 2147483600 }
   pub secondary : countOf settings (state 17 250) 3 1 7 64 .counters ≡ record { add = 6400; fw = 164; addc = 936; fwc = 2147483647 }
-  -- 1,001 bytes in the secondary queue: lpAddRate is floor((63 × 37 + 6,400) / 64) = 136, own rate floor(136 / 8) = 17
-  pub full-smoothed : ageOf (state 9 250) settings 1001 .smoothed .add ≡ 136
+  -- at most 2,147,483,647 is shown of 64 × 2,147,483,648 − 1, and one more of the next number
+  pub stored-last : test (shownOk 64 137438953471) ≡ true
+  pub stored-next : test (shownOk 64 137438953472) ≡ false
+  -- 1,001 bytes in the secondary queue: 2,400 shows 37, so it becomes 2,400 − 37 + 6,400; lpAddRate is floor(8,763 / 64) = 136, own rate floor(136 / 8) = 17
+  pub full-smoothed : ageOf (state 9 250) settings 1001 .smoothed .add ≡ 8763
   pub full-counter : ageOf (state 9 250) settings 1001 .counters .add ≡ 4800
   pub full-congested : ageOf (state 9 250) settings 1001 .decided .congested ≡ 1
   pub full-allowed : ageOf (state 9 250) settings 1001 .decided .allowed ≡ 136
@@ -85,6 +88,8 @@ examples =
       size-65 = refl;
       stage = refl;
       secondary = refl;
+      stored-last = refl;
+      stored-next = refl;
       full-smoothed = refl;
       full-counter = refl;
       full-congested = refl;

@@ -1,34 +1,48 @@
--- The aging interval, aggressive method, in the paper's order. Assumes nothing.
-use Prim.Native.Nat.{ℕ, min}
+-- The aging interval, aggressive method, in the paper's order; smoothing is that of document 02, A4. Assumes nothing.
+use Prim.Native.Nat.{ℕ, _+_, _^_, _<_, min}
 use mathlib.Core.Bool.{cond}
 use Rattle.decide.specs.Test.{Test, test, _<?_, _≡?_}
 use Rattle.rates.specs.Rates.{smoothedOf, shownOf, agedOf, rampedOf, allowanceOf, ownRateOf}
 use Rattle.settings.specs.declared.Fairness.{Fairness}
 use Rattle.settings.specs.declared.Settings.{Settings}
 use Rattle.fair.specs.declared.Four.{Four}
+use Rattle.fair.specs.declared.Stored.{Stored}
 use Rattle.fair.specs.declared.Decided.{Decided}
 use Rattle.fair.specs.declared.Fair.{Fair}
 use Rattle.fair.specs.declared.Adjusted.{Adjusted}
 
--- Each of the four smoothed rates becomes floor(((lpCoef−1) × lp + rate) / lpCoef).
-abbrev pub smoothOf : Four → ℕ → Four → Four
-smoothOf lp lpCoef rate = record {
-  add = smoothedOf lpCoef (lp .add) (rate .add);
-  fw = smoothedOf lpCoef (lp .fw) (rate .fw);
-  addc = smoothedOf lpCoef (lp .addc) (rate .addc);
-  fwc = smoothedOf lpCoef (lp .fwc) (rate .fwc);
+-- Each smoothed rate is kept times lpCoef, as a stored number s; at an interval s becomes s − floor(s / lpCoef) + rate,
+abbrev pub smoothOf : Stored → ℕ → Four → Stored
+smoothOf s lpCoef rate = record {
+  add = smoothedOf lpCoef (s .add) (rate .add);
+  fw = smoothedOf lpCoef (s .fw) (rate .fw);
+  addc = smoothedOf lpCoef (s .addc) (rate .addc);
+  fwc = smoothedOf lpCoef (s .fwc) (rate .fwc);
 }
+
+-- and the rate shown is floor(s / lpCoef).
+abbrev pub shownFour : ℕ → Stored → Four
+shownFour lpCoef s = record {
+  add = shownOf lpCoef (s .add);
+  fw = shownOf lpCoef (s .fw);
+  addc = shownOf lpCoef (s .addc);
+  fwc = shownOf lpCoef (s .fwc);
+}
+
+-- what is stored and what is added have room in 64 bits together
+abbrev pub SumsFit : Stored → Four → Type 0
+SumsFit s rate = (s .add + rate .add < 2 ^ 64) × (s .fw + rate .fw < 2 ^ 64) × (s .addc + rate .addc < 2 ^ 64) × (s .fwc + rate .fwc < 2 ^ 64)
 
 -- Locally congested: secondary bytes > low threshold.
 abbrev pub localTest : Settings → ℕ → Test
 localTest s held = s .queues .threshold <? held
 
--- Local congestion and localFairRate, from the new smoothed rates and the bytes in the secondary queue; what was decided before is given and not looked at.
--- localFairRate: lpAddRate if locally congested, else unreservedRate.
-unfoldable pub adjustOf : Settings → Decided → Four → ℕ → Adjusted
+-- Local congestion and localFairRate, from the new stored numbers and the bytes in the secondary queue; what was decided before is given and not looked at.
+-- localFairRate: lpAddRate, as it is shown, if locally congested, else unreservedRate.
+unfoldable pub adjustOf : Settings → Decided → Stored → ℕ → Adjusted
 adjustOf s old lp held =
     cond (test (localTest s held))
-    (record { congested = 1; local = shownOf (lp .add) })
+    (record { congested = 1; local = shownOf (s .fairness .lp) (lp .add) })
     (record { congested = 0; local = s .fairness .unreserved })
 
 -- allowedRate: the smaller of localFairRate and unreservedRate if locally congested, else allowedRate + floor((unreservedRate − allowedRate) / rampUp).
@@ -64,8 +78,8 @@ newDecided f g a = record {
   congested = a .congested;
 }
 
--- the four smoothed rates that an interval leaves
-abbrev pub newSmoothed : Fair → Settings → Four
+-- the four stored numbers that an interval leaves
+abbrev pub newSmoothed : Fair → Settings → Stored
 newSmoothed f s = smoothOf (f .smoothed) (s .fairness .lp) (f .counters)
 
 -- local congestion and localFairRate as an interval adjusts them, with so many bytes in the secondary queue

@@ -1,16 +1,22 @@
 -- The range of the fairness state: "own and received rates at most 65,534, other rates at most 2,147,483,647, allowed rates at most unreservedRate
--- and a received ttl 193 to 255". Assumes nothing.
-use Prim.Native.Nat.{_≤_}
+-- and a received ttl 193 to 255"; of a smoothed rate it binds the rate shown (document 02, A4). Assumes nothing.
+use Prim.Native.Nat.{ℕ, _≤_}
 use Rattle.decide.specs.Test.{Test, _≤?_, _∧?_}
+use Rattle.rates.specs.Rates.{shownOf, shownOk}
 use Rattle.settings.specs.declared.Settings.{Settings}
 use Rattle.heard.specs.Range.{receivedOk, ReceivedOk}
 use Rattle.fair.specs.declared.Four.{Four}
+use Rattle.fair.specs.declared.Stored.{Stored}
 use Rattle.fair.specs.declared.Decided.{Decided}
 use Rattle.fair.specs.declared.Fair.{Fair}
 
--- other rates at most 2,147,483,647: four of them
+-- other rates at most 2,147,483,647: the four counters
 abbrev pub fourOk : Four → Test
 fourOk r = r .add ≤? 2147483647 ∧? r .fw ≤? 2147483647 ∧? r .addc ≤? 2147483647 ∧? r .fwc ≤? 2147483647
+
+-- A lent station's range binds the rate shown, not s itself.
+abbrev pub storedOk : ℕ → Stored → Test
+storedOk lpCoef s = shownOk lpCoef (s .add) ∧? shownOk lpCoef (s .fw) ∧? shownOk lpCoef (s .addc) ∧? shownOk lpCoef (s .fwc)
 
 -- own rate, localFairRate, both allowed rates, and a flag, 0 or 1
 abbrev pub decidedOk : Settings → Decided → Test
@@ -20,7 +26,7 @@ decidedOk s d =
     ∧? d .congested ≤? 1
 
 unfoldable pub fairOk : Settings → Fair → Test
-fairOk s f = fourOk (f .counters) ∧? fourOk (f .smoothed) ∧? decidedOk s (f .decided) ∧? receivedOk (f .received)
+fairOk s f = fourOk (f .counters) ∧? storedOk (s .fairness .lp) (f .smoothed) ∧? decidedOk s (f .decided) ∧? receivedOk (f .received)
 
 -- ---- the same as named facts
 
@@ -29,6 +35,12 @@ pub record FourOk (r : Four) : Type 0 where
   pub fw-most : r .fw ≤ 2147483647
   pub addc-most : r .addc ≤ 2147483647
   pub fwc-most : r .fwc ≤ 2147483647
+
+pub record StoredOk (lpCoef : ℕ) (s : Stored) : Type 0 where
+  pub add-most : shownOf lpCoef (s .add) ≤ 2147483647
+  pub fw-most : shownOf lpCoef (s .fw) ≤ 2147483647
+  pub addc-most : shownOf lpCoef (s .addc) ≤ 2147483647
+  pub fwc-most : shownOf lpCoef (s .fwc) ≤ 2147483647
 
 pub record DecidedOk (s : Settings) (d : Decided) : Type 0 where
   pub own-most : d .own ≤ 65534
@@ -39,6 +51,6 @@ pub record DecidedOk (s : Settings) (d : Decided) : Type 0 where
 
 pub record FairOk (s : Settings) (f : Fair) : Type 0 where
   pub of-counters : FourOk (f .counters)
-  pub of-smoothed : FourOk (f .smoothed)
+  pub of-smoothed : StoredOk (s .fairness .lp) (f .smoothed)
   pub of-decided : DecidedOk s (f .decided)
   pub of-received : ReceivedOk (f .received)

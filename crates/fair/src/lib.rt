@@ -3,10 +3,11 @@
 ghost use mathlib.Core.Path.{_≡_};
 ghost use Rattle.decide.specs.Test.{test};
 ghost use Rattle.rates.specs.Rates.{shareOf};
-ghost use Rattle.fair.specs.Range.{fourOk, decidedOk, fairOk};
+ghost use Rattle.settings.specs.Range.{SettingsOk};
+ghost use Rattle.fair.specs.Range.{fourOk, storedOk, decidedOk, fairOk, StoredOk, FairOk};
 ghost use Rattle.fair.specs.Start.{startOf};
 ghost use Rattle.fair.specs.Count.{beyond, over, raisedOf, countOf};
-ghost use Rattle.fair.specs.Age.{smoothOf, lowerOf, localTest, adjustOf, allowedOf, allowedcOf, newDecided, ageOf};
+ghost use Rattle.fair.specs.Age.{SumsFit, smoothOf, shownFour, lowerOf, localTest, adjustOf, allowedOf, allowedcOf, newDecided, ageOf};
 
 mod advertising;
 
@@ -23,6 +24,14 @@ pub struct Four {
     pub fwc: u32,
 }
 
+// For each of the four its smoothed rate, kept times lpCoef, as a stored number. The rate shown is floor(stored number / lpCoef).
+pub struct Stored {
+    pub add: u64,
+    pub fw: u64,
+    pub addc: u64,
+    pub fwc: u64,
+}
+
 // What intervals decide: localFairRate, allowedRate, allowedRateCongested, own rate, and whether the station is locally congested (1, else 0).
 pub struct Decided {
     pub local: u32,
@@ -32,11 +41,11 @@ pub struct Decided {
     pub congested: u32,
 }
 
-// What a station knows of the rates and of congestion, its own and that of stations downstream: addRate, fwRate, addRateCongested, fwRateCongested, the
-// same smoothed (lpAddRate and so on), what the last interval decided, and what was received.
+// What a station knows of the rates and of congestion, its own and that of stations downstream: addRate, fwRate, addRateCongested, fwRateCongested, what is
+// stored for the same smoothed (lpAddRate and so on), what the last interval decided, and what was received.
 pub struct Fair {
     pub counters: Four,
-    pub smoothed: Four,
+    pub smoothed: Stored,
     pub decided: Decided,
     pub received: Received,
 }
@@ -66,18 +75,6 @@ impl Four {
             & (self.fwc <= Four::MAX)
     }
 
-    // The four smoothed rates after an interval in which the counters came to these.
-    fn smooth(self, coef: u32, counters: Four) -> Four
-        ensures { λ r. ⌜ r ≡ smoothOf self coef counters ⌝ }
-    {
-        Four {
-            add: rates::smoothed(coef, self.add, counters.add),
-            fw: rates::smoothed(coef, self.fw, counters.fw),
-            addc: rates::smoothed(coef, self.addc, counters.addc),
-            fwc: rates::smoothed(coef, self.fwc, counters.fwc),
-        }
-    }
-
     // The four counters after an interval.
     fn lower(self, coef: u32) -> Four
         ensures { λ r. ⌜ r ≡ lowerOf self coef ⌝ }
@@ -87,6 +84,44 @@ impl Four {
             fw: rates::aged(self.fw, coef),
             addc: rates::aged(self.addc, coef),
             fwc: rates::aged(self.fwc, coef),
+        }
+    }
+}
+
+impl Stored {
+    // Whether each of the four rates shown is in its range, by this lpCoef.
+    fn in_range(self, coef: u32) -> bool
+        ensures { λ r. ⌜ r ≡ test (storedOk coef self) ⌝ }
+    {
+        rates::shown_ok(coef, self.add)
+            & rates::shown_ok(coef, self.fw)
+            & rates::shown_ok(coef, self.addc)
+            & rates::shown_ok(coef, self.fwc)
+    }
+
+    // The four stored numbers after an interval in which the counters came to these. The sums must fit.
+    fn smooth(self, coef: u32, counters: Four) -> Stored
+        requires { ⌜ SumsFit self counters ⌝ }
+        ensures { λ r. ⌜ r ≡ smoothOf self coef counters ⌝ }
+    {
+        Stored {
+            add: rates::smoothed(coef, self.add, counters.add),
+            fw: rates::smoothed(coef, self.fw, counters.fw),
+            addc: rates::smoothed(coef, self.addc, counters.addc),
+            fwc: rates::smoothed(coef, self.fwc, counters.fwc),
+        }
+    }
+
+    // The four rates shown, where each is in its range.
+    pub fn shown(self, coef: u32) -> Four
+        requires { ⌜ StoredOk coef self ⌝ }
+        ensures { λ r. ⌜ r ≡ shownFour coef self ⌝ }
+    {
+        Four {
+            add: rates::shown(coef, self.add) as u32,
+            fw: rates::shown(coef, self.fw) as u32,
+            addc: rates::shown(coef, self.addc) as u32,
+            fwc: rates::shown(coef, self.fwc) as u32,
         }
     }
 }
@@ -114,7 +149,7 @@ impl Fair {
         ensures { λ r. ⌜ r ≡ test (fairOk settings self) ⌝ }
     {
         self.counters.in_range()
-            & self.smoothed.in_range()
+            & self.smoothed.in_range(settings.fairness.lp)
             & self.decided.in_range(settings)
             & self.received.in_range()
     }
@@ -139,9 +174,15 @@ impl Fair {
             own: own as u32,
             congested: 0,
         };
+        let nothing = Stored {
+            add: 0,
+            fw: 0,
+            addc: 0,
+            fwc: 0,
+        };
         Fair {
             counters: zeros,
-            smoothed: zeros,
+            smoothed: nothing,
             decided: decided,
             received: Received::none(),
         }
@@ -187,8 +228,9 @@ impl Fair {
         next
     }
 
-    // The state after an aging interval, at the end of which the secondary queue holds so many bytes.
+    // The state after an aging interval, at the end of which the secondary queue holds so many bytes. Settings and state must be in range, so that the sums fit.
     pub fn age(self, settings: Settings, held: u32) -> Fair
+        requires { ⌜ SettingsOk settings × FairOk settings self ⌝ }
         ensures { λ r. ⌜ r ≡ ageOf self settings held ⌝ }
     {
         let fairness = settings.fairness;
@@ -252,12 +294,13 @@ fn local_test(settings: Settings, held: u32) -> bool
     settings.queues.threshold < held
 }
 
-// Local congestion and localFairRate, from what was decided before, the new smoothed rates and the bytes in the secondary queue.
-fn adjust(settings: Settings, old: Decided, smoothed: Four, held: u32) -> Adjusted
+// Local congestion and localFairRate, from what was decided before, the new stored numbers, whose rates shown must be in range, and the bytes in the secondary queue.
+fn adjust(settings: Settings, old: Decided, smoothed: Stored, held: u32) -> Adjusted
+    requires { ⌜ StoredOk (settings .fairness .lp) smoothed ⌝ }
     ensures { λ r. ⌜ r ≡ adjustOf settings old smoothed held ⌝ }
 {
     if local_test(settings, held) {
-        let local = rates::shown(smoothed.add);
+        let local = rates::shown(settings.fairness.lp, smoothed.add) as u32;
         return Adjusted {
             congested: 1,
             local: local,

@@ -23,7 +23,7 @@ use Rattle.station.specs.Answers.{withFlow, withFair}
 use Rattle.station.specs.Offers.{givenFrame}
 use Rattle.slots.specs.Slots.{queueLength, wordsBytes, queueBytes, queuePart}
 use Rattle.slots.proofs.Anew.{put-anew}
-use Rattle.layout.specs.Layout.{placeOf, stagePlace, fairPlace, stationLength, wordsPart, creditsWords, fourWords, decidedWords, receivedWords}
+use Rattle.layout.specs.Layout.{placeOf, stagePlace, fairPlace, stationLength, wordsPart, creditsWords, fourWords, storedParts, decidedWords, receivedWords}
 use Rattle.layout.specs.Layout.{fairParts, fairBytes, stationBytes}
 use Rattle.layout.proofs.Round.{Slotted, parts}
 
@@ -58,7 +58,7 @@ module _ (st : Station) (e : Slotted st) where
       ∷ queuePart (st .flow .secondary) (e .2)
       ∷ word (st .flow .stage)
       ∷ wordsPart (fourWords (f .counters))
-      ∷ group (wordsPart (fourWords (f .smoothed)) ∷ wordsPart (decidedWords (f .decided)) ∷ wordsPart (receivedWords (f .received)) ∷ [])
+      ∷ group (group (storedParts (f .smoothed)) ∷ wordsPart (decidedWords (f .decided)) ∷ wordsPart (receivedWords (f .received)) ∷ [])
       ∷ settingsPart (st .settings)
       ∷ [])
       5

@@ -1,9 +1,9 @@
--- The range of a station, asked part by part: one part out of range puts the station out of range, and where all others are in range the fairness state says.
+-- The range of a station, asked part by part: one part out of range puts the station out of range, and where all others are in range the last one says.
 -- Assumes nothing.
 use Prim.Native.Nat.{ℕ}
 use mathlib.Core.Bool.{Bool, true, false, not}
 use mathlib.Core.List.{List}
-use mathlib.Core.Path.{_≡_, refl, sym}
+use mathlib.Core.Path.{_≡_, refl}
 use native.Mathlib.Omega.{arith}
 use lib.ListN.{length, take}
 use lib.Seq.{take-all}
@@ -36,7 +36,8 @@ module _ (st : Station) where
   pub part-out : (t : Test) {r : Bool} → (Holds (stationOk st) → Holds t) → r ≡ test t → not r ≡ true → false ≡ test (stationOk st)
   part-out t part e n = early.part-out (stationOk st) t part (denied t e n)
 
-  -- all parts but the last hold
-  pub last-says : Holds (settingsOk (st .settings)) → Holds (flowOk (st .settings) (st .flow)) → test (stationOk st) ≡ test (fairOk (st .settings) (st .fair))
+  -- all parts but this one, which is of the flow, hold
+  pub last-says : (t : Test) → (Holds (flowOk (st .settings) (st .flow)) → Holds t) → (Holds t → Holds (flowOk (st .settings) (st .flow)))
+      → Holds (settingsOk (st .settings)) → Holds (fairOk (st .settings) (st .fair)) → test t ≡ test (stationOk st)
   unfolding stationOk
-  last-says p q = sym (early.last-says (stationOk st) (fairOk (st .settings) (st .fair)) (λ h. h .1 .1) (λ f. (p, (q, f))))
+  last-says t part rest p f = early.last-says (stationOk st) t (λ h. part (h .1 .0)) (λ h. (p, (rest h, f)))

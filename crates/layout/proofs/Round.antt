@@ -1,6 +1,6 @@
 -- A station and its bytes say the same, and so do a reading and its. What is written is read back, and bytes that are read are written again.
 -- Assumes nothing.
-use Prim.Native.Nat.{ℕ, _+_, _≤_, _<_}
+use Prim.Native.Nat.{ℕ, _+_, _^_, _≤_, _<_}
 use mathlib.Core.List.{List}
 use mathlib.Core.Logic.{⊎-elim}
 use mathlib.Core.Path.{_≡_, refl, sym}
@@ -14,15 +14,19 @@ use Rattle.wire.proofs.Numbers.{digits-stand, digits-bytes, le-bound, le-stands
 use Rattle.wire.proofs.Laid.{part-stands, whole-standing}
 use Rattle.settings.specs.declared.Settings.{Settings}
 use Rattle.settings.specs.Range.{SettingsOk}
+use Rattle.settings.proofs.Range.{coef-bounds}
 use Rattle.wire.proofs.Placed.{laidOut-bytes}
 use Rattle.settings.proofs.Words as settings
 use Rattle.settings.proofs.Words.{wordAt}
 use Rattle.credits.specs.declared.Which.the-variants.{M, A, B, C, D}
 use Rattle.flow.specs.declared.Line.the-variants.{Control, Primary, Secondary}
 use Rattle.flow.specs.Range.{FlowOk}
+use Rattle.rates.specs.Rates.{shownOf}
 use Rattle.fair.specs.declared.Four.{Four}
+use Rattle.fair.specs.declared.Stored.{Stored}
 use Rattle.fair.specs.declared.Fair.{Fair}
-use Rattle.fair.specs.Range.{FairOk}
+use Rattle.fair.specs.Range.{StoredOk, FairOk}
+use Rattle.fair.proofs.Age.{stored-below}
 use Rattle.station.specs.declared.Station.{Station}
 use Rattle.station.specs.declared.Held.{Held}
 use Rattle.station.specs.declared.Reading.{Reading}
@@ -33,7 +37,7 @@ use Rattle.station.proofs.Hear.{held-none, held-one}
 use Rattle.slots.specs.Slots.{queueBytes, queuePart, WordsFit}
 use Rattle.slots.proofs.Round as slots
 use Rattle.layout.specs.Layout.{placeOf, stagePlace, fairPlace, settingsPlace, stationLength, creditsWords, creditsAt}
-use Rattle.layout.specs.Layout.{stationParts, stationBytes, stationAt, FairFits, StationFits}
+use Rattle.layout.specs.Layout.{stationParts, stationBytes, stationAt, StoredFits, FairFits, StationFits}
 use Rattle.layout.specs.Reading.{readingLength, heldWords, heldAt, readingParts, readingBytes, readingAt, ReadingFits}
 use Rattle.layout.proofs.Words.{words-stand, words-fit}
 use Rattle.layout.proofs.Groups.{credits-back, held-back, four-back, decided-back, received-back, credits-read, held-read}
@@ -139,11 +143,17 @@ module _ (xs : List ℕ) (b : Bytes xs) where
 
 -- ---- a station in range fits
 
+stored-in-range-fits : (lpCoef : ℕ) (s : Stored) → 0 < lpCoef → lpCoef ≤ 512 → StoredOk lpCoef s → StoredFits s
+stored-in-range-fits c s p most ok =
+    let below : (x : ℕ) → shownOf c x ≤ 2147483647 → x < 256 ^ 8 = λ x h. omega (arith, stored-below c x p most h) in
+    record { add = below (s .add) (ok .add-most); fw = below (s .fw) (ok .fw-most); addc = below (s .addc) (ok .addc-most); fwc = below (s .fwc) (ok .fwc-most) }
+
 fair-in-range-fits : (s : Settings) (f : Fair) → SettingsOk s → FairOk s f → f .received .low < 4294967296 → FairFits f
 fair-in-range-fits s f settings ok low =
+    let lp = coef-bounds (s .fairness .lp) (settings .of-fairness .lp-one-of) in
     record {
       of-counters = omega (arith, ok .of-counters);
-      of-smoothed = omega (arith, ok .of-smoothed);
+      of-smoothed = stored-in-range-fits (s .fairness .lp) (f .smoothed) (omega (arith, lp)) (lp .1) (ok .of-smoothed);
       of-decided = omega (arith, ok .of-decided, settings .of-fairness .unreserved-most);
       of-received = omega (arith, ok .of-received, low);
     }
@@ -220,9 +230,10 @@ bytes-of-reading xs b e =
 stage-fits : (w : ℕ) → WordsFit (heldWords (heldOn w))
 stage-fits w = ⊎-elim (λ (e : w ≡ 0). rw (held-none w e) (omega arith)) (λ n. rw (held-one w n) (omega arith)) (split (w ≡? 0))
 
--- The reading of a station whose numbers fit does.
-pub reading-fits : {st : Station} → StationFits st → ReadingFits (readingOf st)
-reading-fits {st} f =
+-- The reading of a station in range whose numbers fit does.
+pub reading-fits : {st : Station} → StationOk st → StationFits st → ReadingFits (readingOf st)
+reading-fits {st} ok f =
+    let shown = ok .fair .of-smoothed in
     record {
       of-credits = f .of-credits;
       of-control = omega (arith, f .of-control .count, f .of-control .held);
@@ -230,7 +241,7 @@ reading-fits {st} f =
       of-secondary = omega (arith, f .of-secondary .count, f .of-secondary .held);
       of-stage = stage-fits (st .flow .stage);
       of-counters = f .of-fair .of-counters;
-      of-smoothed = f .of-fair .of-smoothed;
+      of-smoothed = omega (arith, shown);
       of-decided = f .of-fair .of-decided;
       of-received = f .of-fair .of-received;
     }
@@ -244,7 +255,7 @@ abbrev fourFrom : List ℕ → ℕ → Four
 fourFrom xs k = record { add = wordAt xs k; fw = wordAt xs (k + 1); addc = wordAt xs (k + 2); fwc = wordAt xs (k + 3) }
 
 -- Words 0 to 4 are the credits of M, A, B, C, D; 5, 7, 9 and 11 begin control, primary and secondary queue and stage (frames, bytes); 13 to 16 are
--- addRate, fwRate, addRateCongested, fwRateCongested, 17 to 20 the smoothed rates in the same order; 21 localFairRate, 22 allowedRate, 23
+-- addRate, fwRate, addRateCongested, fwRateCongested, 17 to 20 the smoothed rates as they are shown, in the same order; 21 localFairRate, 22 allowedRate, 23
 -- allowedRateCongested, 24 own rate; 25, 26 locally congested, downstream congested; 27 received ttl; 28, 29, 30 received address (high 16, low 32
 -- bits), received rate.
 pub by-words : (xs : List ℕ) → readingAt xs ≡ record {

@@ -1,12 +1,12 @@
 -- A station as bytes, each number least byte first: what is written, part behind part, and what is read, each number at its place.
 -- Assumes nothing.
-use Prim.Native.Nat.{ℕ, _+_, _*_}
+use Prim.Native.Nat.{ℕ, _+_, _*_, _^_, _<_}
 use mathlib.Core.Bool.{cond}
 use mathlib.Core.List.{List, [], _∷_}
 use lib.Dec.{eqb}
 use lib.ListN.{length}
 use Rattle.wire.specs.Wire.{le, put}
-use Rattle.wire.specs.Parts.{Part, bytesPart, group, laidOut}
+use Rattle.wire.specs.Parts.{Part, number, bytesPart, group, laidOut}
 use Rattle.settings.specs.Words.{settingsLength, word, settingsPart, settingsAt, Fits32, SettingsFit}
 use Rattle.queue.specs.declared.Frame.{Frame}
 use Rattle.queue.specs.Queue.{pushed, taken}
@@ -14,6 +14,7 @@ use Rattle.credits.specs.declared.Credits.{Credits}
 use Rattle.flow.specs.declared.Line.{Line}
 use Rattle.flow.specs.declared.Line.the-variants.{Control, Primary, Secondary}
 use Rattle.fair.specs.declared.Four.{Four}
+use Rattle.fair.specs.declared.Stored.{Stored}
 use Rattle.fair.specs.declared.Decided.{Decided}
 use Rattle.heard.specs.declared.Received.{Received}
 use Rattle.fair.specs.declared.Fair.{Fair}
@@ -22,7 +23,7 @@ use Rattle.slots.specs.Slots.{queueLength, wordsBytes, words-length, queueBytes
 
 -- ---- how many bytes each part takes, and where it stands: behind the one before
 
--- five credits; four rates; what intervals decide; what was received: words of 4 bytes
+-- five credits; four counters, or four rates; what intervals decide; what was received: words of 4 bytes
 abbrev pub creditsLength : ℕ
 creditsLength = 4 * 5
 
@@ -35,12 +36,16 @@ decidedLength = 4 * 5
 abbrev pub receivedLength : ℕ
 receivedLength = 4 * 5
 
--- in the fairness state, behind the counters: the smoothed rates, what intervals decide, what was received
+-- four stored numbers of smoothed rates, 8 bytes each
+abbrev pub storedLength : ℕ
+storedLength = 4 * 8
+
+-- in the fairness state, behind the counters: the stored numbers of the smoothed rates, what intervals decide, what was received
 abbrev pub smoothedPlace : ℕ
 smoothedPlace = fourLength
 
 abbrev pub decidedPlace : ℕ
-decidedPlace = smoothedPlace + fourLength
+decidedPlace = smoothedPlace + storedLength
 
 abbrev pub receivedPlace : ℕ
 receivedPlace = decidedPlace + decidedLength
@@ -77,9 +82,16 @@ wordsPart vs = record { size = 4 * length vs; bytes = wordsBytes vs; sized = wor
 abbrev pub creditsWords : Credits → List ℕ
 creditsWords c = c .m ∷ c .a ∷ c .b ∷ c .c ∷ c .d ∷ []
 
--- addRate, fwRate, addRateCongested, fwRateCongested, or the same smoothed
+-- addRate, fwRate, addRateCongested, fwRateCongested, or the same smoothed as they are shown
 abbrev pub fourWords : Four → List ℕ
 fourWords r = r .add ∷ r .fw ∷ r .addc ∷ r .fwc ∷ []
+
+-- what is stored for the same smoothed
+abbrev pub storedParts : Stored → List Part
+storedParts s = number 8 (s .add) ∷ number 8 (s .fw) ∷ number 8 (s .addc) ∷ number 8 (s .fwc) ∷ []
+
+abbrev pub storedBytes : Stored → List ℕ
+storedBytes s = laidOut (storedParts s)
 
 -- localFairRate, allowedRate, allowedRateCongested, own rate; locally congested
 abbrev pub decidedWords : Decided → List ℕ
@@ -93,7 +105,7 @@ receivedWords r = r .downstream ∷ r .ttl ∷ r .high ∷ r .low ∷ r .rate �
 abbrev pub fairParts : Fair → List Part
 fairParts f =
     wordsPart (fourWords (f .counters))
-    ∷ wordsPart (fourWords (f .smoothed))
+    ∷ group (storedParts (f .smoothed))
     ∷ wordsPart (decidedWords (f .decided))
     ∷ wordsPart (receivedWords (f .received))
     ∷ []
@@ -131,6 +143,9 @@ creditsAt xs at = record { m = le 4 xs at; a = le 4 xs (at + 4); b = le 4 xs (at
 abbrev pub fourAt : List ℕ → ℕ → Four
 fourAt xs at = record { add = le 4 xs at; fw = le 4 xs (at + 4); addc = le 4 xs (at + 8); fwc = le 4 xs (at + 12) }
 
+abbrev pub storedAt : List ℕ → ℕ → Stored
+storedAt xs at = record { add = le 8 xs at; fw = le 8 xs (at + 8); addc = le 8 xs (at + 16); fwc = le 8 xs (at + 24) }
+
 abbrev pub decidedAt : List ℕ → ℕ → Decided
 decidedAt xs at =
     record { local = le 4 xs at; allowed = le 4 xs (at + 4); allowedc = le 4 xs (at + 8); own = le 4 xs (at + 12); congested = le 4 xs (at + 16) }
@@ -143,7 +158,7 @@ unfoldable pub fairAt : List ℕ → ℕ → Fair
 fairAt xs at =
     record {
       counters = fourAt xs at;
-      smoothed = fourAt xs (at + smoothedPlace);
+      smoothed = storedAt xs (at + smoothedPlace);
       decided = decidedAt xs (at + decidedPlace);
       received = receivedAt xs (at + receivedPlace);
     }
@@ -179,9 +194,15 @@ takenFrom origin xs = cond (eqb origin 1) (takenAt xs Control) (cond (eqb origin
 
 -- ---- each number fits its bytes, and each queue has its 128 slots
 
+pub record StoredFits (s : Stored) : Type 0 where
+  pub add : s .add < 256 ^ 8
+  pub fw : s .fw < 256 ^ 8
+  pub addc : s .addc < 256 ^ 8
+  pub fwc : s .fwc < 256 ^ 8
+
 pub record FairFits (f : Fair) : Type 0 where
   pub of-counters : WordsFit (fourWords (f .counters))
-  pub of-smoothed : WordsFit (fourWords (f .smoothed))
+  pub of-smoothed : StoredFits (f .smoothed)
   pub of-decided : WordsFit (decidedWords (f .decided))
   pub of-received : WordsFit (receivedWords (f .received))
 

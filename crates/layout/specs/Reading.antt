@@ -19,7 +19,8 @@ readingLength = 4 * 31
 abbrev pub heldWords : Held → List ℕ
 heldWords h = h .frames ∷ h .bytes ∷ []
 
--- the credits; what control, primary and secondary queue and the stage hold; the counters, the smoothed rates, what intervals decide, what was received
+-- the credits; what control, primary and secondary queue and the stage hold; the counters, the smoothed rates as they are
+-- shown, what intervals decide, what was received
 abbrev pub readingParts : Reading → List Part
 readingParts r =
     wordsPart (creditsWords (r .credits))

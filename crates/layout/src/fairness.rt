@@ -1,4 +1,4 @@
-// The fairness state as words of 4 bytes, least byte first: the counters, the smoothed rates, what intervals decide, what was received.
+// The fairness state as numbers with the least byte first: the counters, the stored numbers of the smoothed rates (8 bytes each), what intervals decide, what was received.
 ghost use mathlib.Core.Path.{_≡_};
 ghost use Prim.Native.Nat.{_+_, _≤_};
 ghost use lib.ListN.{length};
@@ -6,31 +6,33 @@ ghost use Rattle.decide.specs.Test.{test};
 ghost use Rattle.wire.specs.Wire.{put};
 ghost use Rattle.fair.specs.Range.{fairOk};
 ghost use Rattle.slots.specs.Slots.{wordsBytes};
-ghost use Rattle.layout.specs.Layout.{fourLength, decidedLength, receivedLength, fairLength};
-ghost use Rattle.layout.specs.Layout.{fourAt, decidedAt, receivedAt, fairAt, fourWords, decidedWords, receivedWords, fairBytes};
+ghost use Rattle.layout.specs.Layout.{fourLength, storedLength, decidedLength, receivedLength, fairLength};
+ghost use Rattle.layout.specs.Layout.{fourAt, storedAt, decidedAt, receivedAt, fairAt};
+ghost use Rattle.layout.specs.Layout.{fourWords, storedBytes, decidedWords, receivedWords, fairBytes};
 use fair::Decided;
 use fair::Fair;
 use fair::Four;
+use fair::Stored;
 use heard::Received;
 use settings::Settings;
 
 // Where the parts stand behind the counters, each behind the one before, and how many bytes they take together.
 const SMOOTHED: usize = 16;
 
-const DECIDED: usize = SMOOTHED + 16;
+const DECIDED: usize = SMOOTHED + 32;
 
 const RECEIVED: usize = DECIDED + 20;
 
 pub const LENGTH: usize = RECEIVED + 20;
 
-// The fairness state whose words stand in `s` from `at` on.
+// The fairness state that stands in `s` from `at` on.
 pub fn read(s: &[u8], at: usize) -> Fair
     requires { ⌜ at + fairLength ≤ length (now s) ⌝ }
     ensures { λ r. ⌜ r ≡ fairAt (now (s .entry)) at ⌝ }
 {
     Fair {
         counters: read_four(s, at),
-        smoothed: read_four(s, at + SMOOTHED),
+        smoothed: read_stored(s, at + SMOOTHED),
         decided: read_decided(s, at + DECIDED),
         received: read_received(s, at + RECEIVED),
     }
@@ -44,13 +46,13 @@ pub fn in_range_at(s: &[u8], at: usize, settings: Settings) -> bool
     read(s, at).in_range(settings)
 }
 
-// Writes the words of the fairness state to `s` from `at` on.
+// Writes the fairness state to `s` from `at` on.
 pub fn write(f: Fair, s: &mut [u8], at: usize)
     requires { ⌜ at + fairLength ≤ length (now s) ⌝ }
     ensures { λ _. ⌜ now (s .exit) ≡ put (now (s .entry)) at (fairBytes f) ⌝ }
 {
     write_four(f.counters, s, at);
-    write_four(f.smoothed, s, at + SMOOTHED);
+    write_stored(f.smoothed, s, at + SMOOTHED);
     write_decided(f.decided, s, at + DECIDED);
     write_received(f.received, s, at + RECEIVED);
 }
@@ -77,6 +79,30 @@ pub fn write_four(r: Four, s: &mut [u8], at: usize)
     wire::put32(s, at + 4, r.fw);
     wire::put32(s, at + 8, r.addc);
     wire::put32(s, at + 12, r.fwc);
+}
+
+// The four stored numbers that stand in `s` from `at` on.
+fn read_stored(s: &[u8], at: usize) -> Stored
+    requires { ⌜ at + storedLength ≤ length (now s) ⌝ }
+    ensures { λ r. ⌜ r ≡ storedAt (now (s .entry)) at ⌝ }
+{
+    Stored {
+        add: wire::get64(s, at),
+        fw: wire::get64(s, at + 8),
+        addc: wire::get64(s, at + 16),
+        fwc: wire::get64(s, at + 24),
+    }
+}
+
+// Writes four stored numbers to `s` from `at` on.
+fn write_stored(n: Stored, s: &mut [u8], at: usize)
+    requires { ⌜ at + storedLength ≤ length (now s) ⌝ }
+    ensures { λ _. ⌜ now (s .exit) ≡ put (now (s .entry)) at (storedBytes n) ⌝ }
+{
+    wire::put64(s, at, n.add);
+    wire::put64(s, at + 8, n.fw);
+    wire::put64(s, at + 16, n.addc);
+    wire::put64(s, at + 24, n.fwc);
 }
 
 // What intervals decide, as its words in `s` from `at` on say.

@@ -68,7 +68,7 @@ pub fn read(s: &[u8]) -> Station
 
 // Whether that station is in range: the test of `Station::in_range`, made where the bytes lie, so that no queue is copied for it. The slice is cut to its own
 // length first: so it is kept in registers, which is quicker. The fairness state is asked before the queues: behind many tests the compiler holds a call for rare,
-// and hands it a copy of the settings.
+// and hands it a copy of the settings. The test ends where it is out of range: what would be kept of it till the end has no room in registers.
 pub fn in_range(whole: &[u8]) -> bool
     requires { ⌜ length (now whole) ≡ stationLength ⌝ }
     ensures { λ r. ⌜ r ≡ test (stationOk (stationAt (now (whole .entry)))) ⌝ }
@@ -81,7 +81,9 @@ pub fn in_range(whole: &[u8]) -> bool
     let settings = Settings::read(s, SETTINGS);
     let bounds = flow::bounds(settings);
     let room = settings.queues;
-    let fair = fairness::in_range_at(s, FAIR, settings);
+    if !fairness::in_range_at(s, FAIR, settings) {
+        return false;
+    }
     if !read_credits(s, 0).in_range(settings) {
         return false;
     }
@@ -94,10 +96,7 @@ pub fn in_range(whole: &[u8]) -> bool
     if !slots::in_range(s, SECONDARY, bounds, room.secondary) {
         return false;
     }
-    if !flow::stage_ok(bounds, wire::get32(s, STAGE)) {
-        return false;
-    }
-    fair
+    flow::stage_ok(bounds, wire::get32(s, STAGE))
 }
 
 // What goes next in that station, in range or not. Of each queue it uses the front alone.

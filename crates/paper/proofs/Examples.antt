@@ -6,14 +6,14 @@ use Rattle.decide.specs.Refusal.{first, firstOf, refusedOr}
 use Rattle.summary.specs.Summary.{ceilingOf, needℤ, joined, summaryOf}
 use Rattle.summary.specs.Range.{inRange}
 use Rattle.summary.specs.Answer.{settleOf}
-use Rattle.rates.specs.Rates.{partOf, smoothedOf, agedOf, ownRateOf}
+use Rattle.rates.specs.Rates.{partOf, smoothedOf, shownOf, agedOf, ownRateOf}
 use Rattle.ring.specs.Links.{usable, runOf}
 use Rattle.ring.specs.Choosing.{distanceOf, shorterOf, reachesOf, preferredOf, alongOf, noWay, chooseOf}
 use Rattle.wrap.specs.Walking.{courseOf, pathOf}
 use Rattle.paper.specs.Examples.{Examples}
 
 pub examples : Examples
-unfolding summaryOf joined ceilingOf needℤ settleOf inRange smoothedOf agedOf partOf ownRateOf
+unfolding summaryOf joined ceilingOf needℤ settleOf inRange smoothedOf shownOf agedOf partOf ownRateOf
     chooseOf alongOf noWay preferredOf reachesOf shorterOf distanceOf runOf usable pathOf courseOf test first firstOf refusedOr
 examples =
     record {
@@ -32,7 +32,10 @@ examples =
       p5-need = refl;
       p6-100 = refl;
       p6-101 = refl;
-      p7 = refl;
+      p7-stored = refl;
+      p7-shown = refl;
+      p7-next-stored = refl;
+      p7-next-shown = refl;
       p8 = refl;
       p9 = refl;
       p10 = refl;

@@ -6,7 +6,8 @@ use mathlib.Core.Path.{refl}
 use Rattle.wire.specs.Signed.{unsignedOf}
 use Rattle.summary.proofs.Integers.{pos-less}
 use Rattle.sheet.specs.Sheet.{sheetOf}
-use Rattle.paper.specs.LentNames.{CallNames, MemoryNames, PieceNames, SheetNames, SightNames, LentNames}
+use Rattle.rpr.proofs.Steady.{one-more, no-more}
+use Rattle.paper.specs.LentNames.{CallNames, MemoryNames, RateWords, PieceNames, SheetNames, SightNames, LentNames}
 
 call : (xs : List ℕ) → CallNames xs
 call xs =
@@ -37,7 +38,18 @@ memory mem =
       station = refl;
       no-event = λ w. refl;
       told = λ w l ls. refl;
+      ends = λ l. (λ h. h, λ h. h);
+      no-interval = refl;
+      one-more = λ l ls. one-more l mem ls;
+      no-more = λ l ls. no-more l mem ls;
+      word = λ room k. refl;
+      none-steady = λ room k rate. tt;
+      steady = λ room k rate l ls. (λ h. h, λ h. h);
+      gives = λ room k rate. (λ h. h, λ h. h);
     }
+
+rates : RateWords
+rates = record { counters = (refl, refl, refl, refl); smoothed = (refl, refl, refl, refl) }
 
 pieces : PieceNames
 pieces =
@@ -63,4 +75,4 @@ sights : SightNames
 sights = record { picked = λ st. refl; seen-as = λ s v f. refl; seen-in = λ v. refl; front = λ f. refl }
 
 pub lent-names : LentNames
-lent-names = record { call = call; memory = memory; pieces = pieces; sheets = sheets; sights = sights }
+lent-names = record { call = call; memory = memory; rates = rates; pieces = pieces; sheets = sheets; sights = sights }

@@ -17,7 +17,8 @@ use Rattle.credits.specs.declared.Which.the-variants.{M, A, B, C, D}
 use Rattle.credits.specs.Which.{numberOf, member}
 use Rattle.credits.proofs.Charge.{same-which}
 use Rattle.flow.proofs.Held.{head-first}
-use Rattle.rates.proofs.Formulas.{smoothed-is, aged-is, ramped-is, allowance-is, own-is, share-is}
+use Rattle.fair.proofs.Age.{shown-four}
+use Rattle.rates.proofs.Formulas.{smoothed-is, shown-is, steady-none, steady-next, aged-is, ramped-is, allowance-is, own-is, share-is}
 use Rattle.answer.specs.Bytes.{bitOf}
 use Rattle.ring.specs.declared.Way.the-variants.{Left}
 use Rattle.ring.specs.Links.{nextOf}
@@ -96,12 +97,16 @@ going =
 
 readings : ReadingNames
 unfolding heldOn
-readings = record { queue = λ q. refl; no-stage = refl; stage = λ w n. rw (ne-eqb w 0 n); reading = λ st. refl; blank = refl }
+readings = record { queue = λ q. refl; no-stage = refl; stage = λ w n. rw (ne-eqb w 0 n); reading = λ st. refl; shown = shown-four; blank = refl }
 
 rates : RateNames
 rates =
     record {
       smoothed = smoothed-is;
+      shown = shown-is;
+      steady-none = steady-none;
+      steady-next = steady-next;
+      gap = λ a b n. (λ h. omega arith, λ h. omega arith);
       aged = aged-is;
       ramped = ramped-is;
       allowance = allowance-is;

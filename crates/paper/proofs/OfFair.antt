@@ -9,6 +9,7 @@ functions =
       fair-told = λ self settings. by-equation;
       fair-heard = λ self advert. by-equation;
       four-in-range = λ self. by-equation;
+      stored-shown = λ self coef. by-equation;
       fair-in-range = λ self settings. by-equation;
       fair-start = λ settings. by-equation;
       fair-is-beyond = λ self hops. by-equation;

@@ -8,7 +8,8 @@ functions =
     record {
       part = λ x coef. by-equation;
       smoothed = λ coef stored rate. by-equation;
-      shown = λ stored. by-equation;
+      shown = λ coef stored. by-equation;
+      shown-ok = λ coef stored. by-equation;
       aged = λ counter coef. by-equation;
       ramped = λ value unreserved coef. by-equation;
       allowance = λ received weight unit unreserved. by-equation;

@@ -2,11 +2,12 @@
 -- Assumes nothing.
 use Prim.Native.Nat.{ℕ, _*_, _≤_}
 use mathlib.Core.Bool.{true, true≢false}
+use mathlib.Core.List.{List}
 use mathlib.Core.Logic.{_⊎_, _↔_}
 use mathlib.Core.Path.{_≡_, refl, sym, _∙_}
 use native.Mathlib.Omega.{arith}
 use borrow.Author.Tests.{leb-true, le-leb}
-use lib.ListN.{length}
+use lib.ListN.{length, take}
 use Rattle.decide.specs.Test.{Test, test, Holds, facts, passes}
 use Rattle.settings.specs.declared.Settings.{Settings}
 use Rattle.flow.specs.declared.Flow.{Flow}
@@ -14,6 +15,7 @@ use Rattle.selection.specs.Select.{controlReady, primaryReady, needy, stageRead
 use Rattle.selection.proofs.Ready as ready
 use Rattle.selection.proofs.Select as select
 use Rattle.selection.proofs.Frames.{select-moves}
+use Rattle.rates.proofs.Steady as steady
 use Rattle.fair.specs.declared.Fair.{Fair}
 use Rattle.fair.proofs.Age as interval
 use Rattle.fair.proofs.ReadBack.{frame-read-back}
@@ -32,10 +34,19 @@ use Rattle.wrap.proofs.Answers.{found}
 use Rattle.wrap.proofs.Exactly.{home-exactly}
 use Rattle.ring.proofs.Faults.{placed-free}
 use Rattle.wrap.proofs.Early.{delivered-early, one-hop-more}
+use Rattle.wire.specs.Wire.{Bytes}
+use Rattle.station.specs.Range.{StationOk}
+use Rattle.station.specs.Steady.{Rate}
+use Rattle.layout.specs.Layout.{stationLength}
+use Rattle.layout.specs.Reading.{readingLength}
+use Rattle.rpr.specs.Lent.{Lending, NoNewStart, stationIn}
+use Rattle.rpr.specs.Says.{Keeps}
+use Rattle.rpr.specs.Steady.{SteadyIn}
+use Rattle.rpr.proofs.Steady.{steady-told, steady-told-always}
 use Rattle.rpr.proofs.Told.{credit-of-told}
 use Rattle.rpr.proofs.Pairs as told
 use Rattle.rpr.proofs.Kept.{kept-lent}
-use Rattle.paper.specs.Second.{Ready, Selects, Ages, Joins, Reaches, Wraps, Chooses, Sends, Condition2}
+use Rattle.paper.specs.Second.{Ready, Selects, Ages, Steadies, TellsSteady, Joins, Reaches, Wraps, Chooses, Sends, Condition2}
 use Rattle.paper.proofs.Rules.{ticks, charges, lacks, enters, counts, tells, reads, writes, hears}
 use Rattle.station.proofs.Interval.{holds-till-interval}
 use Rattle.queue.proofs.Word.{word-frame, frame-fits, word-not-empty}
@@ -96,6 +107,28 @@ ages f s held =
       keeps = interval.interval-keeps f s held;
       own = interval.interval-own f s held;
     }
+
+steadies : (coef rate s : ℕ) → Steadies coef rate s
+steadies coef rate s =
+    record {
+      stands = steady.steady-stands coef rate s;
+      rises = steady.steady-rises coef rate s;
+      falls = steady.steady-falls coef rate s;
+      not-above = λ p. steady.steady-not-past coef p rate s .0;
+      not-below = λ p. steady.steady-not-past coef p rate s .1;
+      arrives = λ p k n. steady.steady-arrives coef p rate k n s;
+      arrives-always = λ p n. steady.steady-arrives-always coef p rate n s;
+      within = steady.shown-within coef s rate;
+      range = λ p. steady.shown-range coef s p;
+    }
+
+-- the station in the memory is kept there
+tells-steady : (mem room : List ℕ) → Bytes (take stationLength mem) → length (take stationLength mem) ≡ stationLength → StationOk (stationIn mem)
+    → length room ≡ readingLength → (calls : List Lending) → NoNewStart mem calls → (k : Rate) (rate : ℕ) → SteadyIn room k rate mem calls
+    → TellsSteady room mem calls k rate
+tells-steady mem room bytes whole ok h calls none k rate at =
+    let keeps : Keeps (take stationLength mem) (stationIn mem) = record { bytes = bytes; whole = whole; holds = refl; in-range = ok } in
+    record { soon = steady-told k rate room h mem calls keeps none at; always = steady-told-always k rate room h mem calls keeps none at }
 
 joins : (stations : ℕ) → Joins stations
 joins stations =
@@ -196,6 +229,8 @@ second-condition =
       selection = selects;
       counting = counts;
       rates = ages;
+      steady = steadies;
+      steady-told = tells-steady;
       holding = holds-till-interval;
       telling = tells;
       hearing = hears;

@@ -1,4 +1,4 @@
--- Document 01, "Proved examples": P1 to P12, together in one statement.
+-- Document 01, "Proved examples": P1 to P12, P7 as document 02 has it, together in one statement.
 -- Assumes nothing.
 use mathlib.Core.Bool.{true, false}
 use mathlib.Core.List.{List, [], _∷_}
@@ -12,7 +12,7 @@ use Rattle.summary.specs.declared.Summary.{Summary}
 use Rattle.summary.specs.declared.Outcome.{Outcome}
 use Rattle.summary.specs.Summary.{summaryOf}
 use Rattle.summary.specs.Answer.{settleOf}
-use Rattle.rates.specs.Rates.{smoothedOf, agedOf, ownRateOf}
+use Rattle.rates.specs.Rates.{smoothedOf, shownOf, agedOf, ownRateOf}
 use Rattle.ring.specs.declared.Choice.{Choice}
 use Rattle.ring.specs.Choosing.{chooseOf}
 use Rattle.wrap.specs.declared.Outcome as wrap
@@ -62,8 +62,11 @@ pub record Examples : Type 0 where
   -- P6 credit 100 doesn't permit, 101 does.
   pub p6-100 : permits 100 100 ≡ false
   pub p6-101 : permits 101 100 ≡ true
-  -- P7 lp 37, rate 100, lpCoef 64: 37.
-  pub p7 : smoothedOf 64 37 100 ≡ 37
+  -- P7, as document 02, A4 replaces it: s 2,368 and rate 100 give s 2,431, shown 37, and at the next interval s 2,494, shown 38.
+  pub p7-stored : smoothedOf 64 2368 100 ≡ 2431
+  pub p7-shown : shownOf 64 2431 ≡ 37
+  pub p7-next-stored : smoothedOf 64 2431 100 ≡ 2494
+  pub p7-next-shown : shownOf 64 2494 ≡ 38
   -- P8 counter 6,400, ageCoef 4: 4,800.
   pub p8 : agedOf 6400 4 ≡ 4800
   -- P9 local 1,000, weight 2, unit 4: own 125.

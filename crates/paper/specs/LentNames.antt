@@ -1,6 +1,6 @@
 -- The small definitions of lent memory, of pieces, of summaries in bytes and of what a selection sees, said outright.
 -- Assumes nothing.
-use Prim.Native.Nat.{ℕ, _-_}
+use Prim.Native.Nat.{ℕ, suc, _-_, _*_}
 use mathlib.Core.List.{List, [], _∷_, _++_}
 use mathlib.Core.Logic.{_↔_}
 use mathlib.Core.Path.{_≡_}
@@ -8,7 +8,7 @@ use lib.IntN.{pos, negsuc, _-ℤ_}
 use Rattle.plain.specs.declared.Plain.{Plain}
 use Rattle.summary.specs.Plain.{signedFrom}
 use lib.ListN.{length, take, drop, replicate}
-use Rattle.wire.specs.Wire.{digits, Bytes}
+use Rattle.wire.specs.Wire.{digits, le, Bytes}
 use Rattle.wire.specs.Signed.{unsignedOf}
 use Rattle.shaper.specs.declared.Event.{Event}
 use Rattle.shaper.specs.declared.Limits.{Limits}
@@ -30,12 +30,15 @@ use Rattle.fair.specs.declared.Fair.{Fair}
 use Rattle.fair.specs.Count.{countOf}
 use Rattle.station.specs.declared.Station.{Station}
 use Rattle.station.specs.Pick.{pickOf, seenAs}
+use Rattle.station.specs.Steady as rate
+use Rattle.station.specs.Steady.{Rate}
 use Rattle.layout.specs.Layout.{stationLength, stationAt}
 use Rattle.rpr.specs.Calls.{summarizeAnswer, summarizeAfter, joinAnswer, joinAfter}
+use Rattle.rpr.specs.Steady.{shownWord, counterWord, smoothedWord, EndsInterval, intervalsIn, SteadyIn, GivesRate}
 use Rattle.rpr.specs.Pieces.{Rooms, piece, both, roomOf, AllCarried, WholeRooms, treeOf, CutsRooms}
 use Rattle.rpr.specs.Station.{startAnswer, startAfter, tickAnswer, tickAfter, ageAnswer, ageAfter}
 use Rattle.rpr.specs.Station.{offerClientAnswer, offerClientAfter, offerTransitAnswer, offerTransitAfter, offerControlAnswer, offerControlAfter}
-use Rattle.rpr.specs.Station.{selectAnswer, selectAfter, readFrameAnswer, readFrameAfter, writeFrameAnswer, showAnswer}
+use Rattle.rpr.specs.Station.{selectAnswer, selectAfter, readFrameAnswer, readFrameAfter, writeFrameAnswer, showAnswer, showAfter}
 use Rattle.rpr.specs.Lent as lent
 use Rattle.rpr.specs.Lent.{LentCall, Lending, answerTo, leftBy, lentTo, memoryAfter, memoryThrough, NewStart, NoNewStart, startedIn, stationIn}
 use Rattle.rpr.specs.Told.{eventsTold, recordTold}
@@ -80,6 +83,23 @@ pub record MemoryNames (mem : List ℕ) : Type 0 where
   pub told : (w : Which) (l : Lending) (ls : List Lending)
       → recordTold w mem (l ∷ ls)
       ≡ eventsTold w (l .call) (answerTo (l .call) (lentTo l mem)) (stationAt (lentTo l mem)) ++ recordTold w (memoryAfter l mem) ls
+  -- An interval ends by each rpr_age that is lent a station's bytes, and by nothing else:
+  pub ends : (l : Lending) → EndsInterval l mem ↔ ((l .call ≡ lent.age) × (length (lentTo l mem) ≡ stationLength))
+  pub no-interval : intervalsIn mem [] ≡ 0
+  pub one-more : (l : Lending) (ls : List Lending) → EndsInterval l mem → intervalsIn mem (l ∷ ls) ≡ suc (intervalsIn (memoryAfter l mem) ls)
+  pub no-more : (l : Lending) (ls : List Lending) → (EndsInterval l mem → ⊥) → intervalsIn mem (l ∷ ls) ≡ intervalsIn (memoryAfter l mem) ls
+  -- a word that rpr_show leaves in its room; at each interval that of the counter stands at the rate; and at last that of the smoothed rate
+  pub word : (room : List ℕ) (k : ℕ) → shownWord room mem k ≡ le 4 (showAfter (take stationLength mem) room) (4 * k)
+  pub none-steady : (room : List ℕ) (k : Rate) (rate : ℕ) → SteadyIn room k rate mem []
+  pub steady : (room : List ℕ) (k : Rate) (rate : ℕ) (l : Lending) (ls : List Lending)
+      → SteadyIn room k rate mem (l ∷ ls) ↔ ((EndsInterval l mem → shownWord room mem (counterWord k) ≡ rate) × SteadyIn room k rate (memoryAfter l mem) ls)
+  pub gives : (room : List ℕ) (k : Rate) (rate : ℕ)
+      → GivesRate room mem k rate ↔ ((showAnswer (take stationLength mem) room ≡ 0) × (shownWord room mem (smoothedWord k) ≡ rate))
+
+-- 13 to 16 are the counters' words, and 17 to 20 those of the smoothed rates: addRate, fwRate, addRateCongested, fwRateCongested
+pub record RateWords : Type 0 where
+  pub counters : (counterWord rate.add ≡ 13) × (counterWord rate.fw ≡ 14) × (counterWord rate.addCongested ≡ 15) × (counterWord rate.fwCongested ≡ 16)
+  pub smoothed : (smoothedWord rate.add ≡ 17) × (smoothedWord rate.fw ≡ 18) × (smoothedWord rate.addCongested ≡ 19) × (smoothedWord rate.fwCongested ≡ 20)
 
 -- ---- pieces, joined along a tree
 
@@ -139,6 +159,7 @@ pub record SightNames : Type 0 where
 pub record LentNames : Type 0 where
   pub call : (xs : List ℕ) → CallNames xs
   pub memory : (mem : List ℕ) → MemoryNames mem
+  pub rates : RateWords
   pub pieces : PieceNames
   pub sheets : SheetNames
   pub sights : SightNames

@@ -37,9 +37,12 @@ use Rattle.flow.specs.Offer.{clientFrame}
 use Rattle.selection.specs.declared.Selected.{Selected}
 use Rattle.selection.specs.Frames.{gone}
 use Rattle.selection.specs.Select.{originOf, leaves, leavesCharged, leavesStage}
-use Rattle.rates.specs.Rates.{smoothedOf, agedOf, rampedOf, allowanceOf, ownRateOf, shareOf}
+use Rattle.rates.specs.Rates.{smoothedOf, shownOf, agedOf, rampedOf, allowanceOf, ownRateOf, shareOf}
+use Rattle.rates.specs.Steady.{steadyOf, gapOf}
 use Rattle.fair.specs.declared.Fair.{Fair}
 use Rattle.fair.specs.declared.Four.{Four}
+use Rattle.fair.specs.declared.Stored.{Stored}
+use Rattle.fair.specs.Age.{shownFour}
 use Rattle.fair.specs.Advertise.{heardOf}
 use Rattle.fair.specs.Count.{withCounters}
 use Rattle.answer.specs.Bytes.{bitOf}
@@ -162,10 +165,12 @@ pub record ReadingNames : Type 0 where
         secondary = heldIn (st .flow .secondary);
         stage = heldOn (st .flow .stage);
         counters = st .fair .counters;
-        smoothed = st .fair .smoothed;
+        smoothed = shownFour (st .settings .fairness .lp) (st .fair .smoothed);
         decided = st .fair .decided;
         received = st .fair .received;
       }
+  -- of each smoothed rate the reading has what is shown
+  pub shown : (coef : ℕ) (s : Stored) → shownFour coef s ≡ record { add = s .add / coef; fw = s .fw / coef; addc = s .addc / coef; fwc = s .fwc / coef }
   -- each number 0
   pub blank : blankOf ≡ record {
     credits = record { m = 0; a = 0; b = 0; c = 0; d = 0 };
@@ -181,10 +186,17 @@ pub record ReadingNames : Type 0 where
 
 -- ---- rates
 
--- The numbers of document 01, parts of a whole rounded down.
+-- The numbers of documents 01 and 02, parts of a whole rounded down.
 pub record RateNames : Type 0 where
-  -- Each of the four smoothed rates becomes floor(((lpCoef−1) × lp + rate) / lpCoef).
-  pub smoothed : (coef lp rate : ℕ) → smoothedOf coef lp rate ≡ ((coef - 1) * lp + rate) / coef
+  -- At an interval s becomes s − floor(s / lpCoef) + rate,
+  pub smoothed : (coef s rate : ℕ) → smoothedOf coef s rate ≡ s - s / coef + rate
+  -- and the rate shown is floor(s / lpCoef).
+  pub shown : (coef s : ℕ) → shownOf coef s ≡ s / coef
+  -- what is stored after no interval with a steady rate, and after one more
+  pub steady-none : (coef rate s : ℕ) → steadyOf coef rate 0 s ≡ s
+  pub steady-next : (coef rate n s : ℕ) → steadyOf coef rate (suc n) s ≡ steadyOf coef rate n (smoothedOf coef s rate)
+  -- two rates are less than n apart, whichever is the larger
+  pub gap : (a b n : ℕ) → (gapOf a b < n) ↔ ((a < b + n) × (b < a + n))
   -- Each counter becomes floor(rate × (ageCoef−1) / ageCoef).
   pub aged : (rate coef : ℕ) → agedOf rate coef ≡ rate * (coef - 1) / coef
   -- allowedRate + floor((unreservedRate − allowedRate) / rampUp)

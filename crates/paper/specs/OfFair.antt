@@ -4,12 +4,13 @@ use Prim.Native.Nat.{ℕ}
 use Rattle.advert.specs.declared.Advert.{Advert}
 use Rattle.decide.specs.Test.{test}
 use Rattle.fair.specs.Advertise.{heardOf, toldOf}
-use Rattle.fair.specs.Age.{ageOf}
+use Rattle.fair.specs.Age.{ageOf, shownFour}
 use Rattle.fair.specs.Count.{beyond, countOf, over}
 use Rattle.fair.specs.Range.{fairOk, fourOk}
 use Rattle.fair.specs.Start.{startOf}
 use Rattle.fair.specs.declared.Fair.{Fair}
 use Rattle.fair.specs.declared.Four.{Four}
+use Rattle.fair.specs.declared.Stored.{Stored}
 use Rattle.rates.specs.Rates.{shareOf}
 use Rattle.settings.specs.declared.Settings.{Settings}
 use mathlib.Core.Bool.{Bool}
@@ -23,6 +24,8 @@ pub record Functions : Type 0 where
   pub fair-heard : (self : Fair) (advert : Advert) → Determined (λ (r : Fair). r ≡ heardOf self advert)
   -- Four::in_range
   pub four-in-range : (self : Four) → Determined (λ (r : Bool). r ≡ test (fourOk self))
+  -- Stored::shown (a leaf: it asks that StoredOk coef self)
+  pub stored-shown : (self : Stored) (coef : ℕ) → Determined (λ (r : Four). r ≡ shownFour coef self)
   -- Fair::in_range
   pub fair-in-range : (self : Fair) (settings : Settings) → Determined (λ (r : Bool). r ≡ test (fairOk settings self))
   -- Fair::start
@@ -33,7 +36,7 @@ pub record Functions : Type 0 where
   pub fair-is-over : (self : Fair) (size hops : ℕ) → Determined (λ (r : Bool). r ≡ test (over self size hops))
   -- Fair::count
   pub fair-count : (self : Fair) (settings : Settings) (origin mark hops size : ℕ) → Determined (λ (r : Fair). r ≡ countOf settings self origin mark hops size)
-  -- Fair::age
+  -- Fair::age (a leaf: it asks that SettingsOk settings × FairOk settings self)
   pub fair-age : (self : Fair) (settings : Settings) (held : ℕ) → Determined (λ (r : Fair). r ≡ ageOf self settings held)
   -- Fair::share
   pub fair-share : (self : Fair) (settings : Settings) → Determined (λ (r : ℕ). r ≡ shareOf (self .decided .allowed) (settings .fairness .age) (settings .fairness .ticks))

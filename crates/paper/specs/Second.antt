@@ -1,8 +1,8 @@
--- The second condition of acceptance, in its own words: credits, frame selection, fair rates, ringlet choice and fairness frames equal the rules of document 01,
--- step for step; fairness frames are both written and read. That each exported call does what the definitions say is its contract (`AnswersDetermined` has
+-- The second condition of acceptance, in its own words: credits, frame selection, fair rates, ringlet choice and fairness frames equal the rules of documents 01
+-- and 02, step for step; fairness frames are both written and read. That each exported call does what the definitions say is its contract (`AnswersDetermined` has
 -- them all, made from the contracts' own text). What the host is told and finds is said in Host.antt; which rule each call of a station applies to which of its parts by `Acts` and
 -- `Listens`; here stand the rules, in the paper's words. Ranges and refusals are the first condition's. Assumes nothing.
-use Prim.Native.Nat.{ℕ, suc, _+_, _*_, _-_, _/_, _%_, _^_, _≤_, _<_, min}
+use Prim.Native.Nat.{ℕ, suc, _+_, _*_, _-_, _/_, _%_, _^_, _≤_, _<_, min, max}
 use mathlib.Core.Bool.{true, false}
 use mathlib.Core.List.{List, [], _∷_}
 use mathlib.Core.Logic.{_⊎_, _↔_}
@@ -28,6 +28,8 @@ use Rattle.flow.specs.Frames.{Holding, Staged}
 use Rattle.selection.specs.Select as selection
 use Rattle.selection.specs.Select.{controlReady, primaryReady, needy, stageReady, secondaryReady, leaves, leavesCharged, leavesStage, nothingOf}
 use Rattle.selection.specs.Frames.{Moves}
+use Rattle.rates.specs.Rates.{smoothedOf, shownOf}
+use Rattle.rates.specs.Steady.{steadyOf, gapOf}
 use Rattle.fair.specs.declared.Fair.{Fair}
 use Rattle.advert.specs.declared.Advert.{Advert}
 use Rattle.fair.specs.Age as interval
@@ -45,10 +47,13 @@ use Rattle.station.specs.declared.Station.{Station}
 use Rattle.station.specs.Range.{StationOk}
 use Rattle.station.specs.History as history
 use Rattle.station.specs.History.{Call, Answer, Recorded, step}
+use Rattle.station.specs.Steady.{Rate}
 use Rattle.layout.specs.Layout.{stationLength}
+use Rattle.layout.specs.Reading.{readingLength}
 use Rattle.rpr.specs.Station.{startAnswer}
 use Rattle.rpr.specs.Lent.{Lending, memoryThrough, NoNewStart, startedIn, stationIn}
 use Rattle.rpr.specs.Told.{recordTold}
+use Rattle.rpr.specs.Steady.{shownWord, smoothedWord, intervalsIn, SteadyIn, GivesRate}
 use Rattle.rpr.specs.Ways.{chooseAnswer}
 use Rattle.rpr.specs.Pairs.{PairTold}
 use Rattle.rpr.specs.Says.{Keeps}
@@ -111,16 +116,18 @@ pub record Selects (s : Settings) (f : Flow) : Type 0 where
 -- ---- fair rates: an aging interval, with so many bytes in the secondary queue
 
 pub record Ages (f : Fair) (s : Settings) (held : ℕ) : Type 0 where
-  -- Each of the four smoothed rates becomes floor(((lpCoef−1) × lp + rate) / lpCoef).
+  -- Each stored number s becomes s − floor(s / lpCoef) + rate (document 02, A4).
   pub smoothed : interval.ageOf f s held .smoothed
       ≡ record {
-        add = ((s .fairness .lp - 1) * f .smoothed .add + f .counters .add) / s .fairness .lp;
-        fw = ((s .fairness .lp - 1) * f .smoothed .fw + f .counters .fw) / s .fairness .lp;
-        addc = ((s .fairness .lp - 1) * f .smoothed .addc + f .counters .addc) / s .fairness .lp;
-        fwc = ((s .fairness .lp - 1) * f .smoothed .fwc + f .counters .fwc) / s .fairness .lp;
+        add = f .smoothed .add - f .smoothed .add / s .fairness .lp + f .counters .add;
+        fw = f .smoothed .fw - f .smoothed .fw / s .fairness .lp + f .counters .fw;
+        addc = f .smoothed .addc - f .smoothed .addc / s .fairness .lp + f .counters .addc;
+        fwc = f .smoothed .fwc - f .smoothed .fwc / s .fairness .lp + f .counters .fwc;
       }
-  -- Locally congested: secondary bytes > low threshold. localFairRate: lpAddRate if locally congested, else unreservedRate.
-  pub congested : s .queues .threshold < held → (interval.ageOf f s held .decided .congested ≡ 1) × (interval.ageOf f s held .decided .local ≡ interval.ageOf f s held .smoothed .add)
+  -- Locally congested: secondary bytes > low threshold. localFairRate: lpAddRate, as it is shown, if locally congested, else
+  -- unreservedRate.
+  pub congested : s .queues .threshold < held
+      → (interval.ageOf f s held .decided .congested ≡ 1) × (interval.ageOf f s held .decided .local ≡ interval.ageOf f s held .smoothed .add / s .fairness .lp)
   pub not-congested : held ≤ s .queues .threshold → (interval.ageOf f s held .decided .congested ≡ 0) × (interval.ageOf f s held .decided .local ≡ s .fairness .unreserved)
   -- allowedRate: the smaller of localFairRate and unreservedRate if locally congested, else allowedRate + floor((unreservedRate − allowedRate) / rampUp).
   pub allowed-congested : s .queues .threshold < held → interval.ageOf f s held .decided .allowed ≡ min (interval.ageOf f s held .decided .local) (s .fairness .unreserved)
@@ -140,6 +147,34 @@ pub record Ages (f : Fair) (s : Settings) (held : ℕ) : Type 0 where
   pub keeps : interval.ageOf f s held .received ≡ f .received
   -- Own rate is floor(localFairRate / (weight × unit)), at most 65,534.
   pub own : interval.ageOf f s held .decided .own ≡ min (interval.ageOf f s held .decided .local / (s .fairness .weight * s .fairness .unit)) 65534
+
+-- ---- smoothed rates do not stop short (document 02, A4)
+
+-- At an interval with this rate, of the stored number s:
+pub record Steadies (coef rate s : ℕ) : Type 0 where
+  -- With a steady rate, s must not stand still unless the shown rate equals it.
+  pub stands : (smoothedOf coef s rate ≡ s) ↔ (shownOf coef s ≡ rate)
+  -- Where less is shown it rises, where more is shown it falls, by the difference.
+  pub rises : shownOf coef s < rate → smoothedOf coef s rate ≡ s + (rate - shownOf coef s)
+  pub falls : rate < shownOf coef s → s ≡ smoothedOf coef s rate + (shownOf coef s - rate)
+  -- The rate shown does not pass the steady rate,
+  pub not-above : 0 < coef → shownOf coef s ≤ rate → (shownOf coef s ≤ shownOf coef (smoothedOf coef s rate)) × (shownOf coef (smoothedOf coef s rate) ≤ rate)
+  pub not-below : 0 < coef → rate ≤ shownOf coef s → (rate ≤ shownOf coef (smoothedOf coef s rate)) × (shownOf coef (smoothedOf coef s rate) ≤ shownOf coef s)
+  -- and it comes to it: after k × lpCoef intervals where it was less than 2 ^ k off, and after 31 × lpCoef from any number in range.
+  pub arrives : 0 < coef → (k n : ℕ) → gapOf (shownOf coef s) rate < 2 ^ k → k * coef ≤ n → shownOf coef (steadyOf coef rate n s) ≡ rate
+  pub arrives-always : 0 < coef → (n : ℕ) → shownOf coef s ≤ 2147483647 → rate ≤ 2147483647 → 31 * coef ≤ n → shownOf coef (steadyOf coef rate n s) ≡ rate
+  -- What is shown is at most the larger of what was shown and of the rate: so it stays in its range,
+  pub within : shownOf coef (smoothedOf coef s rate) ≤ max (shownOf coef s) rate
+  -- which one product tells.
+  pub range : 0 < coef → (shownOf coef s ≤ 2147483647) ↔ (s < coef * 2147483648)
+
+-- Over the host's calls, where the counter of this rate stands at the same number at each rpr_age among them: rpr_show gives that number
+pub record TellsSteady (room mem : List ℕ) (calls : List Lending) (k : Rate) (rate : ℕ) : Type 0 where
+  -- after j × lpCoef of them where what was shown was less than 2 ^ j off,
+  pub soon : (j : ℕ) → gapOf (shownWord room mem (smoothedWord k)) rate < 2 ^ j → j * stationIn mem .settings .fairness .lp ≤ intervalsIn mem calls
+      → GivesRate room (memoryThrough mem calls) k rate
+  -- and after 31 × lpCoef always.
+  pub always : 31 * stationIn mem .settings .fairness .lp ≤ intervalsIn mem calls → GivesRate room (memoryThrough mem calls) k rate
 
 -- ---- ringlet choice and path
 
@@ -276,9 +311,15 @@ pub record Condition2 : Type 0 where
   pub selection : (s : Settings) (f : Flow) → Selects s f
   pub counting : (s : Settings) (f : Fair) (hops size : ℕ) → Counts s f hops size
   pub rates : (f : Fair) (s : Settings) (held : ℕ) → Ages f s held
-  -- Local congestion and own rate hold till the next interval: no call but that of an interval changes them.
+  -- Smoothed rates come to a steady rate, whatever is stored; and so a host sees them, over any calls from any station in range, none a new start.
+  pub steady : (coef rate s : ℕ) → Steadies coef rate s
+  pub steady-told : (mem room : List ℕ) → Bytes (take stationLength mem) → length (take stationLength mem) ≡ stationLength → StationOk (stationIn mem)
+      → length room ≡ readingLength → (calls : List Lending) → NoNewStart mem calls → (k : Rate) (rate : ℕ) → SteadyIn room k rate mem calls
+      → TellsSteady room mem calls k rate
+  -- Local congestion and own rate hold till the next interval, with all else that it decides and with the stored numbers: no call but that of an interval
+  -- changes them.
   pub holding : (st : Station) (c : Call) → (c ≡ history.age → ⊥)
-      → (step c st .station .fair .decided .congested ≡ st .fair .decided .congested) × (step c st .station .fair .decided .own ≡ st .fair .decided .own)
+      → (step c st .station .fair .decided ≡ st .fair .decided) × (step c st .station .fair .smoothed ≡ st .fair .smoothed)
   pub telling : (f : Fair) (s : Settings) → Tells f s
   pub hearing : (f : Fair) (a : Advert) → Hears f a
   pub reading : (frame : List ℕ) → Reads frame

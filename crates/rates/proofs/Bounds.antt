@@ -1,10 +1,9 @@
 -- What each rate stays within, whatever the coefficients are: a quotient is at most what was divided.
 -- Assumes nothing.
-use Prim.Native.Nat.{ℕ, zero, suc, _+_, _-_, _*_, _≤_, _<_}
-use mathlib.Core.Path.{_≡_}
-use native.Mathlib.Nat.{mul-comm, mul-le-mul-left, mul-div-le, div-zero, div-le-self, div-le-of-le-mul, div-lt-iff-lt-mul}
+use Prim.Native.Nat.{ℕ, _+_, _-_, _*_, _≤_, _<_}
+use native.Mathlib.Nat.{mul-comm, mul-le-mul-left, mul-div-le, div-le-self, div-le-of-le-mul, div-lt-iff-lt-mul}
 use native.Mathlib.Omega.{arith}
-use Rattle.rates.specs.Rates.{partOf, smoothedOf, shownOf, agedOf, rampedOf, allowanceOf, ownRateOf, countedOf, shareOf}
+use Rattle.rates.specs.Rates.{partOf, shownOf, agedOf, rampedOf, allowanceOf, ownRateOf, countedOf, shareOf}
 
 -- ---- a part is the largest whole number that is not above x / coef
 
@@ -22,17 +21,9 @@ part-le x coef = div-le-self x coef
 
 -- ---- rates and counters
 
-pub shown-within : (lp : ℕ) → shownOf lp ≤ lp
+pub shown-le : (coef s : ℕ) → shownOf coef s ≤ s
 unfolding shownOf
-shown-within lp = omega arith
-
--- a bound of what was stored and of the rate is one of what is stored then
-pub smoothed-within : (coef lp rate most : ℕ) → lp ≤ most → rate ≤ most → smoothedOf coef lp rate ≤ most
-unfolding smoothedOf partOf
-smoothed-within zero lp rate most a b = omega (arith, div-zero ((0 - 1) * lp + rate))
-smoothed-within (suc k) lp rate most a b =
-    let e : suc k - 1 ≡ k = omega arith in
-    div-le-of-le-mul (suc k) (rw e (omega (arith, mul-le-mul-left k a)))
+shown-le coef s = part-le s coef
 
 pub aged-within : (counter coef : ℕ) → agedOf counter coef ≤ counter
 unfolding agedOf partOf

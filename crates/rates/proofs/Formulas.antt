@@ -1,17 +1,27 @@
 -- The paper's formulas: what each rate is, in plain arithmetic. Whoever needs a formula cites it here.
 -- Assumes nothing.
-use Prim.Native.Nat.{ℕ, _+_, _-_, _*_, _/_, min}
+use Prim.Native.Nat.{ℕ, suc, _+_, _-_, _*_, _/_, min}
 use mathlib.Core.Path.{_≡_, refl}
 use Rattle.rates.specs.Rates.{partOf, smoothedOf, shownOf, agedOf, rampedOf, allowanceOf, ownRateOf, shareOf}
+use Rattle.rates.specs.Steady.{steadyOf}
 
--- floor(((lpCoef−1) × lp + rate) / lpCoef), which is shown as it is stored
-pub smoothed-is : (coef lp rate : ℕ) → smoothedOf coef lp rate ≡ ((coef - 1) * lp + rate) / coef
+-- s − floor(s / lpCoef) + rate, of which floor(s / lpCoef) is shown
+pub smoothed-is : (coef s rate : ℕ) → smoothedOf coef s rate ≡ s - s / coef + rate
 unfolding smoothedOf partOf
-smoothed-is coef lp rate = refl
+smoothed-is coef s rate = refl
 
-pub shown-is : (lp : ℕ) → shownOf lp ≡ lp
-unfolding shownOf
-shown-is lp = refl
+pub shown-is : (coef s : ℕ) → shownOf coef s ≡ s / coef
+unfolding shownOf partOf
+shown-is coef s = refl
+
+-- with a steady rate, after no interval and after one more
+pub steady-none : (coef rate s : ℕ) → steadyOf coef rate 0 s ≡ s
+unfolding steadyOf
+steady-none coef rate s = refl
+
+pub steady-next : (coef rate n s : ℕ) → steadyOf coef rate (suc n) s ≡ steadyOf coef rate n (smoothedOf coef s rate)
+unfolding steadyOf
+steady-next coef rate n s = refl
 
 -- floor(rate × (ageCoef−1) / ageCoef)
 pub aged-is : (rate coef : ℕ) → agedOf rate coef ≡ rate * (coef - 1) / coef

@@ -1,3 +1,4 @@
 pub mod Formulas
 pub mod Bounds
 pub mod Series
+pub mod Steady

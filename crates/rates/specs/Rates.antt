@@ -1,18 +1,23 @@
--- The arithmetic of document 01's rates, each rule from its sentence. A quotient of natural numbers is rounded down, and by 0 it is 0.
--- Assumes nothing.
+-- The arithmetic of the rates of document 01 and of document 02, A4, each rule from its sentence. A quotient of natural numbers is rounded down, and by
+-- 0 it is 0. Assumes nothing.
 use Prim.Native.Nat.{ℕ, _+_, _-_, _*_, _/_, min}
+use Rattle.decide.specs.Test.{Test, _≤?_}
 
 -- floor(x / coef), of a coefficient: ageCoef, lpCoef or rampUp.
 unfoldable pub partOf : ℕ → ℕ → ℕ
 partOf x coef = x / coef
 
--- Each of the four smoothed rates becomes floor(((lpCoef−1) × lp + rate) / lpCoef).
+-- Each smoothed rate is kept times lpCoef, as a stored number s; at an interval s becomes s − floor(s / lpCoef) + rate,
 unfoldable pub smoothedOf : ℕ → ℕ → ℕ → ℕ
-smoothedOf lpCoef lp rate = partOf ((lpCoef - 1) * lp + rate) lpCoef
+smoothedOf lpCoef s rate = s - partOf s lpCoef + rate
 
--- The smoothed rate that is read off what is stored: the number itself.
-unfoldable pub shownOf : ℕ → ℕ
-shownOf lp = lp
+-- and the rate shown is floor(s / lpCoef).
+unfoldable pub shownOf : ℕ → ℕ → ℕ
+shownOf lpCoef s = partOf s lpCoef
+
+-- A lent station's range binds the rate shown, not s itself: other rates at most 2,147,483,647.
+abbrev pub shownOk : ℕ → ℕ → Test
+shownOk lpCoef s = shownOf lpCoef s ≤? 2147483647
 
 -- Each counter becomes floor(rate × (ageCoef−1) / ageCoef).
 unfoldable pub agedOf : ℕ → ℕ → ℕ

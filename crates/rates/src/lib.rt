@@ -1,10 +1,15 @@
-// The arithmetic of the fairness rates. Every function takes any numbers: products are of 64 bits, and what is divided by 0 gives 0.
+// The arithmetic of the fairness rates. Products and stored numbers are of 64 bits, and what is divided by 0 gives 0. Every function but `smoothed`, whose sum must
+// fit, takes any numbers.
 ghost use mathlib.Core.Path.{_≡_};
-ghost use Prim.Native.Nat.{_/_};
-ghost use Rattle.rates.specs.Rates.{partOf, smoothedOf, shownOf, agedOf, rampedOf, allowanceOf, ownRateOf, countedOf, shareOf};
+ghost use Prim.Native.Nat.{_+_, _/_, _^_, _<_};
+ghost use Rattle.decide.specs.Test.{test};
+ghost use Rattle.rates.specs.Rates.{partOf, smoothedOf, shownOf, shownOk, agedOf, rampedOf, allowanceOf, ownRateOf, countedOf, shareOf};
 
 // The largest number that a counter holds.
 const MOST_COUNTED: u64 = 2147483647;
+
+// The first number above every rate.
+const ABOVE_RATES: u64 = 2147483648;
 
 // The largest own rate: 65,535 is FULL_RATE.
 const MOST_OWN: u64 = 65534;
@@ -19,19 +24,26 @@ pub fn part(x: u64, coef: u32) -> u64
     quotient(x, coef as u64)
 }
 
-// What is stored for a smoothed rate after an interval, from what was stored, the rate's counter and lpCoef.
-pub fn smoothed(coef: u32, stored: u32, rate: u32) -> u32
+// What is stored for a smoothed rate after an interval, from lpCoef, what was stored and the rate's counter.
+pub fn smoothed(coef: u32, stored: u64, rate: u32) -> u64
+    requires { ⌜ stored + rate < 2 ^ 64 ⌝ }
     ensures { λ r. ⌜ r ≡ smoothedOf coef stored rate ⌝ }
 {
-    let kept = decide::less(coef as u64, 1) * stored as u64;
-    part(kept + rate as u64, coef) as u32
+    stored - shown(coef, stored) + rate as u64
 }
 
 // The smoothed rate that a stored number stands for.
-pub fn shown(stored: u32) -> u32
-    ensures { λ r. ⌜ r ≡ shownOf stored ⌝ }
+pub fn shown(coef: u32, stored: u64) -> u64
+    ensures { λ r. ⌜ r ≡ shownOf coef stored ⌝ }
 {
-    stored
+    part(stored, coef)
+}
+
+// Whether the smoothed rate that a stored number stands for is in its range, told without a divide. By 0 the rate is 0.
+pub fn shown_ok(coef: u32, stored: u64) -> bool
+    ensures { λ r. ⌜ r ≡ test (shownOk coef stored) ⌝ }
+{
+    (stored < coef as u64 * ABOVE_RATES) | (coef == 0)
 }
 
 // A counter after an interval, by ageCoef.

@@ -17,3 +17,4 @@ pub mod Told
 pub mod Kept
 pub mod Pieces
 pub mod Reading
+pub mod Steady

@@ -9,6 +9,7 @@ use Rattle.queue.specs.declared.Queue.{Queue}
 use Rattle.queue.specs.Range.{QueueOk}
 use Rattle.queue.proofs.Laws.{held-sums, count-frames}
 use Rattle.flow.specs.declared.Line.the-variants.{Control, Primary, Secondary}
+use Rattle.fair.proofs.Age.{shown-four}
 use Rattle.station.specs.declared.Reading.{Reading}
 use Rattle.station.specs.declared.Station.{Station}
 use Rattle.station.proofs.Hear.{held-none, held-one}
@@ -38,7 +39,7 @@ show-words {xs} {st} k room h =
       empty-stage = λ e. ap (λ (r : Reading). heldWords (r .stage)) reads ∙ ap heldWords (held-none (st .flow .stage) e);
       stage = λ n. ap (λ (r : Reading). heldWords (r .stage)) reads ∙ ap heldWords (held-one (st .flow .stage) n);
       counters = ap (λ (r : Reading). fourWords (r .counters)) reads;
-      smoothed = ap (λ (r : Reading). fourWords (r .smoothed)) reads;
+      smoothed = ap (λ (r : Reading). fourWords (r .smoothed)) reads ∙ ap fourWords (shown-four (st .settings .fairness .lp) (st .fair .smoothed));
       decided = ap (λ (r : Reading). r .decided .local ∷ r .decided .allowed ∷ r .decided .allowedc ∷ r .decided .own ∷ []) reads;
       congested = ap (λ (r : Reading). r .decided .congested ∷ r .received .downstream ∷ []) reads;
       received = ap (λ (r : Reading). r .received .ttl ∷ r .received .high ∷ r .received .low ∷ r .received .rate ∷ []) reads;

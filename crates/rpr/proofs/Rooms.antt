@@ -50,7 +50,7 @@ module _ {xs : List ℕ} {st : Station} (k : Keeps xs st) (room : List ℕ) wher
   unfolding showAnswer showAfter
   show-done h =
       let g = then-whole-gives _ room _ h _ _ _ _ xs (k .whole) (taken-on _ _ _ _ lent-row) in
-      (sym (g .0), ap readingAt (sym (g .1)) ∙ reading-of-bytes (readingOf (stationAt xs)) (reading-fits (station-fits xs (k .bytes))) ∙ ap readingOf (k .holds))
+      (sym (g .0), ap readingAt (sym (g .1)) ∙ reading-of-bytes (readingOf (stationAt xs)) (reading-fits (subst StationOk (sym (k .holds)) (k .in-range)) (station-fits xs (k .bytes))) ∙ ap readingOf (k .holds))
 
   -- rpr_write_frame: the room holds the frame that the station advertises
   pub write-frame-done : length room ≡ 12 → (writeFrameAnswer xs room ≡ 0) × (writeFrameAfter xs room ≡ advertBytes (toldOf (st .fair) (st .settings)))

@@ -8,3 +8,4 @@ pub mod Told
 pub mod Pairs
 pub mod Pieces
 pub mod Reading
+pub mod Steady

@@ -1,6 +1,6 @@
 -- What a host reads in the room of rpr_show: 31 words of 4 bytes, group by group.
 -- Assumes nothing.
-use Prim.Native.Nat.{ℕ, _*_}
+use Prim.Native.Nat.{ℕ, _*_, _/_}
 use mathlib.Core.List.{List, [], _∷_}
 use mathlib.Core.Path.{_≡_}
 use lib.ListN.{length}
@@ -30,8 +30,10 @@ pub record ShowsWords (bytes : List ℕ) (st : Station) : Type 0 where
   pub stage : (st .flow .stage ≡ 0 → ⊥) → wordsFrom bytes 11 2 ≡ 1 ∷ frameOf (st .flow .stage) .size ∷ []
   -- 13 to 16: addRate, fwRate, addRateCongested, fwRateCongested
   pub counters : wordsFrom bytes 13 4 ≡ st .fair .counters .add ∷ st .fair .counters .fw ∷ st .fair .counters .addc ∷ st .fair .counters .fwc ∷ []
-  -- 17 to 20: the smoothed rates, in the same order
-  pub smoothed : wordsFrom bytes 17 4 ≡ st .fair .smoothed .add ∷ st .fair .smoothed .fw ∷ st .fair .smoothed .addc ∷ st .fair .smoothed .fwc ∷ []
+  -- 17 to 20: the smoothed rates, in the same order, as they are shown: floor(s / lpCoef) of what is stored
+  pub smoothed :
+      let n = st .settings .fairness .lp in
+      wordsFrom bytes 17 4 ≡ st .fair .smoothed .add / n ∷ st .fair .smoothed .fw / n ∷ st .fair .smoothed .addc / n ∷ st .fair .smoothed .fwc / n ∷ []
   -- 21 to 24: localFairRate, allowedRate, allowedRateCongested, own rate
   pub decided : wordsFrom bytes 21 4 ≡ st .fair .decided .local ∷ st .fair .decided .allowed ∷ st .fair .decided .allowedc ∷ st .fair .decided .own ∷ []
   -- 25 26: locally congested, downstream congested

@@ -12,9 +12,9 @@ use summary::Outcome;
 const NOT_WHOLE: u64 = 2;
 
 // The two numbers of the version that this library is, as rpr.h has them in RPR_VERSION.
-const VERSION: u64 = 1;
+const VERSION: u64 = 2;
 
-const REVISION: u64 = 3;
+const REVISION: u64 = 0;
 
 // The version: 256 times its first number and the second.
 #[no_mangle]

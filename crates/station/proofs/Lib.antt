@@ -9,6 +9,7 @@ pub mod Interval
 pub mod Refused
 pub mod Kept
 pub mod History
+pub mod Steady
 pub mod ReadBack
 pub mod Narrow
 pub mod Examples

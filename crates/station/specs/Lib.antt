@@ -6,4 +6,5 @@ pub mod Offers
 pub mod Hear
 pub mod Show
 pub mod History
+pub mod Steady
 pub mod Narrow

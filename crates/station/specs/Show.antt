@@ -8,6 +8,7 @@ use Rattle.decide.specs.Refusal.{Fault, firstOf, refusedOr}
 use Rattle.queue.specs.declared.Queue.{Queue}
 use Rattle.queue.specs.Frame.{frameOf}
 use Rattle.fair.specs.Start.{noneCounted}
+use Rattle.fair.specs.Age.{shownFour}
 use Rattle.station.specs.declared.Station.{Station}
 use Rattle.station.specs.declared.Held.{Held}
 use Rattle.station.specs.declared.Reading.{Reading}
@@ -22,8 +23,8 @@ heldIn q = record { frames = q .count; bytes = q .held }
 unfoldable pub heldOn : ℕ → Held
 heldOn w = cond (eqb w 0) (record { frames = 0; bytes = 0 }) (record { frames = 1; bytes = frameOf w .size })
 
--- the credits of M, A, B, C, D; what control, primary and secondary queue and the stage hold; the counters, the smoothed rates, what intervals decide,
--- and what was received
+-- the credits of M, A, B, C, D; what control, primary and secondary queue and the stage hold; the counters, the smoothed rates as they are shown, what
+-- intervals decide, and what was received
 abbrev pub readingOf : Station → Reading
 readingOf st =
     record {
@@ -33,7 +34,7 @@ readingOf st =
       secondary = heldIn (st .flow .secondary);
       stage = heldOn (st .flow .stage);
       counters = st .fair .counters;
-      smoothed = st .fair .smoothed;
+      smoothed = shownFour (st .settings .fairness .lp) (st .fair .smoothed);
       decided = st .fair .decided;
       received = st .fair .received;
     }

@@ -3,7 +3,7 @@
 // station is in range, by a caller that has tested it already.
 ghost use mathlib.Core.Path.{_≡_};
 ghost use Rattle.decide.specs.Test.{test};
-ghost use Rattle.station.specs.Range.{stationOk};
+ghost use Rattle.station.specs.Range.{stationOk, StationOk};
 ghost use Rattle.station.specs.Answers.{refusedOf, doneOf, chosenOf, notChosenOf};
 ghost use Rattle.station.specs.Calls.{flagsOk, freshOf, startOf, tickedOf, tickOf, selectOf, agedOf, ageOf};
 ghost use Rattle.station.specs.Pick.{seenAs, pickOf};
@@ -78,8 +78,8 @@ pub struct Held {
     pub bytes: u32,
 }
 
-// A reading of a station: its 31 words are these numbers in this order, 5 credits, 8 of what is held, 8 of the counters and the smoothed rates, and 5 each
-// of what intervals decide and of what was received.
+// A reading of a station: its 31 words are these numbers in this order, 5 credits, 8 of what is held, 8 of the counters and the smoothed rates as they are
+// shown, and 5 each of what intervals decide and of what was received.
 pub struct Reading {
     pub credits: Credits,
     pub control: Held,
@@ -263,8 +263,9 @@ impl Station {
         }
     }
 
-    // The station after an interval.
+    // The station after an interval. It must be in range.
     fn aged(self) -> Station
+        requires { ⌜ StationOk self ⌝ }
         ensures { λ r. ⌜ r ≡ agedOf self ⌝ }
     {
         let settings = self.settings;

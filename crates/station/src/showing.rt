@@ -1,7 +1,7 @@
 // A reading of the station, for whoever watches it.
 ghost use mathlib.Core.Path.{_≡_};
 ghost use Rattle.decide.specs.Test.{test};
-ghost use Rattle.station.specs.Range.{stationOk};
+ghost use Rattle.station.specs.Range.{stationOk, StationOk};
 ghost use Rattle.station.specs.Show.{heldIn, heldOn, readingOf, blankOf, showOf};
 use crate::Held;
 use crate::Reading;
@@ -43,15 +43,17 @@ impl Station {
         }
     }
 
-    // What a reading of the station says.
+    // What a reading of the station says. It must be in range.
     fn reading(self) -> Reading
+        requires { ⌜ StationOk self ⌝ }
         ensures { λ r. ⌜ r ≡ readingOf self ⌝ }
     {
         let flow = self.flow;
         let credits = flow.credits;
         let fair = self.fair;
         let counters = fair.counters;
-        let smoothed = fair.smoothed;
+        let settings = self.settings;
+        let smoothed = fair.smoothed.shown(settings.fairness.lp);
         let decided = fair.decided;
         let received = fair.received;
         Reading {

@@ -32,6 +32,7 @@ pub mod shortfalls;
 pub mod station;
 pub mod station_call;
 pub mod station_script;
+pub mod steady;
 pub mod summary;
 pub mod tally;
 pub mod text;

@@ -1,7 +1,7 @@
 //! Stations to try: plain settings, random settings and settings just out of range.
 
 use crate::random::Random;
-use crate::station::settings::{self, WORDS};
+use crate::station::settings::{self, LP_COEFS, WORDS};
 use crate::station::Station;
 
 /// Small limits and queues: mtu 64, every shaper 100, 300, 50; queues of 256 bytes, low
@@ -112,7 +112,6 @@ fn lively(random: &mut Random) -> [u32; WORDS] {
 
 /// Valid settings.
 pub fn settings(random: &mut Random) -> [u32; WORDS] {
-    const SLOW: [u32; 6] = [16, 32, 64, 128, 256, 512];
     let mut words = match random.below(5) {
         0 => wide(random),
         _ => lively(random),
@@ -121,8 +120,8 @@ pub fn settings(random: &mut Random) -> [u32; WORDS] {
     words[1] = random.word() as u32;
     words[2] = random.below(2) as u32;
     words[27] = random.pick(&[1, 2, 4, 8, 16]);
-    words[28] = random.pick(&SLOW);
-    words[29] = random.pick(&SLOW);
+    words[28] = random.pick(&LP_COEFS) as u32;
+    words[29] = random.pick(&LP_COEFS) as u32;
     if random.one_in(4) {
         eager(random, &mut words);
     }

@@ -4,9 +4,10 @@ use model::lent_call::{apply, After};
 use model::make_damage::{self, damage, take, Step};
 use model::make_station;
 use model::random::Random;
-use model::station::layout::{put_word, write, STATION_LENGTH};
-use model::station::range::{every_fault, faults, in_range};
-use model::station::settings;
+use model::station::layout::{put_word, read, write, STATION_LENGTH};
+use model::station::range::{every_fault, faults, in_range, most_stored};
+use model::station::reading::NAMES;
+use model::station::settings::{self, LP_COEFS};
 use model::station_call::Call;
 use std::collections::BTreeSet;
 
@@ -17,7 +18,7 @@ fn plain() -> Vec<u8> {
 /// The plain station with a received ttl of 192.
 fn bad() -> Vec<u8> {
     let mut bytes = plain();
-    put_word(&mut bytes, 1_634, 192);
+    put_word(&mut bytes, 1_650, 192);
     bytes
 }
 
@@ -74,7 +75,7 @@ fn one_comes_before_the_later_ones() {
 #[test]
 fn two_comes_before_one() {
     for call in calls() {
-        for length in [0, 1_769, 1_771] {
+        for length in [0, 1_785, 1_787] {
             let mut bytes = bad();
             bytes.resize(length, 0);
             assert_eq!(refused(&call, &bytes), 2, "{call}");
@@ -105,7 +106,7 @@ fn two_comes_before_one() {
 fn the_ringlet_of_a_station_out_of_range() {
     for (ringlet, answers) in [(0, [2, 1]), (1, [1, 2]), (2, [1, 1]), (257, [1, 1])] {
         let mut bytes = bad();
-        put_word(&mut bytes, 1_658, ringlet);
+        put_word(&mut bytes, 1_674, ringlet);
         for (bit, answer) in [0x20, 0xa0].into_iter().zip(answers) {
             let frame = vec![200, bit, 0, 0, 0, 0, 0, 9, 0, 0, 0, 5];
             assert_eq!(refused(&Call::Hear(frame), &bytes), answer);
@@ -165,6 +166,94 @@ fn settings_alone_out_of_range() {
     }
     let all: BTreeSet<String> = settings::every_fault().into_iter().collect();
     assert_eq!(alone, all);
+}
+
+/// The steps of a stored number's range: the largest is accepted, the next is 1 for each
+/// call, and nothing else is wrong then.
+#[test]
+fn each_stored_number_alone_out_of_range() {
+    let mut random = Random::new(7);
+    for lp_coef in LP_COEFS {
+        let sound = write(&make_station::station(&[(28, lp_coef as u32)]));
+        for at in 0..4 {
+            let mut bytes = sound.clone();
+            take(&mut random, &mut bytes, Step::Bound(9 + at, 2));
+            let largest = read(&bytes).unwrap().stored.list()[at];
+            assert_eq!(largest, lp_coef * 2_147_483_648 - 1);
+            for call in calls() {
+                assert_ne!(apply(&call, &bytes, &call.other_slice(7)).answer, 1);
+            }
+            take(&mut random, &mut bytes, Step::Bound(9 + at, 3));
+            assert_eq!(faults(&bytes), [NAMES[17 + at]]);
+            for call in calls() {
+                assert_eq!(refused(&call, &bytes), 1, "{call}");
+            }
+        }
+    }
+}
+
+/// Another rest below lpCoef leaves the rate shown, and every rest comes.
+#[test]
+fn each_rest_of_a_stored_number() {
+    let mut random = Random::new(8);
+    let mut station = make_station::station(&[(28, 16)]);
+    station.stored.fw = 37 * 16 + 5;
+    let mut rests = BTreeSet::new();
+    for which in (0..4).chain([3; 200]) {
+        let mut bytes = write(&station);
+        take(&mut random, &mut bytes, Step::Rest(5, which));
+        let read = read(&bytes).unwrap();
+        assert_eq!(read.shown().fw, 37);
+        let rest = read.stored.fw % 16;
+        assert!([0, 1, 15, rest][which] == rest);
+        rests.insert(rest);
+    }
+    assert!(rests.into_iter().eq(0..16));
+}
+
+/// The least lpCoef that a stored number still fits, and half of it.
+#[test]
+fn an_lp_coef_that_just_fits() {
+    let mut random = Random::new(9);
+    let mut station = make_station::station(&[(28, 512)]);
+    station.stored.add_congested = 64 * 2_147_483_648 - 1;
+    let with = |random: &mut Random, step: Step| {
+        let mut bytes = write(&station);
+        take(random, &mut bytes, step);
+        bytes
+    };
+    let fits = read(&with(&mut random, Step::Setting(28, 6))).unwrap();
+    assert_eq!(fits.settings.lp_coef, 64);
+    let half = with(&mut random, Step::Setting(28, 7));
+    assert_eq!(faults(&half), ["lpAddRateCongested"]);
+    let fitted = read(&with(&mut random, Step::Fitted(28, 7))).unwrap();
+    assert_eq!(fitted.settings.lp_coef, 32);
+    assert_eq!(fitted.stored.add_congested, most_stored(32));
+}
+
+/// Stations made wild have stored numbers with every rest, and the largest; an interval
+/// leaves each in range.
+#[test]
+fn wild_stored_numbers() {
+    let mut random = Random::new(10);
+    let steps = make_damage::every_step();
+    let sound = write(&make_station::station(&[(28, 16)]));
+    let mut rests = [(); 4].map(|()| BTreeSet::new());
+    let mut largest = [false; 4];
+    for _ in 0..3_000 {
+        let bytes = make_damage::wild(&mut random, &sound, &steps);
+        assert!(in_range(&apply(&Call::Age, &bytes, &[]).station));
+        let station = read(&bytes).unwrap();
+        let lp_coef = station.settings.lp_coef;
+        for (at, stored) in station.stored.list().into_iter().enumerate() {
+            largest[at] |= stored == most_stored(lp_coef);
+            if stored > lp_coef && lp_coef == 16 {
+                rests[at].insert(stored % 16);
+            }
+        }
+    }
+    assert_eq!(largest, [true; 4]);
+    assert!(rests.iter().all(|rests| rests.len() == 16), "{rests:?}");
 }
 
 #[test]

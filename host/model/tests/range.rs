@@ -2,10 +2,10 @@
 
 use model::make_station;
 use model::station::layout::{
-    put_word, word, write, COUNT, HEAD, HELD, QUEUES, QUEUE_NAMES, STAGE,
+    put_word, read, word, write, COUNT, HEAD, HELD, QUEUES, QUEUE_NAMES, STAGE,
 };
 use model::station::range::{bounds, every_fault, faults, in_range};
-use model::station::settings::NAMES;
+use model::station::settings::{LP_COEFS, NAMES};
 use model::station::{calls, Station};
 
 /// mtu 100, control and primary queue 3,000 bytes, secondary 4,000, other frames held.
@@ -47,40 +47,90 @@ fn a_busy_station_is_in_range() {
 /// "credits are 0 to hiLimit, own and received rates at most 65,534, other rates at most
 /// 2,147,483,647, allowed rates at most unreservedRate and a received ttl 193 to 255".
 #[test]
-fn each_word_of_the_state() {
+fn each_number_of_the_state() {
     const MOST: u64 = 2_147_483_647;
     let mut ends = vec![(0, 300); 5];
-    ends.extend([(0, MOST); 9]);
-    ends.extend([(0, 10_000), (0, 10_000), (0, 65_534)]);
+    ends.extend([(0, MOST); 4]);
+    ends.extend([(0, 64 * (MOST + 1) - 1); 4]);
+    ends.extend([(0, MOST), (0, 10_000), (0, 10_000), (0, 65_534)]);
     ends.extend([(0, 1), (0, 1), (193, 255), (0, 65_535)]);
     ends.extend([(0, 0xffff_ffff), (0, 65_534)]);
     let bytes = busy();
     let bounds = bounds(&bytes);
     assert_eq!(bounds.len(), ends.len());
     for (bound, (least, most)) in bounds.iter().zip(ends) {
-        let at = bound.at;
-        assert_eq!(with(&bytes, at, least), none(), "{} {least}", bound.name);
-        assert_eq!(with(&bytes, at, most), none(), "{} {most}", bound.name);
+        let with = |value: u64| {
+            let mut bytes = bytes.clone();
+            bound.put(&mut bytes, value);
+            faults(&bytes)
+        };
+        assert_eq!(with(least), none(), "{} {least}", bound.name);
+        assert_eq!(with(most), none(), "{} {most}", bound.name);
         if least > 0 {
-            assert_eq!(with(&bytes, at, least - 1), [bound.name]);
+            assert_eq!(with(least - 1), [bound.name]);
         }
-        for past in [most + 1, 0xffff_ffff, 0x8000_0000] {
-            if past > most && past <= 0xffff_ffff {
-                assert_eq!(with(&bytes, at, past), [bound.name], "{past}");
+        let bits = 8 * bound.place.len();
+        let largest = u64::MAX >> (64 - bits);
+        for past in [most + 1, largest, 1 << (bits - 1)] {
+            if past > most && past <= largest {
+                assert_eq!(with(past), [bound.name], "{past}");
             }
         }
     }
 }
 
 #[test]
-fn the_places_of_the_words() {
-    let places = bounds(&busy()).map(|bound| (bound.name, bound.at));
-    assert_eq!(places[..2], [("creditM", 0), ("creditA", 4)]);
-    assert_eq!(places[5], ("addRate", 1_578));
-    assert_eq!(places[14], ("allowedRate", 1_614));
-    assert_eq!(places[15], ("allowedRateCongested", 1_618));
-    assert_eq!(places[19], ("receivedTtl", 1_634));
-    assert_eq!(places[22], ("receivedRate", 1_646));
+fn the_places_of_the_numbers() {
+    let places = bounds(&busy()).map(|bound| (bound.name, bound.place));
+    assert_eq!(places[..2], [("creditM", 0..4), ("creditA", 4..8)]);
+    assert_eq!(places[5], ("addRate", 1_578..1_582));
+    assert_eq!(places[9], ("lpAddRate", 1_594..1_602));
+    assert_eq!(places[12], ("lpFwRateCongested", 1_618..1_626));
+    assert_eq!(places[14], ("allowedRate", 1_630..1_634));
+    assert_eq!(places[15], ("allowedRateCongested", 1_634..1_638));
+    assert_eq!(places[19], ("receivedTtl", 1_650..1_654));
+    assert_eq!(places[22], ("receivedRate", 1_662..1_666));
+}
+
+/// "A lent station's range binds the rate shown, not s itself": with each lpCoef the largest
+/// stored number in range shows 2,147,483,647, and the next one more.
+#[test]
+fn each_stored_number_with_each_lp_coef() {
+    for lp_coef in LP_COEFS {
+        let bytes = changed(&busy(), 28, lp_coef);
+        let first_out = lp_coef * 2_147_483_648;
+        for (at, bound) in bounds(&bytes)[9..13].iter().enumerate() {
+            let with = |stored: u64| {
+                let mut bytes = bytes.clone();
+                bound.put(&mut bytes, stored);
+                bytes
+            };
+            for below in [1, 2, lp_coef, lp_coef + 1, first_out] {
+                let bytes = with(first_out - below);
+                assert_eq!(faults(&bytes), none());
+                let shown = read(&bytes).unwrap().reading()[17 + at];
+                assert_eq!(shown, (first_out - below) / lp_coef);
+            }
+            for past in [0, 1, lp_coef, first_out, u64::MAX - first_out] {
+                assert_eq!(faults(&with(first_out + past)), [bound.name]);
+            }
+        }
+    }
+}
+
+/// The same stored number with another lpCoef.
+#[test]
+fn an_lp_coef_that_a_stored_number_no_longer_fits() {
+    let mut bytes = busy();
+    let bound = &bounds(&bytes)[10];
+    bound.put(&mut bytes, 64 * 2_147_483_648 - 1);
+    for lp_coef in LP_COEFS {
+        let expected = match lp_coef < 64 {
+            true => vec!["lpFwRate"],
+            false => vec![],
+        };
+        assert_eq!(faults(&changed(&bytes, 28, lp_coef)), expected);
+    }
 }
 
 /// Size, hops, class, mark and the bits beyond. "frame size 16 to mtu; hops 1 to 63;
@@ -134,9 +184,9 @@ fn frames_in_the_queues() {
             let faults_of = |frame: [u64; 5]| {
                 let mut bytes = busy();
                 // The settings hold whatever the frames may.
-                put_word(&mut bytes, 1_650 + 4 * 19, 1_048_576);
-                put_word(&mut bytes, 1_650 + 4 * 20, 1_048_576);
-                put_word(&mut bytes, 1_650 + 4 * 21, 1_048_576);
+                put_word(&mut bytes, 1_666 + 4 * 19, 1_048_576);
+                put_word(&mut bytes, 1_666 + 4 * 20, 1_048_576);
+                put_word(&mut bytes, 1_666 + 4 * 21, 1_048_576);
                 let held = word(&bytes, queue + HELD) + frame[0];
                 let size = word(&bytes, at) & 0x3fff;
                 put_word(&mut bytes, queue + HELD, held - size);
@@ -223,10 +273,10 @@ fn a_full_queue() {
         assert_ne!(with_byte(&bytes, queue + HEAD, 128), none());
     }
     // "at most the capacity"
-    let faults = with(&bytes, 1_650 + 4 * 19, 4_095);
+    let faults = with(&bytes, 1_666 + 4 * 19, 4_095);
     assert_eq!(faults, ["control capacity"]);
-    assert_eq!(with(&bytes, 1_650 + 4 * 20, 4_095), ["primary capacity"]);
-    assert_eq!(with(&bytes, 1_650 + 4 * 21, 4_095), ["secondary capacity"]);
+    assert_eq!(with(&bytes, 1_666 + 4 * 20, 4_095), ["primary capacity"]);
+    assert_eq!(with(&bytes, 1_666 + 4 * 21, 4_095), ["secondary capacity"]);
 }
 
 /// Settings at and past the bounds that the state sets.
@@ -243,7 +293,7 @@ fn settings_that_the_state_no_longer_fits() {
         (14, 150, "creditC"),
     ];
     for (at, least, fault) in cases {
-        let place = 1_650 + 4 * at;
+        let place = 1_666 + 4 * at;
         assert_eq!(with(&bytes, place, least), none(), "word {at}");
         let faults = with(&bytes, place, least - 1);
         assert!(faults.contains(&fault.to_string()), "word {at}: {faults:?}");
@@ -311,8 +361,8 @@ fn settings_out_of_range() {
 #[test]
 fn what_is_unreserved() {
     let mut bytes = wide();
-    put_word(&mut bytes, 1_614, 0);
-    put_word(&mut bytes, 1_618, 0);
+    put_word(&mut bytes, 1_630, 0);
+    put_word(&mut bytes, 1_634, 0);
     for (value, expected) in [
         (0, vec!["unreservedRate below"]),
         (1, vec![]),
@@ -325,7 +375,7 @@ fn what_is_unreserved() {
 
 fn changed(bytes: &[u8], at: usize, value: u64) -> Vec<u8> {
     let mut bytes = bytes.to_vec();
-    put_word(&mut bytes, 1_650 + 4 * at, value);
+    put_word(&mut bytes, 1_666 + 4 * at, value);
     bytes
 }
 

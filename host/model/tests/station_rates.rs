@@ -1,7 +1,7 @@
 //! P7 to P9, aging, congestion both ways, advertising and fairness frames.
 
 use model::make_station::station;
-use model::station::aging::{aged, own_rate, ramped, smooth};
+use model::station::aging::{aged, own_rate, ramped, shown, smooth};
 use model::station::{calls, Station};
 
 /// The address of the plain station.
@@ -37,15 +37,35 @@ fn congest(station: &mut Station) {
     }
 }
 
-/// "P7 lp 37, rate 100, lpCoef 64: 37."
+/// "P7 is replaced: s 2,368 and rate 100 give s 2,431, shown 37, and at the next interval
+/// s 2,494, shown 38."
 #[test]
 fn p7() {
-    assert_eq!(smooth(37, 100, 64), 37);
+    assert_eq!(smooth(2_368, 100, 64), 2_431);
+    assert_eq!(smooth(2_431, 100, 64), 2_494);
+    assert_eq!([2_368, 2_431, 2_494].map(|s| shown(s, 64)), [37, 37, 38]);
     let mut lent = station(&[]);
-    lent.smoothed.fw = 37;
-    lent.counters.fw = 100;
+    lent.stored.fw = 2_368;
+    for (stored, shown) in [(2_431, 37), (2_494, 38)] {
+        lent.counters.fw = 100;
+        calls::age(&mut lent);
+        assert_eq!(lent.stored.list(), [0, stored, 0, 0]);
+        assert_eq!(lent.reading()[17..21], [0, shown, 0, 0]);
+    }
+}
+
+/// "localFairRate: lpAddRate if locally congested": the new one, as it is shown.
+#[test]
+fn the_local_fair_rate_is_the_new_rate_shown() {
+    let mut lent = station(&[(23, 1), (24, 1)]);
+    congest(&mut lent);
+    lent.stored.add = 2_431;
+    lent.counters.add = 100;
     calls::age(&mut lent);
-    assert_eq!(lent.smoothed.fw, 37);
+    assert_eq!(lent.stored.add, 2_494);
+    assert_eq!(lent.reading()[21..26], [38, 38, 10_000, 38, 1]);
+    // Smoothing used the counter before it aged.
+    assert_eq!(lent.counters.add, 75);
 }
 
 /// "P8 counter 6,400, ageCoef 4: 4,800."
@@ -56,7 +76,8 @@ fn p8() {
     lent.counters.add_congested = 6_400;
     calls::age(&mut lent);
     assert_eq!(lent.counters.list(), [0, 0, 4_800, 0]);
-    assert_eq!(lent.smoothed.list(), [0, 0, 100, 0]);
+    assert_eq!(lent.stored.list(), [0, 0, 6_400, 0]);
+    assert_eq!(lent.shown().list(), [0, 0, 100, 0]);
 }
 
 /// "P9 local 1,000, weight 2, unit 4: own 125."
@@ -74,7 +95,12 @@ fn p9() {
 fn the_formulas_at_their_ends() {
     assert_eq!(aged(2_147_483_647, 1), 0);
     assert_eq!(aged(2_147_483_647, 16), 2_013_265_919);
-    assert_eq!(smooth(2_147_483_647, 2_147_483_647, 512), 2_147_483_647);
+    let most = 512 * 2_147_483_648 - 1;
+    assert_eq!(smooth(most, 2_147_483_647, 512), most);
+    assert_eq!(smooth(most, 0, 512), most - 2_147_483_647);
+    assert_eq!(smooth(0, 2_147_483_647, 512), 2_147_483_647);
+    assert_eq!(shown(most, 512), 2_147_483_647);
+    assert_eq!([0, 15, 16].map(|stored| shown(stored, 16)), [0, 0, 1]);
     assert_eq!(own_rate(2_147_483_647, 1, 1), 65_534);
     assert_eq!(own_rate(65_535, 1, 1), 65_534);
     assert_eq!(own_rate(65_534, 1, 1), 65_534);
@@ -94,12 +120,12 @@ fn local_congestion_on_and_off() {
     }
     calls::age(&mut lent);
     assert!(!lent.locally_congested);
-    assert_eq!((lent.smoothed.add, lent.counters.add), (2_000, 96_000));
+    assert_eq!((lent.shown().add, lent.counters.add), (2_000, 96_000));
     calls::offer_transit(&mut lent, 2, 16, 1, 0);
     assert!(!lent.locally_congested);
     calls::age(&mut lent);
     assert!(lent.locally_congested);
-    let lp = (63 * 2_000 + 96_000) / 64;
+    let lp = (128_000 - 2_000 + 96_000) / 64;
     assert_eq!(lent.reading()[21..25], [lp, lp, 10_000, lp / 8]);
     // "Local congestion and own rate hold till the next interval."
     calls::tick(&mut lent, 0, 0, 0);
@@ -116,9 +142,9 @@ fn local_congestion_on_and_off() {
 fn the_allowed_rate_is_at_most_the_unreserved_rate() {
     let mut lent = station(&[]);
     congest(&mut lent);
-    lent.smoothed.add = 50_000;
+    lent.stored.add = 64 * 50_000;
     calls::age(&mut lent);
-    let lp = 63 * 50_000 / 64;
+    let lp = (64 * 50_000 - 50_000) / 64;
     assert_eq!(lent.reading()[21..25], [lp, 10_000, 10_000, lp / 8]);
 }
 

@@ -95,21 +95,26 @@ fn the_starts_are_refused_then_carried_out() {
     assert_eq!(starts.chunk_by(|one, next| one == next).count(), 3);
 }
 
+/// The words of every reading that is shown.
+fn readings(lines: &[String]) -> Vec<Vec<u32>> {
+    let shows = lines.iter().filter(|line| line.starts_with("show creditM"));
+    let words = shows.map(|line| {
+        let words: Vec<&str> = line.split_whitespace().skip(1).collect();
+        assert!(words.iter().step_by(2).eq(&NAMES));
+        let values = words.iter().skip(1).step_by(2);
+        values.map(|value| value.parse().unwrap()).collect()
+    });
+    words.collect()
+}
+
 /// Every word of a reading is something else at some time, and congested both ways.
 #[test]
 fn the_day_moves_every_word_of_a_reading() {
-    let lines = printed(FILE);
     let mut seen = vec![BTreeSet::new(); WORDS];
     let mut both = BTreeSet::new();
-    for line in lines.iter().filter(|line| line.starts_with("show creditM")) {
-        let words: Vec<&str> = line.split_whitespace().skip(1).collect();
-        let values: Vec<u32> = words
-            .chunks(2)
-            .map(|word| word[1].parse().unwrap())
-            .collect();
+    for values in readings(&printed(FILE)) {
         assert_eq!(values.len(), WORDS);
         for (at, value) in values.iter().enumerate() {
-            assert_eq!(words[2 * at], NAMES[at]);
             seen[at].insert(*value);
         }
         both.insert((values[25], values[26]));
@@ -118,6 +123,21 @@ fn the_day_moves_every_word_of_a_reading() {
         assert!(values.len() > 1, "{name} is always {values:?}");
     }
     assert_eq!(both.len(), 4);
+}
+
+/// The steady source of 100 comes to stand at 100, from below and from above; then once more
+/// while the station is congested, when localFairRate and own rate are the rate shown.
+#[test]
+fn the_day_ends_with_a_steady_source() {
+    let readings = readings(&printed(FILE));
+    let (free, congested) = readings[readings.len() - 18..].split_at(9);
+    let rates = [37, 37, 38, 99, 100, 100, 101, 100, 100];
+    for (at, rate) in rates.into_iter().enumerate() {
+        let expected = [rate, rate, rate, rate, 100_000, 100_000, 65_534, 65_534, 0];
+        assert_eq!(free[at][17..26], expected);
+        let expected = [rate, 0, 0, 0, rate, rate, 100_000, rate, 1];
+        assert_eq!(congested[at][17..26], expected);
+    }
 }
 
 #[test]

@@ -1,6 +1,7 @@
 -- `fair::adjust` meets its contract: the two returns are the two cases of the definition.
 -- Assumes nothing.
 use mathlib.Core.Path.{sym, _∙_}
+use native.Mathlib.Omega.{arith}
 use Rattle.fair.proofs.Age.{adjust-congested, adjust-free}
 use borrow.Author.Needs.{needs}
 use Rattle.fair.proofs.adjust.Statement.{statement}
@@ -11,6 +12,9 @@ local-test-requires c κs = search needs
 
 shown-requires : tie.Need-shown-requires
 shown-requires c κs = search needs
+
+cast-local : tie.Need-cast-local
+cast-local c = omega (arith, c .shown .ensures, c .before .before .before .pre .add-most)
 
 returns : tie.Need-returns
 returns c = let asked = c .before .before in
@@ -24,4 +28,4 @@ returns-2 c = let asked = c .before in
     sym (adjust-free (a .settings) (a .old) (a .smoothed) (a .held) (sym (asked .local-test .ensures) ∙ c .if1 .left))
 
 pub adjust-spec : {M : Type 1} → statement M
-adjust-spec = tie.close (tie.spec local-test-requires shown-requires returns returns-2)
+adjust-spec = tie.close (tie.spec local-test-requires shown-requires cast-local returns returns-2)

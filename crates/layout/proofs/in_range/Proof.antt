@@ -1,7 +1,8 @@
--- `layout::in_range` meets its contract. Each part is asked where it stands: one that is out of range puts the station out, and the fairness state says what is left.
+-- `layout::in_range` meets its contract. Each part is asked where it stands: one that is out of range puts the station out, and the stage says what is left.
 -- Assumes nothing.
+use Prim.Native.Nat.{ℕ}
 use mathlib.Core.Bool.{Bool}
-use mathlib.Core.Path.{_≡_, sym, ap, _∙_}
+use mathlib.Core.Path.{_≡_, ap, _∙_}
 use native.Mathlib.Omega.{arith}
 use lib.ListN.{length, take}
 use Rattle.decide.specs.Test.{Test, test, said}
@@ -39,14 +40,19 @@ settings-known : (c : tie.After-room) → c .before .before .read .result ≡ he
 unfolding stationAt
 settings-known c = rw (whole-cut _ (c .before .before .before .before .before .before .before .pre)) at (c .before .before .read .ensures)
 
+whole-length : (c : tie.After-room) → length (take stationLength (c .before .before .before .before .before .before .before .args .whole .now)) ≡ stationLength
+whole-length c = let start = c .before .before .before .before .before .before .before in
+    ap length (whole-cut (start .args .whole .now) (start .pre)) ∙ start .pre
+
 fair-asked : (c : tie.After-in-range-at2) → c .in-range-at2 .result ≡ test (fairOk (held (c .before) .settings) (held (c .before) .fair))
 unfolding stationAt
 fair-asked c = rw (settings-known (c .before), whole-cut _ (c .before .before .before .before .before .before .before .before .pre)) at (c .in-range-at2 .ensures)
 
-credits-asked : (c : tie.After-in-range) → c .in-range .result ≡ test (creditsOk (held (c .before .before .before) .settings) (held (c .before .before .before) .flow .credits))
+credits-asked : (c : tie.After-in-range)
+    → c .in-range .result ≡ test (creditsOk (held (c .before .before .before .before) .settings) (held (c .before .before .before .before) .flow .credits))
 unfolding stationAt
 credits-asked c =
-    let r = c .before .before .before in
+    let r = c .before .before .before .before in
     rw (settings-known r, c .before .read-credits .ensures, whole-cut _ (r .before .before .before .before .before .before .before .pre)) at (c .in-range .ensures)
 
 -- a queue, whichever it is
@@ -59,7 +65,7 @@ queue-asked : (c : tie.After-room) (l : Line) {good : Bool}
 queue-asked c l e = rw (c .before .bounds .ensures, settings-known c, whole-cut _ (c .before .before .before .before .before .before .before .pre), queue-here) at e
 
 abbrev asking : tie.After-stage-ok → tie.After-in-range-at2
-asking c = c .before .before .before .before .before .before .before .before .before .before .before
+asking c = c .before .before .before .before .before .before .before .before .before .before .before .before
 
 abbrev staging : tie.After-stage-ok → tie.After-room
 staging c = asking c .before
@@ -67,8 +73,9 @@ staging c = asking c .before
 stage-asked : (c : tie.After-stage-ok) → c .stage-ok .result ≡ test (stageOk (boundsOf (held (staging c) .settings)) (held (staging c) .flow .stage))
 unfolding stationAt
 stage-asked c =
-    let r = c .before .before .before .before .before .before .before .before .before .before .before .before in
-    rw (r .before .bounds .ensures, settings-known r, c .before .get32 .ensures, whole-cut _ (r .before .before .before .before .before .before .before .pre)) at (c .stage-ok .ensures)
+    let r = staging c in
+    rw (r .before .bounds .ensures, settings-known r, whole-cut _ (r .before .before .before .before .before .before .before .pre)) at
+    (c .stage-ok .ensures ∙ ap (λ (w : ℕ). test (stageOk (r .before .bounds .result) w)) (c .before .get32 .ensures))
 
 -- ---- the tests, one after the other
 
@@ -95,8 +102,12 @@ bounds-requires : tie.Need-bounds-requires
 bounds-requires c κs = search needs
 
 in-range-at-requires-2 : tie.Need-in-range-at-requires-2
-in-range-at-requires-2 c κs = let start = c .before .before .before .before .before .before .before in
-    omega (arith, ap length (whole-cut (start .args .whole .now) (start .pre)), start .pre)
+in-range-at-requires-2 c κs = omega (arith, whole-length c)
+
+returns-2 : tie.Need-returns-2
+unfolding stationOk
+returns-2 c = let st = held (c .before .before) in
+    part-out st (fairOk (st .settings) (st .fair)) (λ h. h .1 .1) (fair-asked (c .before)) (c .if2 .taken)
 
 read-credits-requires : tie.Need-read-credits-requires
 read-credits-requires c κs = search needs
@@ -104,75 +115,68 @@ read-credits-requires c κs = search needs
 in-range-requires : tie.Need-in-range-requires
 in-range-requires c κs = search needs
 
-returns-2 : tie.Need-returns-2
+returns-3 : tie.Need-returns-3
 unfolding stationOk flowOk
-returns-2 c = let st = held (c .before .before .before .before) in
-    part-out st (creditsOk (st .settings) (st .flow .credits)) (λ h. h .1 .0 .0) (credits-asked (c .before)) (c .if2 .taken)
+returns-3 c = let st = held (c .before .before .before .before .before) in
+    part-out st (creditsOk (st .settings) (st .flow .credits)) (λ h. h .1 .0 .0) (credits-asked (c .before)) (c .if3 .taken)
 
 in-range-requires-2 : tie.Need-in-range-requires-2
 in-range-requires-2 c κs = search needs
 
-returns-3 : tie.Need-returns-3
+returns-4 : tie.Need-returns-4
 unfolding stationOk flowOk
-returns-3 c =
-    let r = c .before .before .before .before .before .before in
-    part-out (held r) (lineOk (held r) Control) (λ h. h .1 .0 .1 .0) (queue-asked r Control (c .before .in-range2 .ensures)) (c .if3 .taken)
+returns-4 c =
+    let r = c .before .before .before .before .before .before .before in
+    part-out (held r) (lineOk (held r) Control) (λ h. h .1 .0 .1 .0) (queue-asked r Control (c .before .in-range2 .ensures)) (c .if4 .taken)
 
 in-range-requires-3 : tie.Need-in-range-requires-3
 in-range-requires-3 c κs = search needs
 
-returns-4 : tie.Need-returns-4
+returns-5 : tie.Need-returns-5
 unfolding stationOk flowOk
-returns-4 c =
-    let r = c .before .before .before .before .before .before .before .before in
-    part-out (held r) (lineOk (held r) Primary) (λ h. h .1 .0 .1 .1 .0) (queue-asked r Primary (c .before .in-range3 .ensures)) (c .if4 .taken)
+returns-5 c =
+    let r = c .before .before .before .before .before .before .before .before .before in
+    part-out (held r) (lineOk (held r) Primary) (λ h. h .1 .0 .1 .1 .0) (queue-asked r Primary (c .before .in-range3 .ensures)) (c .if5 .taken)
 
 in-range-requires-4 : tie.Need-in-range-requires-4
 in-range-requires-4 c κs = search needs
 
-returns-5 : tie.Need-returns-5
+returns-6 : tie.Need-returns-6
 unfolding stationOk flowOk
-returns-5 c =
-    let r = c .before .before .before .before .before .before .before .before .before .before in
-    part-out (held r) (lineOk (held r) Secondary) (λ h. h .1 .0 .1 .1 .1 .0) (queue-asked r Secondary (c .before .in-range4 .ensures)) (c .if5 .taken)
+returns-6 c =
+    let r = c .before .before .before .before .before .before .before .before .before .before .before in
+    part-out (held r) (lineOk (held r) Secondary) (λ h. h .1 .0 .1 .1 .1 .0) (queue-asked r Secondary (c .before .in-range4 .ensures)) (c .if6 .taken)
 
 get32-requires : tie.Need-get32-requires
-get32-requires c κs = search needs
+get32-requires c κs = omega (arith, whole-length (c .before .before .before .before .before .before .before .before .before .before .before))
 
 stage-ok-requires : tie.Need-stage-ok-requires
 stage-ok-requires c κs = search needs
 
-returns-6 : tie.Need-returns-6
-unfolding stationOk flowOk
-returns-6 c = let st = held (staging (c .before)) in
-    part-out st (stageOk (boundsOf (st .settings)) (st .flow .stage)) (λ h. h .1 .0 .1 .1 .1 .1) (stage-asked (c .before)) (c .if6 .taken)
-
 returns-7 : tie.Need-returns-7
 unfolding flowOk
 returns-7 c =
-    let stage : _ = c in
-    let secondary : _ = stage .before .before .before in
+    let secondary : _ = c .before .before in
     let primary : _ = secondary .before .before in
     let control : _ = primary .before .before in
     let credits : _ = control .before .before in
-    let settings : _ = credits .before .before .before .before .before .before .before in
-    let r = staging (c .before) in
+    let fair : _ = credits .before .before .before in
+    let settings : _ = fair .before .before .before .before .before in
+    let r = staging c in
     let st = held r in
-    fair-asked (asking (c .before))
-    ∙ sym
-    (last-says st (said (settingsOk (st .settings)) (settings-asked (settings .before)) (settings .if1 .left)) (
-      said (creditsOk (st .settings) (st .flow .credits)) (credits-asked (credits .before)) (credits .if2 .left),
+    stage-asked c
+    ∙ last-says st (stageOk (boundsOf (st .settings)) (st .flow .stage)) (λ h. h .1 .1 .1 .1) (λ stage. (
+      said (creditsOk (st .settings) (st .flow .credits)) (credits-asked (credits .before)) (credits .if3 .left),
       (
-        said (lineOk st Control) (queue-asked r Control (control .before .in-range2 .ensures)) (control .if3 .left),
+        said (lineOk st Control) (queue-asked r Control (control .before .in-range2 .ensures)) (control .if4 .left),
         (
-          said (lineOk st Primary) (queue-asked r Primary (primary .before .in-range3 .ensures)) (primary .if4 .left),
-          (
-            said (lineOk st Secondary) (queue-asked r Secondary (secondary .before .in-range4 .ensures)) (secondary .if5 .left),
-            said (stageOk (boundsOf (st .settings)) (st .flow .stage)) (stage-asked (stage .before)) (stage .if6 .left),
-          ),
+          said (lineOk st Primary) (queue-asked r Primary (primary .before .in-range3 .ensures)) (primary .if5 .left),
+          (said (lineOk st Secondary) (queue-asked r Secondary (secondary .before .in-range4 .ensures)) (secondary .if6 .left), stage),
         ),
       ),
     ))
+    (said (settingsOk (st .settings)) (settings-asked (settings .before)) (settings .if1 .left))
+    (said (fairOk (st .settings) (st .fair)) (fair-asked (fair .before)) (fair .if2 .left))
 
 pub in-range-spec : {M : Type 1} → statement M
 in-range-spec =
@@ -186,16 +190,16 @@ in-range-spec =
     read-requires
     bounds-requires
     in-range-at-requires-2
+    returns-2
     read-credits-requires
     in-range-requires
-    returns-2
-    in-range-requires-2
     returns-3
-    in-range-requires-3
+    in-range-requires-2
     returns-4
-    in-range-requires-4
+    in-range-requires-3
     returns-5
+    in-range-requires-4
+    returns-6
     get32-requires
     stage-ok-requires
-    returns-6
     returns-7)

@@ -2,9 +2,10 @@
 //! may be out of range.
 
 use crate::station::layout::{
-    put_word, setting, slot_at, word, Slot, CREDITS, FAIRNESS, HEAD, HELD, QUEUES, SETTINGS, STAGE,
+    put_word, setting, slot_at, word, Slot, HEAD, HELD, QUEUES, SETTINGS, STAGE,
 };
 use crate::station::queue::SLOTS;
+use crate::station::range::bounds;
 
 /// The bytes of a station, one word of which stays as it is.
 struct Fitting<'a> {
@@ -21,10 +22,10 @@ impl Fitting<'_> {
         }
     }
 
-    /// Lowers a word of the station.
-    fn at_most(&mut self, place: usize, most: u64) {
-        if place != SETTINGS + 4 * self.kept && word(self.bytes, place) > most {
-            put_word(self.bytes, place, most);
+    /// Lowers a word of the settings.
+    fn at_most(&mut self, at: usize, most: u64) {
+        if at != self.kept && setting(self.bytes, at) > most {
+            put_word(self.bytes, SETTINGS + 4 * at, most);
         }
     }
 
@@ -35,8 +36,6 @@ impl Fitting<'_> {
             self.at_least(lo, mtu);
             let least = setting(self.bytes, lo) + 1;
             self.at_least(hi, least);
-            let most = setting(self.bytes, hi);
-            self.at_most(CREDITS + 4 * shaper, most);
         }
     }
 
@@ -47,7 +46,7 @@ impl Fitting<'_> {
         self.at_least(20, mtu);
         self.at_least(21, 2 * mtu);
         let secondary = setting(self.bytes, 21);
-        self.at_most(SETTINGS + 4 * 22, secondary);
+        self.at_most(22, secondary);
         for (queue, at) in QUEUES.into_iter().enumerate() {
             let size = |slot| Slot::of_word(word(self.bytes, slot_at(at, slot))).size;
             let held = word(self.bytes, at + HELD);
@@ -63,11 +62,14 @@ impl Fitting<'_> {
         }
     }
 
-    /// "allowed rates at most unreservedRate"
-    fn rates(&mut self) {
-        let unreserved = setting(self.bytes, 26);
-        self.at_most(FAIRNESS + 36, unreserved);
-        self.at_most(FAIRNESS + 40, unreserved);
+    /// Lowers credits to hiLimit, allowed rates to unreservedRate, and stored numbers to
+    /// what lpCoef lets them be.
+    fn state(&mut self) {
+        for bound in bounds(self.bytes) {
+            if bound.number(self.bytes) > bound.most {
+                bound.put(self.bytes, bound.most);
+            }
+        }
     }
 }
 
@@ -75,5 +77,5 @@ pub fn fit(bytes: &mut [u8], kept: usize) {
     let mut fitting = Fitting { bytes, kept };
     fitting.shapers();
     fitting.queues();
-    fitting.rates();
+    fitting.state();
 }

@@ -7,23 +7,26 @@ mod queue;
 use crate::make_station;
 use crate::random::Random;
 use crate::station::layout::{
-    self, parts, put_word, setting, slot_at, word, Slot, CREDITS, FAIRNESS, HELD, QUEUES, SETTINGS,
-    STAGE,
+    self, fairness_place, number, parts, put_number, put_word, setting, slot_at, word, Slot,
+    ALLOWED, CREDITS, HELD, QUEUES, SETTINGS, STAGE, STORED,
 };
 use crate::station::queue::SLOTS;
 use crate::station::range::{self, bounds, BOUNDS};
-use crate::station::settings::WORDS;
+use crate::station::settings::{LP_COEFS, WORDS};
+use std::ops::Range;
 
 /// One change, and which of its kind.
 #[derive(Clone, Copy, Debug, PartialEq, Eq)]
 pub enum Step {
-    /// A word of the state, at an end of its range, past it, or anywhere.
+    /// A number of the state, at an end of its range, past it, or anywhere.
     Bound(usize, usize),
+    /// A stored number, with the same rate shown.
+    Rest(usize, usize),
     /// A word of the settings, at an end of its range or past it.
     Setting(usize, usize),
     /// The same, and the rest of the station made to fit it.
     Fitted(usize, usize),
-    /// A word of the state or then of the settings, with a higher bit changed.
+    /// A number of the state or then of the settings, with a higher bit changed.
     Bit(usize, usize),
     /// A frame of a queue, or with 3 that of the stage.
     Frame(usize, usize),
@@ -32,10 +35,11 @@ pub enum Step {
 }
 
 const BOUND_STEPS: usize = 6;
+const REST_STEPS: usize = 4;
 const FRAME_STEPS: usize = 15;
 
-/// Bits that a number cut on its way in would lose.
-const HIGHER: [usize; 4] = [8, 16, 24, 31];
+/// Bits that a number cut on its way in would lose, as far as it has them.
+const HIGHER: [usize; 8] = [8, 16, 24, 31, 32, 40, 48, 63];
 
 /// Every single change. A station in range of the plain settings tells how many ends a
 /// word of the settings has.
@@ -48,13 +52,18 @@ pub fn every_step() -> Vec<Step> {
     for at in 0..BOUNDS {
         push(Step::Bound, at, BOUND_STEPS);
     }
+    for at in STORED {
+        push(Step::Rest, at, REST_STEPS);
+    }
     for at in 0..WORDS {
         let ends = setting_ends(&plain, at).len();
         push(Step::Setting, at, 2 * ends);
         push(Step::Fitted, at, 2 * ends);
     }
     for at in 0..BOUNDS + WORDS {
-        push(Step::Bit, at, HIGHER.len());
+        let bits = 8 * place(at).len();
+        let higher = HIGHER.iter().filter(|bit| **bit < bits);
+        push(Step::Bit, at, higher.count());
     }
     for holder in 0..=QUEUES.len() {
         push(Step::Frame, holder, FRAME_STEPS);
@@ -73,13 +82,10 @@ pub fn take(random: &mut Random, bytes: &mut [u8], step: Step) {
             change_setting(bytes, at, which);
             fit::fit(bytes, at);
         }
+        Step::Rest(at, which) => change_rest(random, bytes, at, which),
         Step::Bit(at, which) => {
-            let place = match at < BOUNDS {
-                true => bounds(bytes)[at].at,
-                false => SETTINGS + 4 * (at - BOUNDS),
-            };
-            let changed = word(bytes, place) ^ 1 << HIGHER[which];
-            put_word(bytes, place, changed);
+            let held = &mut bytes[place(at)];
+            put_number(held, number(held) ^ 1 << HIGHER[which]);
         }
         Step::Frame(3, which) => {
             let slot = match word(bytes, STAGE) {
@@ -94,9 +100,17 @@ pub fn take(random: &mut Random, bytes: &mut [u8], step: Step) {
     }
 }
 
+/// Where a number of the state or then of the settings stands.
+fn place(at: usize) -> Range<usize> {
+    match at.checked_sub(BOUNDS) {
+        None => range::place(at),
+        Some(setting) => SETTINGS + 4 * setting..SETTINGS + 4 * setting + 4,
+    }
+}
+
 /// Each end of the range, one below and one above, between them, anywhere.
 fn change_bound(random: &mut Random, bytes: &mut [u8], at: usize, which: usize) {
-    let bound = bounds(bytes)[at];
+    let bound = &bounds(bytes)[at];
     let any = random.word();
     let value = match which {
         0 => bound.least,
@@ -106,7 +120,16 @@ fn change_bound(random: &mut Random, bytes: &mut [u8], at: usize, which: usize) 
         4 => random.between(i128::from(bound.least), i128::from(bound.most)) as u64,
         _ => any >> random.below(32),
     };
-    put_word(bytes, bound.at, value);
+    bound.put(bytes, value);
+}
+
+/// A multiple of lpCoef, one more, one less than the next, or anything between.
+fn change_rest(random: &mut Random, bytes: &mut [u8], at: usize, which: usize) {
+    let lp_coef = setting(bytes, 28).max(1);
+    let rest = [0, 1, lp_coef - 1, random.word()][which] % lp_coef;
+    let held = &mut bytes[fairness_place(at)];
+    let whole = number(held) - number(held) % lp_coef;
+    put_number(held, whole.saturating_add(rest));
 }
 
 fn change_setting(bytes: &mut [u8], at: usize, which: usize) {
@@ -114,7 +137,8 @@ fn change_setting(bytes: &mut [u8], at: usize, which: usize) {
     put_word(bytes, SETTINGS + 4 * at, u64::from(end));
 }
 
-/// The ends of a setting's range, and the least that the state still fits.
+/// The ends of a setting's range, and the least that the state still fits, each with what
+/// comes just past it.
 fn setting_ends(bytes: &[u8], at: usize) -> Vec<[u32; 2]> {
     let words = std::array::from_fn(|at| setting(bytes, at) as u32);
     let mut ends = make_station::ends(&words, at);
@@ -122,7 +146,7 @@ fn setting_ends(bytes: &[u8], at: usize) -> Vec<[u32; 2]> {
         3 => vec![largest_frame(bytes)],
         5 | 8 | 11 | 14 | 17 => vec![word(bytes, CREDITS + 4 * (at / 3 - 1))],
         19..=21 => vec![word(bytes, QUEUES[at - 19] + HELD)],
-        26 => vec![word(bytes, FAIRNESS + 36), word(bytes, FAIRNESS + 40)],
+        26 => ALLOWED.map(|at| word(bytes, at)).to_vec(),
         _ => Vec::new(),
     };
     ends.extend(
@@ -130,7 +154,19 @@ fn setting_ends(bytes: &[u8], at: usize) -> Vec<[u32; 2]> {
             .iter()
             .map(|least| [*least as u32, least.wrapping_sub(1) as u32]),
     );
+    if at == 28 {
+        let least = least_lp_coef(bytes);
+        ends.push([least, least / 2]);
+    }
     ends
+}
+
+/// The least lpCoef with which no rate shown is too large, or the next power of two.
+fn least_lp_coef(bytes: &[u8]) -> u32 {
+    let stored = STORED.map(|at| number(&bytes[fairness_place(at)]));
+    let largest = stored.fold(0, u64::max);
+    let fits = |lp_coef: &u64| largest <= range::most_stored(*lp_coef);
+    LP_COEFS.into_iter().find(fits).unwrap_or(1_024) as u32
 }
 
 fn largest_frame(bytes: &[u8]) -> u64 {

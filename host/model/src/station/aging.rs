@@ -2,7 +2,7 @@
 
 use super::Station;
 
-/// addRate, fwRate and their Congested twins, counted or smoothed.
+/// addRate, fwRate and their Congested twins: counters, stored numbers or rates shown.
 #[derive(Clone, Copy, Debug, Default, PartialEq, Eq)]
 pub struct Rates {
     pub add: u64,
@@ -27,9 +27,14 @@ impl Rates {
     }
 }
 
-/// "Each of the four smoothed rates becomes floor(((lpCoef−1) × lp + rate) / lpCoef)."
-pub fn smooth(lp: u64, rate: u64, lp_coef: u64) -> u64 {
-    ((lp_coef - 1) * lp + rate) / lp_coef
+/// "at an interval s becomes s − floor(s / lpCoef) + rate"
+pub fn smooth(stored: u64, rate: u64, lp_coef: u64) -> u64 {
+    stored - shown(stored, lp_coef) + rate
+}
+
+/// "the rate shown is floor(s / lpCoef)."
+pub fn shown(stored: u64, lp_coef: u64) -> u64 {
+    stored / lp_coef
 }
 
 /// "Each counter becomes floor(rate × (ageCoef−1) / ageCoef)."
@@ -48,18 +53,24 @@ pub fn ramped(allowed: u64, unreserved: u64, ramp_up: u64) -> u64 {
 }
 
 impl Station {
+    /// The rates shown, of the four stored numbers.
+    pub fn shown(&self) -> Rates {
+        let stored = self.stored.list();
+        Rates::each(stored.map(|stored| shown(stored, self.settings.lp_coef)))
+    }
+
     /// "On the host's call, in this order."
     pub fn age(&mut self) {
         let settings = self.settings;
         let unreserved = settings.unreserved_rate;
-        let (lp, rate) = (self.smoothed.list(), self.counters.list());
-        self.smoothed =
-            Rates::each([0, 1, 2, 3].map(|at| smooth(lp[at], rate[at], settings.lp_coef)));
+        let (stored, rate) = (self.stored.list(), self.counters.list());
+        self.stored =
+            Rates::each([0, 1, 2, 3].map(|at| smooth(stored[at], rate[at], settings.lp_coef)));
         // "Locally congested: secondary bytes > low threshold."
         self.locally_congested = self.secondary.bytes() > settings.low_threshold;
         // "localFairRate: lpAddRate if locally congested, else unreservedRate."
         self.local_fair_rate = match self.locally_congested {
-            true => self.smoothed.add,
+            true => self.shown().add,
             false => unreserved,
         };
         // "allowedRate: the smaller of localFairRate and unreservedRate if locally

@@ -11,8 +11,9 @@ use super::frames::{Class, Frame};
 use super::queue::{Queue, SLOTS};
 use super::{range, reading, settings, Station};
 use crate::refusal::Refusal;
+use std::ops::Range;
 
-pub const STATION_LENGTH: usize = 1_770;
+pub const STATION_LENGTH: usize = 1_786;
 
 /// "0 | 20 | the credits of M, A, B, C, D, 4 bytes each"
 pub const CREDITS: usize = 0;
@@ -20,10 +21,10 @@ pub const CREDITS: usize = 0;
 pub const QUEUES: [usize; 3] = [20, 538, 1_056];
 /// "1574 | 4 | the stage's word: a slot, 0 where the stage is empty"
 pub const STAGE: usize = 1_574;
-/// "1578 | 72 | the fairness state: 18 words of 4 bytes"
+/// "1578 | 88 | the fairness state: four parts"
 pub const FAIRNESS: usize = 1_578;
-/// "1650 | 120 | the settings: the 30 words that a host gives to `rpr_start`"
-pub const SETTINGS: usize = 1_650;
+/// "1666 | 120 | the settings: the 30 words that a host gives to `rpr_start`"
+pub const SETTINGS: usize = 1_666;
 
 /// Within a queue: "512 | 4 | bytes held: the sum of the sizes"
 pub const HELD: usize = 512;
@@ -33,19 +34,47 @@ pub const HEAD: usize = 516;
 pub const COUNT: usize = 517;
 
 pub const QUEUE_NAMES: [&str; 3] = ["control", "primary", "secondary"];
-/// "They are words 13 to 30 of a reading, in the same order."
+/// "They are words 13 to 30 of a reading, in the same order; of a smoothed rate the reading
+/// has the rate shown".
 pub const FAIRNESS_IN_READING: usize = 13;
-pub const FAIRNESS_WORDS: usize = 18;
+pub const FAIRNESS_NUMBERS: usize = 18;
+/// Which of these numbers are the stored ones.
+pub const STORED: Range<usize> = 4..8;
+/// "52 | 4 | allowedRate"; "56 | 4 | allowedRateCongested"
+pub const ALLOWED: [usize; 2] = [FAIRNESS + 52, FAIRNESS + 56];
+
+/// Where a number of the fairness state stands.
+pub fn fairness_place(number: usize) -> Range<usize> {
+    let (at, length) = match number {
+        // "0, 4, 8, 12 | 4 each | the counters"
+        0..=3 => (4 * number, 4),
+        // "16, 24, 32, 40 | 8 each | the four smoothed rates, in the same order, each as its
+        // stored number"
+        4..=7 => (16 + 8 * (number - 4), 8),
+        // "48 | 4 | localFairRate" to "84 | 4 | received rate"
+        _ => (48 + 4 * (number - 8), 4),
+    };
+    FAIRNESS + at..FAIRNESS + at + length
+}
+
+/// The number that all these bytes are.
+pub fn number(bytes: &[u8]) -> u64 {
+    let from_the_highest = bytes.iter().rev();
+    from_the_highest.fold(0, |sum, byte| sum << 8 | u64::from(*byte))
+}
+
+/// What these bytes hold of the number.
+pub fn put_number(bytes: &mut [u8], number: u64) {
+    bytes.copy_from_slice(&number.to_le_bytes()[..bytes.len()]);
+}
 
 /// The word of 4 bytes that stands there.
 pub fn word(bytes: &[u8], at: usize) -> u64 {
-    let mut word = [0; 4];
-    word.copy_from_slice(&bytes[at..at + 4]);
-    u64::from(u32::from_le_bytes(word))
+    number(&bytes[at..at + 4])
 }
 
 pub fn put_word(bytes: &mut [u8], at: usize, word: u64) {
-    bytes[at..at + 4].copy_from_slice(&(word as u32).to_le_bytes());
+    put_number(&mut bytes[at..at + 4], word);
 }
 
 /// The word of the settings that stands there.
@@ -120,6 +149,14 @@ fn write_queue(bytes: &mut [u8], queue: &Queue) {
     bytes[COUNT] = queue.frames() as u8;
 }
 
+/// The reading's words, with the stored numbers for the rates shown.
+fn fairness_numbers(station: &Station) -> [u64; FAIRNESS_NUMBERS] {
+    let words = station.reading();
+    let mut numbers = std::array::from_fn(|at| words[FAIRNESS_IN_READING + at]);
+    numbers[STORED].copy_from_slice(&station.stored.list());
+    numbers
+}
+
 /// The bytes of a station.
 pub fn write(station: &Station) -> Vec<u8> {
     let mut bytes = vec![0; STATION_LENGTH];
@@ -135,9 +172,8 @@ pub fn write(station: &Station) -> Vec<u8> {
         .stage
         .map_or(0, |frame| Slot::of_frame(frame).word());
     put_word(&mut bytes, STAGE, stage);
-    let state = &station.reading()[FAIRNESS_IN_READING..];
-    for (at, word) in state.iter().enumerate() {
-        put_word(&mut bytes, FAIRNESS + 4 * at, *word);
+    for (at, number) in fairness_numbers(station).into_iter().enumerate() {
+        put_number(&mut bytes[fairness_place(at)], number);
     }
     for (at, word) in station.settings.words().into_iter().enumerate() {
         put_word(&mut bytes, SETTINGS + 4 * at, word);
@@ -154,20 +190,21 @@ fn read_queue(bytes: &[u8], at: usize, capacity: u64) -> Result<Queue, Refusal> 
 }
 
 fn read_fairness(station: &mut Station, bytes: &[u8]) {
-    let words: [u64; FAIRNESS_WORDS] = std::array::from_fn(|at| word(bytes, FAIRNESS + 4 * at));
-    station.counters = Rates::each([words[0], words[1], words[2], words[3]]);
-    station.smoothed = Rates::each([words[4], words[5], words[6], words[7]]);
-    station.local_fair_rate = words[8];
-    station.allowed_rate = words[9];
-    station.allowed_rate_congested = words[10];
-    station.own_rate = words[11];
-    station.locally_congested = words[12] == 1;
-    station.downstream_congested = words[13] == 1;
-    let [_, _, address @ ..] = (words[15] << 32 | words[16]).to_be_bytes();
+    let numbers: [u64; FAIRNESS_NUMBERS] =
+        std::array::from_fn(|at| number(&bytes[fairness_place(at)]));
+    station.counters = Rates::each([numbers[0], numbers[1], numbers[2], numbers[3]]);
+    station.stored = Rates::each([numbers[4], numbers[5], numbers[6], numbers[7]]);
+    station.local_fair_rate = numbers[8];
+    station.allowed_rate = numbers[9];
+    station.allowed_rate_congested = numbers[10];
+    station.own_rate = numbers[11];
+    station.locally_congested = numbers[12] == 1;
+    station.downstream_congested = numbers[13] == 1;
+    let [_, _, address @ ..] = (numbers[15] << 32 | numbers[16]).to_be_bytes();
     station.received = Received {
-        ttl: words[14],
+        ttl: numbers[14],
         address,
-        rate: words[17],
+        rate: numbers[17],
     };
 }
 
@@ -224,8 +261,8 @@ pub fn parts() -> Vec<Part> {
         push(format!("{name} count"), 1);
     }
     push("stage".to_string(), 4);
-    for name in &reading::NAMES[FAIRNESS_IN_READING..] {
-        push(name.to_string(), 4);
+    for (at, name) in reading::NAMES[FAIRNESS_IN_READING..].iter().enumerate() {
+        push(name.to_string(), fairness_place(at).len());
     }
     for name in settings::NAMES {
         push(name.to_string(), 4);

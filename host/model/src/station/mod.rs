@@ -41,8 +41,8 @@ pub struct Station {
     pub stage: Option<Frame>,
     /// The counters, in the order addRate, fwRate, addRateCongested, fwRateCongested.
     pub counters: Rates,
-    /// The smoothed rates, in the same order.
-    pub smoothed: Rates,
+    /// "Each smoothed rate is kept times lpCoef, as a stored number": in the same order.
+    pub stored: Rates,
     pub local_fair_rate: u64,
     pub allowed_rate: u64,
     pub allowed_rate_congested: u64,
@@ -70,7 +70,7 @@ impl Station {
             secondary: Queue::new(settings.secondary_queue),
             stage: None,
             counters: Rates::default(),
-            smoothed: Rates::default(),
+            stored: Rates::default(),
             local_fair_rate: unreserved,
             allowed_rate: unreserved,
             allowed_rate_congested: unreserved,

@@ -3,38 +3,60 @@
 //! "A lent station is in range if its settings, frames, slots and bytes held (the sizes'
 //! sum, at most the capacity) are, credits are 0 to hiLimit, own and received rates at
 //! most 65,534, other rates at most 2,147,483,647, allowed rates at most unreservedRate
-//! and a received ttl 193 to 255". Codes are in range where they stand for something: a
-//! class A, B or C, yes or no 1 or 0, an address of six bytes.
+//! and a received ttl 193 to 255"; "A lent station's range binds the rate shown, not s
+//! itself." Codes are in range where they stand for something: a class A, B or C, yes or
+//! no 1 or 0, an address of six bytes.
 
 use super::layout::{
-    self, setting, slot_at, word, Slot, COUNT, CREDITS, FAIRNESS, FAIRNESS_IN_READING, HEAD, HELD,
-    QUEUES, QUEUE_NAMES, STAGE, STATION_LENGTH,
+    self, number, put_number, setting, slot_at, word, Slot, COUNT, CREDITS, FAIRNESS_IN_READING,
+    FAIRNESS_NUMBERS, HEAD, HELD, QUEUES, QUEUE_NAMES, STAGE, STATION_LENGTH, STORED,
 };
 use super::queue::SLOTS;
 use super::{reading, settings, MOST_RATE};
+use std::ops::Range;
 
-/// A word of the state that has a range, and the range, which may depend on settings.
-#[derive(Clone, Copy, Debug, PartialEq, Eq)]
+/// A number of the state that has a range, and the range, which may depend on settings.
+#[derive(Clone, Debug, PartialEq, Eq)]
 pub struct Bound {
     pub name: &'static str,
-    pub at: usize,
+    pub place: Range<usize>,
     pub least: u64,
     pub most: u64,
 }
 
 impl Bound {
+    pub fn number(&self, bytes: &[u8]) -> u64 {
+        number(&bytes[self.place.clone()])
+    }
+
+    pub fn put(&self, bytes: &mut [u8], number: u64) {
+        put_number(&mut bytes[self.place.clone()], number);
+    }
+
     fn holds(&self, bytes: &[u8]) -> bool {
-        (self.least..=self.most).contains(&word(bytes, self.at))
+        (self.least..=self.most).contains(&self.number(bytes))
+    }
+
+    /// Its bytes can hold a number that is too large.
+    fn may_break(&self) -> bool {
+        self.most < u64::MAX >> (64 - 8 * self.place.len())
     }
 }
 
-/// The five credits and the 18 words of the fairness state.
-pub const BOUNDS: usize = 23;
+/// The five credits and the 18 numbers of the fairness state.
+pub const BOUNDS: usize = 5 + FAIRNESS_NUMBERS;
 
-/// The ranges of the fairness state's words, in their order.
-fn fairness_ranges(unreserved: u64) -> [(u64, u64); layout::FAIRNESS_WORDS] {
+/// The largest stored number whose rate shown is at most 2,147,483,647; 0 where lpCoef is 0,
+/// which is out of range itself.
+pub fn most_stored(lp_coef: u64) -> u64 {
+    (lp_coef * (MOST_RATE + 1)).saturating_sub(1)
+}
+
+/// The ranges of the fairness state's numbers, in their order.
+fn fairness_ranges(unreserved: u64, lp_coef: u64) -> [(u64, u64); FAIRNESS_NUMBERS] {
     let rate = (0, MOST_RATE);
-    let mut ranges = [rate; layout::FAIRNESS_WORDS];
+    let mut ranges = [rate; FAIRNESS_NUMBERS];
+    ranges[STORED].fill((0, most_stored(lp_coef)));
     // "allowed rates at most unreservedRate"
     ranges[9] = (0, unreserved);
     ranges[10] = (0, unreserved);
@@ -52,22 +74,32 @@ fn fairness_ranges(unreserved: u64) -> [(u64, u64); layout::FAIRNESS_WORDS] {
     ranges
 }
 
+/// Where each of them stands.
+pub fn place(at: usize) -> Range<usize> {
+    let credit = CREDITS + 4 * at;
+    match at.checked_sub(5) {
+        None => credit..credit + 4,
+        Some(number) => layout::fairness_place(number),
+    }
+}
+
 pub fn bounds(bytes: &[u8]) -> [Bound; BOUNDS] {
-    let ranges = fairness_ranges(setting(bytes, 26));
-    std::array::from_fn(|at| match at {
-        // "credits are 0 to hiLimit"
-        0..=4 => Bound {
-            name: reading::NAMES[at],
-            at: CREDITS + 4 * at,
-            least: 0,
-            most: setting(bytes, 5 + 3 * at),
-        },
-        _ => Bound {
-            name: reading::NAMES[FAIRNESS_IN_READING + at - 5],
-            at: FAIRNESS + 4 * (at - 5),
-            least: ranges[at - 5].0,
-            most: ranges[at - 5].1,
-        },
+    let ranges = fairness_ranges(setting(bytes, 26), setting(bytes, 28));
+    std::array::from_fn(|at| {
+        let (name, (least, most)) = match at {
+            // "credits are 0 to hiLimit"
+            0..=4 => (reading::NAMES[at], (0, setting(bytes, 5 + 3 * at))),
+            _ => (
+                reading::NAMES[FAIRNESS_IN_READING + at - 5],
+                ranges[at - 5],
+            ),
+        };
+        Bound {
+            name,
+            place: place(at),
+            least,
+            most,
+        }
     })
 }
 
@@ -122,7 +154,7 @@ fn queue_faults(bytes: &[u8], at: usize, capacity: u64) -> Vec<&'static str> {
         .collect()
 }
 
-/// What is out of range in these 1,770 bytes, by name.
+/// What is out of range in these 1,786 bytes, by name.
 pub fn faults(bytes: &[u8]) -> Vec<String> {
     let mut faults = settings::faults(&std::array::from_fn(|at| setting(bytes, at)));
     let wrong = bounds(bytes)
@@ -147,7 +179,7 @@ pub fn faults(bytes: &[u8]) -> Vec<String> {
 pub fn every_fault() -> Vec<String> {
     let mut names = settings::every_fault();
     let bounds = bounds(&[0; STATION_LENGTH]);
-    let ranged = bounds.iter().filter(|bound| bound.most < 0xffff_ffff);
+    let ranged = bounds.iter().filter(|bound| bound.may_break());
     names.extend(ranged.map(|bound| bound.name.to_string()));
     for queue in QUEUE_NAMES {
         let both = FRAME_FAULTS.iter().chain(&QUEUE_FAULTS);
@@ -157,7 +189,7 @@ pub fn every_fault() -> Vec<String> {
     names
 }
 
-/// Whether 1,770 bytes hold a station in range.
+/// Whether 1,786 bytes hold a station in range.
 pub fn in_range(bytes: &[u8]) -> bool {
     faults(bytes).is_empty()
 }

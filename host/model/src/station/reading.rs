@@ -51,7 +51,7 @@ impl Station {
         words.push(u64::from(self.stage.is_some()));
         words.push(self.stage.map_or(0, |frame| frame.size));
         words.extend(self.counters.list());
-        words.extend(self.smoothed.list());
+        words.extend(self.shown().list());
         words.push(self.local_fair_rate);
         words.push(self.allowed_rate);
         words.push(self.allowed_rate_congested);

@@ -104,13 +104,13 @@ fn ranges(words: &[u64; WORDS]) -> [(u64, u64); WORDS] {
     ranges
 }
 
+/// "lpCoef and rampUp 16, 32, 64, 128, 256 or 512"
+pub const LP_COEFS: [u64; 6] = [16, 32, 64, 128, 256, 512];
+
 /// "ageCoef 1, 2, 4, 8 or 16 (default 4); lpCoef and rampUp 16, 32, 64, 128, 256 or 512
 /// (default 64)."
-const COEFFICIENTS: [(usize, &[u64]); 3] = [
-    (27, &[1, 2, 4, 8, 16]),
-    (28, &[16, 32, 64, 128, 256, 512]),
-    (29, &[16, 32, 64, 128, 256, 512]),
-];
+const COEFFICIENTS: [(usize, &[u64]); 3] =
+    [(27, &[1, 2, 4, 8, 16]), (28, &LP_COEFS), (29, &LP_COEFS)];
 
 /// The words that are outside their range, by name, and on which side.
 pub fn faults(words: &[u64; WORDS]) -> Vec<String> {

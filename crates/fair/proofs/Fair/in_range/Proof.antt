@@ -1,8 +1,9 @@
--- `fair::Fair::in_range` meets its contract: the four parts stand in the order of the definition.
+-- `fair::Fair::in_range` meets its contract: four tests, joined from the left, are their conjunction: `chain`.
 -- Assumes nothing.
-use mathlib.Core.Bool.{and-assoc}
-use Rattle.decide.specs.Test.{test}
-use Rattle.fair.specs.Range.{fairOk}
+use mathlib.Core.List.{[], _∷_}
+use Rattle.decide.proofs.Chain.{chain}
+use Rattle.heard.specs.Range.{receivedOk}
+use Rattle.fair.specs.Range.{fourOk, storedOk, decidedOk, fairOk}
 use borrow.Author.Needs.{needs}
 use Rattle.fair.proofs.Fair.in_range.Statement.{statement}
 use Rattle.fair.proofs.Fair.in_range.Tie as tie
@@ -20,10 +21,12 @@ in-range-requires-4 : tie.Need-in-range-requires-4
 in-range-requires-4 c κs = search needs
 
 returns : tie.Need-returns
-unfolding test fairOk
+unfolding fairOk
 returns c = let decided = c .before in
     let smoothed = decided .before in
-    rw (c .in-range4 .ensures, decided .in-range3 .ensures, smoothed .in-range2 .ensures, smoothed .before .in-range .ensures) (simp and-assoc)
+    let f = smoothed .before .before .args .self in
+    let s = smoothed .before .before .args .settings in
+    rw (c .in-range4 .ensures, decided .in-range3 .ensures, smoothed .in-range2 .ensures, smoothed .before .in-range .ensures) (chain (fourOk (f .counters)) (storedOk (s .fairness .lp) (f .smoothed) ∷ decidedOk s (f .decided) ∷ receivedOk (f .received) ∷ []))
 
 pub in-range-spec : {M : Type 1} → statement M
 in-range-spec = tie.close (tie.spec in-range-requires in-range-requires-2 in-range-requires-3 in-range-requires-4 returns)

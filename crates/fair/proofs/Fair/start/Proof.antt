@@ -7,8 +7,8 @@ use Rattle.fair.proofs.Fair.start.Tie as tie
 own-rate-requires : tie.Need-own-rate-requires
 own-rate-requires c κs = search needs
 
-cast-t7 : tie.Need-cast-t7
-cast-t7 c = search needs
+cast-t8 : tie.Need-cast-t8
+cast-t8 c = search needs
 
 none-requires : tie.Need-none-requires
 none-requires c κs = search needs
@@ -17,4 +17,4 @@ returns : tie.Need-returns
 returns c = rw (c .none .ensures, c .before .own-rate .ensures)
 
 pub start-spec : {M : Type 1} → statement M
-start-spec = tie.close (tie.spec own-rate-requires cast-t7 none-requires returns)
+start-spec = tie.close (tie.spec own-rate-requires cast-t8 none-requires returns)

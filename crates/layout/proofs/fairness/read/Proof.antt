@@ -8,11 +8,11 @@ use Rattle.layout.proofs.fairness.read.Tie as tie
 read-four-requires : tie.Need-read-four-requires
 read-four-requires c κs = search needs
 
-add-read-four : tie.Need-add-read-four
-add-read-four c = search needs
+add-read-stored : tie.Need-add-read-stored
+add-read-stored c = search needs
 
-read-four-requires-2 : tie.Need-read-four-requires-2
-read-four-requires-2 c κs = search needs
+read-stored-requires : tie.Need-read-stored-requires
+read-stored-requires c κs = search needs
 
 add-read-decided : tie.Need-add-read-decided
 add-read-decided c = search needs
@@ -35,8 +35,8 @@ read-spec =
     tie.close
     (tie.spec
     read-four-requires
-    add-read-four
-    read-four-requires-2
+    add-read-stored
+    read-stored-requires
     add-read-decided
     read-decided-requires
     add-read-received

@@ -11,11 +11,11 @@ use Rattle.layout.proofs.fairness.write.Tie as tie
 write-four-requires : tie.Need-write-four-requires
 write-four-requires c κs = search needs
 
-add-write-four : tie.Need-add-write-four
-add-write-four c = search needs
+add-write-stored : tie.Need-add-write-stored
+add-write-stored c = search needs
 
-write-four-requires-2 : tie.Need-write-four-requires-2
-write-four-requires-2 c κs = search needs
+write-stored-requires : tie.Need-write-stored-requires
+write-stored-requires c κs = search needs
 
 add-write-decided : tie.Need-add-write-decided
 add-write-decided c = search needs
@@ -39,7 +39,7 @@ returns c =
     let c2 : _ = c3 .before .before .before .before in
     let c1 : _ = c2 .before .before .before .before in
     let d : _ = c1 .before .before .before in
-    rw (c4 .write-received .ensures, c3 .write-decided .ensures, c2 .write-four2 .ensures, c1 .write-four .ensures)
+    rw (c4 .write-received .ensures, c3 .write-decided .ensures, c2 .write-stored .ensures, c1 .write-four .ensures)
     (simp add-assoc at (laid-put (fairParts (d .args .f)) (d .args .s .now) (d .args .at) (omega (arith, d .pre))))
 
 pub write-spec : {M : Type 1} → statement M
@@ -47,8 +47,8 @@ write-spec =
     tie.close
     (tie.spec
     write-four-requires
-    add-write-four
-    write-four-requires-2
+    add-write-stored
+    write-stored-requires
     add-write-decided
     write-decided-requires
     add-write-received

@@ -1,8 +1,9 @@
--- The rows are tried in their order: each return is one of them.
+-- The rows are tried in their order: each return is one of them. A station in range may age.
 -- Assumes nothing.
 use mathlib.Core.Path.{sym, _∙_}
 use Rattle.decide.specs.Test.{left, taken}
 use Rattle.station.specs.Range.{stationOk}
+use Rattle.station.proofs.Range.{in-range-facts}
 use Rattle.station.proofs.Calls.{age-lost, age-done}
 use borrow.Author.Needs.{needs}
 use Rattle.station.proofs.Station.age_known.Statement.{statement}
@@ -16,7 +17,8 @@ returns c = let st = c .before .before .args .self in
     c .refused .ensures ∙ sym (age-lost st (taken (stationOk st) (c .before .before .pre) (c .before .if1 .taken)))
 
 aged-requires : tie.Need-aged-requires
-aged-requires c κs = search needs
+aged-requires c κs = let st = c .before .args .self in
+    in-range-facts st (left (stationOk st) (c .before .pre) (c .if1 .left))
 
 done-requires : tie.Need-done-requires
 done-requires c κs = search needs

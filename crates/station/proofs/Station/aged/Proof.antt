@@ -1,11 +1,10 @@
--- The fairness state is that after the interval.
+-- The fairness state is that after the interval; it may age since it is in range.
 -- Assumes nothing.
-use borrow.Author.Needs.{needs}
 use Rattle.station.proofs.Station.aged.Statement.{statement}
 use Rattle.station.proofs.Station.aged.Tie as tie
 
 age-requires : tie.Need-age-requires
-age-requires c κs = search needs
+age-requires c κs = let ok = c .before .before .before .pre in (ok .settings, ok .fair)
 
 returns : tie.Need-returns
 returns c = rw (c .age .ensures)

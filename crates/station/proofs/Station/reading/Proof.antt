@@ -1,8 +1,11 @@
--- Each queue and the stage say what they hold.
+-- Each queue and the stage say what they hold, and of each smoothed rate what is shown is said, since it is in range.
 -- Assumes nothing.
 use borrow.Author.Needs.{needs}
 use Rattle.station.proofs.Station.reading.Statement.{statement}
 use Rattle.station.proofs.Station.reading.Tie as tie
+
+shown-requires : tie.Need-shown-requires
+shown-requires c κs = c .before .before .before .before .before .pre .fair .of-smoothed
 
 in-queue-requires : tie.Need-in-queue-requires
 in-queue-requires c κs = search needs
@@ -17,9 +20,11 @@ on-stage-requires : tie.Need-on-stage-requires
 on-stage-requires c κs = search needs
 
 returns : tie.Need-returns
-returns c = rw (c .on-stage .ensures, c .before .in-queue3 .ensures, c .before .before .in-queue2 .ensures, c .before .before .before .in-queue .ensures)
+returns c = let third = c .before in
+    let first = third .before .before in
+    rw (c .on-stage .ensures, third .in-queue3 .ensures, third .before .in-queue2 .ensures, first .in-queue .ensures, first .before .before .before .shown .ensures)
 
 pub reading-spec : {M : Type 1} → statement M
 reading-spec =
     tie.close
-    (tie.spec in-queue-requires in-queue-requires-2 in-queue-requires-3 on-stage-requires returns)
+    (tie.spec shown-requires in-queue-requires in-queue-requires-2 in-queue-requires-3 on-stage-requires returns)

@@ -1,8 +1,9 @@
--- The rows are tried in their order: each return is one of them.
+-- The rows are tried in their order: each return is one of them. A station in range has a reading.
 -- Assumes nothing.
 use mathlib.Core.Path.{sym}
 use Rattle.decide.specs.Test.{left, taken}
 use Rattle.station.specs.Range.{stationOk}
+use Rattle.station.proofs.Range.{in-range-facts}
 use Rattle.station.proofs.Hear.{show-lost, show-done}
 use borrow.Author.Needs.{needs}
 use Rattle.station.proofs.Station.show_known.Statement.{statement}
@@ -16,7 +17,8 @@ returns c = let st = c .before .before .args .self in
     rw (c .blank .ensures) (sym (show-lost st (taken (stationOk st) (c .before .before .pre) (c .before .if1 .taken))))
 
 reading-requires : tie.Need-reading-requires
-reading-requires c κs = search needs
+reading-requires c κs = let st = c .before .args .self in
+    in-range-facts st (left (stationOk st) (c .before .pre) (c .if1 .left))
 
 returns-2 : tie.Need-returns-2
 returns-2 c = let st = c .before .before .args .self in

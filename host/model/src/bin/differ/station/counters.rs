@@ -6,8 +6,9 @@ use super::{library, Trial};
 use model::make_station;
 use model::report::Outcome;
 use model::station::aging::Rates;
-use model::station::layout;
-use model::station::{Station, MOST_RATE};
+use model::station::range::most_stored;
+use model::station::settings::LP_COEFS;
+use model::station::{layout, Station, MOST_RATE};
 use model::station_call::Call;
 
 /// The received rate while downstream is congested. Times the largest weight and unit it
@@ -26,7 +27,7 @@ fn largest() -> [u32; 30] {
 }
 
 /// A fairness frame with this rate.
-fn frame(rate: u16) -> Call {
+pub fn frame(rate: u16) -> Call {
     let [high, low] = rate.to_be_bytes();
     Call::Hear(vec![255, 0xa0, 0, 0, 0, 0, 0, 9, 0, 0, high, low])
 }
@@ -81,26 +82,24 @@ fn age(trial: &mut Trial, life: &mut Life) -> Outcome<()> {
         Call::Age,
     ];
     for call in &calls {
-        let answer = life.make(&mut trial.random, call)?;
-        if answer as u8 != 0 {
-            return Err(life.fault(&format!("{call} is refused: {answer:#x}")));
-        }
+        life.carry_out(&mut trial.random, call)?;
         life.compare(&mut trial.random)?;
     }
     Ok(())
 }
 
-/// The stopped counters aged and smoothed with every coefficient, from smoothed rates of
-/// 0 and of the most that there is.
+/// The stopped counters aged and smoothed with every coefficient, from stored numbers of 0
+/// and of the most that there is, and where the rate shown has just come to its most.
 fn age_each(trial: &mut Trial, stopped: &Station) -> Outcome<()> {
     for age_coef in [1, 2, 4, 8, 16] {
-        for slow in [16, 32, 64, 128, 256, 512] {
-            for smoothed in [0, MOST_RATE - 1, MOST_RATE] {
+        for slow in LP_COEFS {
+            let there = slow * MOST_RATE;
+            for stored in [0, there - 1, there, most_stored(slow)] {
                 let mut station = stopped.clone();
                 station.settings.age_coef = age_coef;
                 station.settings.lp_coef = slow;
                 station.settings.ramp_up = slow;
-                station.smoothed = Rates::each([smoothed; 4]);
+                station.stored = Rates::each([stored; 4]);
                 let Some(mut life) = Life::of_bytes(&layout::write(&station)) else {
                     return Err("stopped counters are out of range".to_string());
                 };

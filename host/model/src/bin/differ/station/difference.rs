@@ -1,6 +1,6 @@
 //! How two slices differ, in words.
 
-use model::station::layout::{self, word, HELD};
+use model::station::layout::{self, number, word, HELD};
 use model::station::reading::{NAMES, READING_LENGTH};
 use model::text;
 
@@ -27,7 +27,10 @@ pub fn part_by_part(got: &[u8], expected: &[u8], whose: &str) -> String {
     }
     let mut words = Vec::new();
     for part in layout::parts() {
-        let step = part.length.min(4);
+        let step = match part.length == HELD {
+            true => 4,
+            false => part.length,
+        };
         for at in (part.at..part.at + part.length).step_by(step) {
             let [got, expected] = [got, expected].map(|bytes| number(&bytes[at..at + step]));
             if got != expected {
@@ -47,12 +50,4 @@ pub fn part_by_part(got: &[u8], expected: &[u8], whose: &str) -> String {
         words.push(format!("and {more} more"));
     }
     words.join("; ")
-}
-
-/// The least byte is first.
-fn number(bytes: &[u8]) -> u64 {
-    bytes
-        .iter()
-        .rev()
-        .fold(0, |sum, byte| sum << 8 | u64::from(*byte))
 }

@@ -80,6 +80,15 @@ impl Life {
         same(random, call, &mut self.memory, &before, &after).map_err(|what| self.fault(&what))
     }
 
+    /// Makes a call that must be carried out.
+    pub fn carry_out(&mut self, random: &mut Random, call: &Call) -> Outcome<()> {
+        let answer = self.make(random, call)?;
+        match answer as u8 {
+            0 => Ok(()),
+            _ => Err(self.fault(&format!("{call} is refused: {answer:#x}"))),
+        }
+    }
+
     /// The readings are the same.
     pub fn compare(&mut self, random: &mut Random) -> Outcome<()> {
         self.make(random, &Call::Show(READING_LENGTH))?;

@@ -9,6 +9,7 @@ mod life;
 mod scenes;
 mod short;
 mod sights;
+mod steady;
 
 use self::difference::part_by_part;
 use self::harm::Harm;
@@ -204,6 +205,8 @@ impl Trial {
             return Err("a station has another length than the layout says".to_string());
         }
         println!("{} calls until counters stop", counters::stopping()?);
+        let steady = steady::walks(self.random.word())?;
+        println!("{steady}");
         scenes::play(self)?;
         while self.tally.calls() < calls {
             self.life()?;
@@ -214,6 +217,7 @@ impl Trial {
             self.start_of_another_length()?;
         }
         let mut missing = self.sights.missing();
+        missing.extend(steady.missing());
         missing.extend(self.shortfalls.missing());
         missing.extend(self.harm.missing());
         Ok(missing)

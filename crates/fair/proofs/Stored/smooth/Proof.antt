@@ -1,8 +1,8 @@
--- `fair::Four::smooth` meets its contract: each of the four smoothed rates is the definition's.
+-- `fair::Stored::smooth` meets its contract: each of the four stored numbers is the definition's.
 -- Assumes nothing.
 use borrow.Author.Needs.{needs}
-use Rattle.fair.proofs.Four.smooth.Statement.{statement}
-use Rattle.fair.proofs.Four.smooth.Tie as tie
+use Rattle.fair.proofs.Stored.smooth.Statement.{statement}
+use Rattle.fair.proofs.Stored.smooth.Tie as tie
 
 smoothed-requires : tie.Need-smoothed-requires
 smoothed-requires c κs = search needs
