@@ -214,14 +214,15 @@ uint64_t plain_select(void *lent, size_t length) {
 /* A rate moved towards what is unreserved by one part in rampUp of what lacks. */
 static uint64_t ramped(const uint8_t *station, unsigned rate) {
     uint32_t now = fair(station, rate);
-    return now + (setting(station, UNRESERVED) - now) / setting(station, RAMP_UP);
+    return now + part(setting(station, UNRESERVED) - now, setting(station, RAMP_UP));
 }
 
 uint64_t plain_age(void *lent, size_t length) {
     uint8_t *station = lent;
     uint64_t number = refused(station, length);
     if (number != 0) return number;
-    uint64_t age = setting(station, AGE_COEF), unreserved = setting(station, UNRESERVED);
+    uint32_t age = setting(station, AGE_COEF);
+    uint64_t unreserved = setting(station, UNRESERVED);
     for (unsigned i = 0; i < RATES; i++) set_stored(station, i, stored(station, i) - shown(station, i) + fair(station, i));
     int locally = get(station + SECONDARY + HELD) > setting(station, LOW_THRESHOLD);
     uint64_t local = locally ? shown(station, ADD_RATE) : unreserved;
@@ -231,7 +232,7 @@ uint64_t plain_age(void *lent, size_t length) {
     set_fair(station, ALLOWED_RATE, locally ? least(local, unreserved) : ramped(station, ALLOWED_RATE));
     set_fair(station, ALLOWED_RATE_CONGESTED,
              fair(station, DOWNSTREAM) ? least(unreserved, received) : ramped(station, ALLOWED_RATE_CONGESTED));
-    for (unsigned i = 0; i < RATES; i++) set_fair(station, i, fair(station, i) * (age - 1) / age);
+    for (unsigned i = 0; i < RATES; i++) set_fair(station, i, part((uint64_t)fair(station, i) * (age - 1), age));
     set_fair(station, OWN_RATE, own_rate(station, local));
     return 0;
 }

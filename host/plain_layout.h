@@ -45,6 +45,9 @@ static inline uint32_t setting(const uint8_t *station, unsigned at) { return wor
 static inline uint32_t fair(const uint8_t *station, unsigned at) { return word(station + FAIR, at); }
 static inline void set_fair(uint8_t *station, unsigned at, uint64_t v) { put(station + FAIR + 4 * at, (uint32_t)v); }
 
+/* x over a coefficient, rounded down. Every coefficient in range is a power of two. */
+static inline uint64_t part(uint64_t x, uint32_t coef) { return x >> __builtin_ctz(coef); }
+
 /* The stored number of a rate. Over lpCoef, rounded down, it is the smoothed rate that is shown. */
 static inline unsigned stored_at(unsigned rate) { return FAIR + 4 * STORED + 8 * rate; }
 static inline uint64_t stored(const uint8_t *station, unsigned rate) {
@@ -54,7 +57,7 @@ static inline uint64_t stored(const uint8_t *station, unsigned rate) {
 }
 
 static inline void set_stored(uint8_t *station, unsigned rate, uint64_t v) { memcpy(station + stored_at(rate), &v, sizeof v); }
-static inline uint64_t shown(const uint8_t *station, unsigned rate) { return stored(station, rate) / setting(station, LP_COEF); }
+static inline uint64_t shown(const uint8_t *station, unsigned rate) { return part(stored(station, rate), setting(station, LP_COEF)); }
 
 static inline uint64_t least(uint64_t a, uint64_t b) { return a < b ? a : b; }
 

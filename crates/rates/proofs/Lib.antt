@@ -1,4 +1,6 @@
 pub mod Formulas
+pub mod Halves
+pub mod Shift
 pub mod Bounds
 pub mod Series
 pub mod Steady

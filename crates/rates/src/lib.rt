@@ -1,7 +1,8 @@
-// The arithmetic of the fairness rates. Products and stored numbers are of 64 bits, and what is divided by 0 gives 0. Every function but `smoothed`, whose sum must
-// fit, takes any numbers.
+// The arithmetic of the fairness rates. Products and stored numbers are of 64 bits, and what is divided by 0 gives 0. Every public function but `smoothed`, whose sum
+// must fit, takes any numbers.
 ghost use mathlib.Core.Path.{_≡_};
-ghost use Prim.Native.Nat.{_+_, _/_, _^_, _<_};
+ghost use mathlib.Core.Logic.{_≢_};
+ghost use Prim.Native.Nat.{ℕ, _+_, _/_, _^_, _<_};
 ghost use Rattle.decide.specs.Test.{test};
 ghost use Rattle.rates.specs.Rates.{partOf, smoothedOf, shownOf, shownOk, agedOf, rampedOf, allowanceOf, ownRateOf, countedOf, shareOf};
 
@@ -17,11 +18,17 @@ const MOST_OWN: u64 = 65534;
 // The largest number of 32 bits.
 const MOST_WORD: u64 = 4294967295;
 
-// x divided by a coefficient (ageCoef, lpCoef or rampUp) and rounded down.
+// x divided by a coefficient (ageCoef, lpCoef or rampUp) and rounded down: by a shift where the coefficient is a power of two, as each in range is, and the long way
+// where it is not. Neither has a divide.
 pub fn part(x: u64, coef: u32) -> u64
     ensures { λ r. ⌜ r ≡ partOf x coef ⌝ }
 {
-    quotient(x, coef as u64)
+    let places = u32::trailing_zeros(coef) as u64;
+    if 1u64 << places == coef as u64 {
+        x >> places
+    } else {
+        long_quotient(x, coef)
+    }
 }
 
 // What is stored for a smoothed rate after an interval, from lpCoef, what was stored and the rate's counter.
@@ -91,6 +98,26 @@ pub fn share(allowed: u32, coef: u32, ticks: u32) -> u32
     ensures { λ r. ⌜ r ≡ shareOf allowed coef ticks ⌝ }
 {
     quotient(allowed as u64, coef as u64 * ticks as u64) as u32
+}
+
+// x divided by a y that is no power of two, and rounded down: y goes into x twice as often as into half of it, or once more. Where y is 0 it is 0.
+fn long_quotient(x: u64, y: u32) -> u64
+    requires { ⌜ ((k : ℕ) → 2 ^ k ≢ y) ⌝ }
+    ensures { λ r. ⌜ r ≡ x / y ⌝ }
+{
+    if y == 0 {
+        return 0;
+    }
+    let by = y as u64;
+    if x < by {
+        return 0;
+    }
+    let twice = 2 * long_quotient(x >> 1, y);
+    if x - twice * by < by {
+        twice
+    } else {
+        twice + 1
+    }
 }
 
 // x divided by y and rounded down, and 0 where y is 0.
