@@ -1,5 +1,4 @@
 pub mod Formulas
-pub mod Halves
 pub mod Shift
 pub mod Bounds
 pub mod Series

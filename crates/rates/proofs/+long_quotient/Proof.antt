@@ -1,12 +1,11 @@
 -- `rates::long_quotient` meets its contract, and ends: half of a number that y goes into is less than the number.
 -- Assumes nothing.
 use mathlib.Core.Path.{_≡_, sym, ap, _∙_}
-use Prim.Native.Nat.{ℕ, _+_, _-_, _*_, _/_, _≤_, _<_}
-use native.Mathlib.Nat.{div-zero, div-eq-of-lt, div-le-self, le-mul-of-pos-right}
+use Prim.Native.Nat.{ℕ, _+_, _-_, _*_, _/_, _%_, _≤_, _<_}
+use native.Mathlib.Nat.{mul-assoc, mod-lt, div-add-mod', div-zero, div-eq-of-lt, div-eq-of-lt-le, div-le-self, le-mul-of-pos-right}
 use native.Mathlib.Omega.{arith}
 use borrow.Fn.Kinds.{In}
 use borrow.Fn.PlainCycle.{Measures, is, falls, and}
-use Rattle.rates.proofs.Halves.{twice-within, twice-whole, twice-more}
 use Rattle.rates.proofs.long_quotient.Reads as reads
 use Rattle.rates.proofs.long_quotient.Kinds as kinds
 use Rattle.rates.proofs.+long_quotient.Lts-long_quotient as lts
@@ -33,7 +32,14 @@ returns-2 t c = sym (div-eq-of-lt (c .if2 .taken))
 long-quotient-requires : (t : ℕ) → lts.Need-long-quotient-requires (calls t) (at t) reads.Post
 long-quotient-requires t c κs = (omega arith, c .before .before .pre .1)
 
--- what twice the quotient of half of x leaves
+-- With q the quotient of half of x, y goes into x 2 × q times, and less than 2 × y is left.
+twice-within : (x y q : ℕ) → 0 < y → q ≡ x / 2 / y → (2 * q * y ≤ x) × (x - 2 * q * y < 2 * y)
+twice-within x y q pos e =
+    let half : q * y + x / 2 % y ≡ x / 2 = ap (λ (n : ℕ). n * y + x / 2 % y) e ∙ div-add-mod' (x / 2) y in
+    let below = mod-lt (x / 2) pos in
+    (omega (arith, half, mul-assoc 2 q y), omega (arith, half, below, mul-assoc 2 q y))
+
+-- the same of the call for half of x
 within : (t : ℕ) (c : lts.After-long-quotient (calls t) (at t) reads.Post) → let a = c .before .before .before .args in let twice : ℕ = 2 * c .long-quotient .result in
     (twice * a .y ≤ a .x) × (a .x - twice * a .y < 2 * a .y)
 within t c =
@@ -54,13 +60,13 @@ sub-if3 t c = within t c .0
 returns-3 : (t : ℕ) → lts.Need-returns-3 (calls t) (at t) reads.Post
 returns-3 t c =
     let a = c .before .before .before .before .args in
-    twice-whole (a .x) (a .y) _ (within t (c .before) .0) (omega arith)
+    sym (div-eq-of-lt-le (a .y) (within t (c .before) .0) (omega arith))
 
 -- the quotient is one more
 more : (t : ℕ) (c : lts.Else3 (calls t) (at t) reads.Post) → let a = c .before .before .before .before .args in 2 * c .before .long-quotient .result + 1 ≡ a .x / a .y
 more t c =
     let a = c .before .before .before .before .args in
-    twice-more (a .x) (a .y) _ (within t (c .before) .0) (omega arith) (within t (c .before) .1)
+    sym (div-eq-of-lt-le (a .y) (omega (arith, within t (c .before) .0)) (omega (arith, within t (c .before) .1)))
 
 add-result : (t : ℕ) → lts.Need-add-result (calls t) (at t) reads.Post
 add-result t c =
