@@ -15,7 +15,8 @@ static unsigned below(unsigned end) { return next_random() % end; }
 
 /* A number at which some range ends, or any. */
 static uint32_t any_number(void) {
-    static const uint32_t edges[] = {0, 1, 2, 3, 4, 6, 7, 15, 16, 63, 64, 65, 127, 128, 129, 192, 193, 255, 256, 512, 1024, 9216, 9217, 65534, 65535, 65536, 1048576};
+    static const uint32_t edges[] = {0,   1,   2,   3,   4,   5,   6,   7,   15,  16,   62,   63,   64,    65,    127,   128,
+                                     129, 192, 193, 194, 250, 251, 255, 256, 512, 1024, 9216, 9217, 65534, 65535, 65536, 1048576};
     unsigned k = below(2 * sizeof edges / sizeof edges[0]);
     return k < sizeof edges / sizeof edges[0] ? edges[k] : next_random() >> below(31);
 }
@@ -88,7 +89,7 @@ struct call {
 };
 
 static uint64_t make(const struct calls *side, const struct call *c, uint8_t *s, uint8_t *room) {
-    static const uint8_t heard[2][RPR_FRAME_LENGTH] = {{250, 0x20, 0, 0, 0, 0, 0, 9, 0, 0, 0, 50}, {250, 0xa0, 0, 0, 0, 0, 0, 9, 0, 0, 0, 50}};
+    static const uint8_t heard[2][RPR_FRAME_LENGTH] = {{252, 0x20, 0, 0, 0, 0, 0, 9, 0, 0, 0, 50}, {252, 0xa0, 0, 0, 0, 0, 0, 9, 0, 0, 0, 50}};
     const uint64_t *n = c->numbers;
     switch (c->kind) {
         case 0: return side->tick(s, N, n[0], n[0], n[0]);
@@ -117,10 +118,10 @@ static void compare_call(const struct call *c, const uint8_t *station) {
     }
 }
 
-/* Frames come in while the queues are to fill, and leave while they are to empty. */
+/* Frames come in while the queues are to fill, and leave while they are to empty. Most have few enough hops for a ring of six. */
 static struct call random_call(int fills) {
-    unsigned often = below(3);
-    struct call c = {often == 0 ? below(KINDS) : fills ? 2 : 4, {below(3), 16 + below(100), 1 + below(63), 0}};
+    unsigned often = below(3), most_hops = below(4) == 0 ? 63 : 5;
+    struct call c = {often == 0 ? below(KINDS) : fills ? 2 : 4, {below(3), 16 + below(100), 1 + below(most_hops), 0}};
     if (c.kind == 0) c.numbers[0] = below(2);
     c.numbers[3] = c.numbers[0] > 0 ? below(2) : 0;
     return c;

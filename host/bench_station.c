@@ -116,7 +116,7 @@ static void set_up(void) {
                              .m = shaper, .a = shaper, .b = shaper, .c = shaper, .d = shaper,
                              .control_queue = 1000000, .primary_queue = 1000000, .secondary_queue = 1000000, .low_threshold = 50000,
                              .weight = 2, .rate_unit = 4, .ticks_per_interval = 10, .unreserved_rate = 2000000000,
-                             .age_coef = RPR_DEFAULT_AGE_COEF, .lp_coef = RPR_DEFAULT_LP_COEF, .ramp_up = RPR_DEFAULT_RAMP_UP};
+                             .age_coef = RPR_DEFAULT_AGE_COEF, .lp_coef = RPR_DEFAULT_LP_COEF, .ramp_up = RPR_DEFAULT_RAMP_UP, .stations = 63};
     uint64_t refused = 0;
     memcpy(settings, &s, sizeof s);
     refused |= rpr_start(settings, sizeof settings, empty, N);
@@ -126,8 +126,8 @@ static void set_up(void) {
     refused |= rpr_offer_transit(few, N, RPR_CLASS_C, 1000, 3, 1);
     memcpy(full, empty, N);
     for (unsigned i = 0; i < 120; i++) {
-        refused |= rpr_offer_transit(full, N, RPR_CLASS_A, 16 + 37 * i % 1400, 1 + i % 63, 0);
-        refused |= rpr_offer_transit(full, N, RPR_CLASS_B + i % 2, 16 + 41 * i % 1400, 1 + i % 63, 1);
+        refused |= rpr_offer_transit(full, N, RPR_CLASS_A, 16 + 37 * i % 1400, 1 + i % 62, 0);
+        refused |= rpr_offer_transit(full, N, RPR_CLASS_B + i % 2, 16 + 41 * i % 1400, 1 + i % 62, 1);
     }
     refused |= rpr_read_frame(full, N, heard, sizeof heard);
     if (refused != 0 || rpr_station_length() != N) give_up("the stations to measure are refused");

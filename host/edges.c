@@ -1,7 +1,8 @@
 /*
  * Stations with one thing changed, the library beside plain C: each byte set to each value, at each place each number at which
- * some range ends, and the ends of the stored numbers' range, which goes by lpCoef. Every call answers and leaves the same on
- * both sides; a refused call leaves every byte as it was.
+ * some range ends, the ends of the stored numbers' range, which goes by lpCoef, and the most hops and one more in each place that
+ * has hops, by the number of stations. Every call answers and leaves the same on both sides; a refused call leaves every byte as
+ * it was.
  */
 #include <stdio.h>
 #include <stdlib.h>
@@ -17,16 +18,16 @@ static const uint32_t fixed[] = {0,   1,   2,    16,   63,    64,    128,   192,
                                  513, 1024, 9216, 10000, 16384, 65534, 65535, 1048576, 2147483647, 4194304, 4294967295};
 
 /* Frames that a station hears from a neighbour: one on each ringlet, of which one is its own. */
-static const uint8_t heard[2][RPR_FRAME_LENGTH] = {{250, 0x20, 0, 0, 0, 0, 0, 9, 0, 0, 0, 50}, {250, 0xa0, 0, 0, 0, 0, 0, 9, 0, 0, 0, 50}};
+static const uint8_t heard[2][RPR_FRAME_LENGTH] = {{252, 0x20, 0, 0, 0, 0, 0, 9, 0, 0, 0, 50}, {252, 0xa0, 0, 0, 0, 0, 0, 9, 0, 0, 0, 50}};
 
-static unsigned long tried, good, lacking;
+static unsigned long tried, good, lacking, beyond;
 
 static uint64_t ask(const struct calls *side, int call, uint8_t *s, uint8_t *room) {
     switch (call) {
         case 0: return side->show(s, N, room, RPR_READING_LENGTH);
         case 1: return side->tick(s, N, 1, 0, 1);
         case 2: return side->offer_client(s, N, RPR_CLASS_A, 40, 3);
-        case 3: return side->offer_client(s, N, RPR_CLASS_C, 64, 63);
+        case 3: return side->offer_client(s, N, RPR_CLASS_C, 64, 5);
         case 4: return side->offer_transit(s, N, RPR_CLASS_A, 64, 3, 0);
         case 5: return side->offer_transit(s, N, RPR_CLASS_B, 16, 3, 1);
         case 6: return side->offer_control(s, N, 64);
@@ -49,6 +50,7 @@ static uint64_t compare(const uint8_t *station, int call, size_t place) {
     int same = memcmp(ours, theirs, N) == 0 && memcmp(room[0], room[1], RPR_READING_LENGTH) == 0;
     int kept = rpr_refusal_of(answer) == 0 || memcmp(ours, station, N) == 0;
     lacking += rpr_shortfall_of(answer) > 0;
+    beyond += rpr_refusal_of(answer) == RPR_BEYOND_RING;
     if (answer == other && same && kept) return answer;
     printf("call %d, changed at %zu: answer %#llx, plain C %#llx%s%s\n", call, place, (unsigned long long)answer, (unsigned long long)other,
            same ? "" : "; lent bytes differ", kept ? "" : "; a refusal wrote");
@@ -93,16 +95,16 @@ static void each_end(uint8_t *station, const uint32_t *words) {
     }
 }
 
-/* A station with one stored number changed. Every call, and the one for the range says whether the number is in it. */
-static void try_stored(const uint8_t *station, unsigned rate, int in_range) {
+/* A station of which it is known whether it is in range. Every call, and the one for the range says so. */
+static void try_known(const uint8_t *station, size_t place, int in_range) {
     tried++;
-    if ((compare(station, 0, stored_at(rate)) == 0) != in_range) {
-        printf("stored number %u, lpCoef %u: %llu is %s\n", rate, setting(station, LP_COEF), (unsigned long long)stored(station, rate),
+    if ((compare(station, 0, place) == 0) != in_range) {
+        printf("changed at %zu, lpCoef %u, %u stations: %s\n", place, setting(station, LP_COEF), setting(station, STATIONS),
                in_range ? "in range, and refused" : "out of range, and not refused");
         exit(1);
     }
     good += (unsigned)in_range;
-    for (int call = 1; call <= CALLS; call++) compare(station, call, stored_at(rate));
+    for (int call = 1; call <= CALLS; call++) compare(station, call, place);
 }
 
 /* By each lpCoef, each stored number at the ends of its range, beside a counter of 0 and of the most: the last that shows a rate one below
@@ -118,9 +120,107 @@ static void each_stored(const uint8_t *station) {
             set_fair(changed, at % RATES, at < RATES ? 0 : MOST_RATE);
             for (size_t i = 0; i < sizeof numbers / sizeof numbers[0]; i++) {
                 set_stored(changed, at % RATES, numbers[i]);
-                try_stored(changed, at % RATES, numbers[i] < end);
+                try_known(changed, stored_at(at % RATES), numbers[i] < end);
             }
         }
+    }
+}
+
+/* ---- hops and the ring ---- */
+
+static const unsigned queues[] = {CONTROL, PRIMARY, SECONDARY};
+enum { QUEUES = sizeof queues / sizeof queues[0], ONE_HOP = 1 << 14 };
+
+/* Frames of 16 bytes and so many hops in so many slots of a queue from this one on, and in no other. */
+static void hold(uint8_t *station, unsigned queue, uint32_t hops, uint8_t head, uint8_t count) {
+    uint32_t kind = queue == SECONDARY ? 5 : 0; /* of class B and marked, or of class A */
+    memset(station + queue, 0, 4 * SLOTS);
+    for (unsigned i = 0; i < count; i++) put(station + queue + 4 * ((head + i) % SLOTS), 16 + hops * ONE_HOP + (kind << 20));
+    put(station + queue + HELD, 16u * count);
+    station[queue + HEAD] = head;
+    station[queue + COUNT] = count;
+}
+
+/* A station of a ring of so many, in range or not, with all credit, whose queues and stage are full of frames with so many hops. */
+static void fill_up(uint8_t *station, uint32_t stations, uint32_t hops) {
+    uint32_t settings[SETTINGS_WORDS];
+    memcpy(settings, sample_settings[1], sizeof settings);
+    if (rpr_start(settings, sizeof settings, station, N) != 0) puts("a station to fill is refused"), exit(1);
+    put(station + SETTINGS + 4 * STATIONS, stations);
+    for (unsigned i = 0; i < SHAPERS; i++) put(station + CREDITS + 4 * i, setting(station, HI_LIMIT + 3 * i));
+    for (unsigned q = 0; q < QUEUES; q++) hold(station, queues[q], hops, (uint8_t)(50 * q), SLOTS);
+    put(station + STAGE, 16 + hops * ONE_HOP + (6 << 20)); /* of class C and marked */
+}
+
+/* The frame in this slot has one hop more, which is one too many. */
+static void try_one_more(uint8_t *station, size_t slot) {
+    uint32_t kept = get(station + slot);
+    put(station + slot, kept + ONE_HOP);
+    try_known(station, slot, 0);
+    put(station + slot, kept);
+}
+
+/* Frames with the most hops: one more in each slot of full queues, in the stage, and in each slot that is a queue's only one. */
+static void each_slot(uint8_t *station, uint32_t stations) {
+    fill_up(station, stations, stations - 1);
+    try_known(station, SETTINGS + 4 * STATIONS, 1);
+    try_one_more(station, STAGE);
+    for (unsigned q = 0; q < QUEUES; q++)
+        for (unsigned slot = 0; slot < SLOTS; slot++) try_one_more(station, queues[q] + 4 * slot);
+    for (unsigned q = 0; q < QUEUES; q++)
+        for (unsigned slot = 0; slot < SLOTS; slot++) {
+            hold(station, queues[q], stations - 1, (uint8_t)slot, 1);
+            try_known(station, queues[q] + 4 * slot, 1);
+            try_one_more(station, queues[q] + 4 * slot);
+        }
+}
+
+/* A received ttl from the last hop of the ring, one from beyond it, and such as are no ttl, congested downstream or not. */
+static void each_ttl(uint8_t *station, uint32_t stations) {
+    const uint32_t ttls[] = {0, LEAST_TTL - 1, 256 - stations, 257 - stations, MOST_TTL, MOST_TTL + 1};
+    fill_up(station, stations, 1);
+    for (unsigned congested = 0; congested < 2; congested++)
+        for (size_t i = 0; i < sizeof ttls / sizeof ttls[0]; i++) {
+            set_fair(station, DOWNSTREAM, congested);
+            set_fair(station, RECEIVED_TTL, ttls[i]);
+            try_known(station, FAIR + 4 * RECEIVED_TTL, ttls[i] >= 257 - stations && ttls[i] <= MOST_TTL);
+        }
+}
+
+/* A start in a ring of so many, by both sides. */
+static void try_start(uint32_t stations, int is_ring) {
+    uint32_t settings[SETTINGS_WORDS];
+    uint8_t ours[N], theirs[N];
+    memcpy(settings, sample_settings[1], sizeof settings);
+    settings[STATIONS] = stations;
+    memset(ours, 0x5a, N);
+    memset(theirs, 0x5a, N);
+    uint64_t answer = rpr_start(settings, sizeof settings, ours, N), other = plain_start(settings, sizeof settings, theirs, N);
+    if (answer == other && answer == (is_ring ? 0 : RPR_SETTING) && memcmp(ours, theirs, N) == 0) return;
+    printf("start, %u stations: answer %#llx, plain C %#llx\n", stations, (unsigned long long)answer, (unsigned long long)other);
+    exit(1);
+}
+
+/* A ring of so many, which may be none: a start; frames of one hop; and none, so that what is offered is taken or goes beyond the ring. */
+static void try_ring(uint8_t *station, uint32_t stations) {
+    int is_ring = stations >= LEAST_STATIONS && stations <= MOST_STATIONS;
+    try_start(stations, is_ring);
+    fill_up(station, stations, 1);
+    try_known(station, SETTINGS + 4 * STATIONS, is_ring);
+    for (unsigned q = 0; q < QUEUES; q++) hold(station, queues[q], 1, 0, 0);
+    put(station + STAGE, 0);
+    try_known(station, SETTINGS + 4 * STATIONS, is_ring);
+}
+
+/* Each ring, and each number of one byte, alone and with a bit set above it. */
+static void each_ring(uint8_t *station) {
+    for (uint32_t stations = LEAST_STATIONS; stations <= MOST_STATIONS; stations++) {
+        each_slot(station, stations);
+        each_ttl(station, stations);
+    }
+    for (uint32_t number = 0; number < 256; number++) {
+        try_ring(station, number);
+        for (unsigned bit = 8; bit < 32; bit++) try_ring(station, number + (UINT32_C(1) << bit));
     }
 }
 
@@ -135,7 +235,7 @@ static const struct {
 static uint64_t fill(uint8_t *station, enum state state) {
     uint64_t refused = 0;
     for (int i = 0; i < 4; i++) refused |= rpr_tick(station, N, 1, 1, 1);
-    refused |= rpr_offer_client(station, N, RPR_CLASS_C, 64, 63) & 0xff;
+    refused |= rpr_offer_client(station, N, RPR_CLASS_C, 64, 5) & 0xff;
     for (int i = 0; i < 2; i++) {
         refused |= rpr_offer_transit(station, N, RPR_CLASS_B, 64, 3, 1);
         if (state != BUSY) continue;
@@ -166,6 +266,8 @@ int main(void) {
         each_end(station, settings);
         each_stored(station);
     }
-    printf("%lu stations, %lu of them in range, %lu offers short of credit: the library and plain C do the same\n", tried, good, lacking);
-    return lacking > 0 ? 0 : 1;
+    each_ring(station);
+    printf("%lu stations, %lu of them in range, %lu offers short of credit, %lu frames beyond the ring: ", tried, good, lacking, beyond);
+    puts("the library and plain C do the same");
+    return lacking > 0 && beyond > 0 ? 0 : 1;
 }

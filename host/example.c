@@ -19,9 +19,10 @@ enum {
     TICKS_PER_SECOND = 100,
     SENDS_PER_TICK = 4, /* what the link carries */
     MTU = 1500,
+    STATIONS = 16, /* of the ring */
     CLASSES = RPR_CLASS_C + 1,
     ORIGINS = RPR_FROM_STAGE + 1,
-    REFUSALS = RPR_OWN_ADDRESS + 1,
+    REFUSALS = RPR_BEYOND_RING + 1,
     MOST_EVENTS = 10000 /* of a piece of the record, in this program */
 };
 
@@ -39,6 +40,7 @@ struct host {
     uint32_t most_short;                 /* the most bytes of credit that an offer lacked, since it was last logged */
     unsigned passed;                     /* transit frames taken in so far */
     unsigned put_off[REFUSALS];          /* offers that were refused for now, by number */
+    unsigned dropped;                    /* fairness frames that told of hops beyond the ring */
     unsigned long taken[ORIGINS];        /* bytes that the station took in, by where it keeps them */
     unsigned long sent[ORIGINS];         /* bytes that it sent, by where they came from */
     struct piece pieces[2];              /* the record of shaper C, a piece for each half of the minute */
@@ -116,7 +118,8 @@ static void start(struct host *host) {
         .d = {.lo_limit = MTU, .hi_limit = 12000, .amount = 3000},
         .control_queue = 6000, .primary_queue = 16000, .secondary_queue = 64000, .low_threshold = 16000,
         .weight = 1, .rate_unit = 4, .ticks_per_interval = 10, .unreserved_rate = 120000,
-        .age_coef = RPR_DEFAULT_AGE_COEF, .lp_coef = RPR_DEFAULT_LP_COEF, .ramp_up = RPR_DEFAULT_RAMP_UP};
+        .age_coef = RPR_DEFAULT_AGE_COEF, .lp_coef = RPR_DEFAULT_LP_COEF, .ramp_up = RPR_DEFAULT_RAMP_UP,
+        .stations = STATIONS};
     must(rpr_station_length() == sizeof host->station, "header and library belong together");
     carried_out("start", rpr_start(&host->settings, sizeof host->settings, host->station, sizeof host->station));
     begin_piece(host, &host->pieces[0]);
@@ -135,7 +138,7 @@ static void meet_a_refusal(struct host *host) {
 
 /* The bulk copy goes from station 0 to station 5 of 16; all links are usable. */
 static void choose_way(void) {
-    uint64_t way = rpr_choose(16, 0, 5, 0xffff, RPR_SIDE_DEFAULT, RPR_PROTECTED, RPR_STEERING);
+    uint64_t way = rpr_choose(STATIONS, 0, 5, 0xffff, RPR_SIDE_DEFAULT, RPR_PROTECTED, RPR_STEERING);
     carried_out("choose", way);
     must(rpr_choice_side(way) == RPR_RIGHT && rpr_choice_distance(way) == clients[RPR_CLASS_C].hops, "5 hops right");
     printf("The bulk copy goes right, %u hops.\n", rpr_choice_distance(way));
@@ -144,13 +147,14 @@ static void choose_way(void) {
 /* The two halls' cluster masters lie opposite each other, as far either way. By default both use the same links, so one
  * cut cannot leave them half a connection. */
 static void choose_pair(void) {
-    uint64_t there = rpr_choose(16, 2, 10, 0xffff, RPR_SIDE_DEFAULT, RPR_PROTECTED, RPR_STEERING);
-    uint64_t back = rpr_choose(16, 10, 2, 0xffff, RPR_SIDE_DEFAULT, RPR_PROTECTED, RPR_STEERING);
+    uint64_t there = rpr_choose(STATIONS, 2, 10, 0xffff, RPR_SIDE_DEFAULT, RPR_PROTECTED, RPR_STEERING);
+    uint64_t back = rpr_choose(STATIONS, 10, 2, 0xffff, RPR_SIDE_DEFAULT, RPR_PROTECTED, RPR_STEERING);
     carried_out("choose", there);
     carried_out("choose", back);
     must(rpr_choice_side(there) == RPR_RIGHT && rpr_choice_side(back) == RPR_LEFT, "the lower index goes right");
     must(rpr_choice_distance(there) == 8 && rpr_choice_distance(back) == 8, "8 hops either way");
-    printf("The masters, stations 2 and 10 of 16, talk over the same %u links.\n\n", rpr_choice_distance(there));
+    printf("The masters, stations 2 and 10 of %d, talk over the same %u links.\n\n", STATIONS,
+           rpr_choice_distance(there));
 }
 
 /* C waits when B or C waits. */
@@ -208,10 +212,18 @@ static void send_next(struct host *host) {
     host->sent[rpr_selected_origin(answer)] += rpr_selected_size(answer);
 }
 
-/* Hears a fairness frame of the station with address 02005e000009, which is 256 - 254 hops downstream. */
-static void hear(struct host *host, unsigned rate) {
-    const uint8_t frame[RPR_FRAME_LENGTH] = {254, 0xa0, 2, 0, 0x5e, 0, 0, 9, 0, 0, (uint8_t)(rate >> 8), (uint8_t)rate};
-    carried_out("read_frame", rpr_read_frame(host->station, sizeof host->station, frame, sizeof frame));
+/* Hears a fairness frame of the station with address 02005e000009, so many hops downstream. No station is as many hops
+ * away as the ring has stations: what tells of so many comes from a faulty card. It is refused with 13, nothing has
+ * changed, and the host drops it. */
+static void hear(struct host *host, unsigned hops, unsigned rate) {
+    const uint8_t frame[RPR_FRAME_LENGTH] = {
+        (uint8_t)(256 - hops), 0xa0, 2, 0, 0x5e, 0, 0, 9, 0, 0, (uint8_t)(rate >> 8), (uint8_t)rate};
+    uint64_t answer = rpr_read_frame(host->station, sizeof host->station, frame, sizeof frame);
+    if (rpr_refusal_of(answer) == RPR_BEYOND_RING) {
+        host->dropped++;
+        return;
+    }
+    carried_out("read_frame", answer);
 }
 
 /* Tells upstream; here, by printing the frame. */
@@ -235,11 +247,12 @@ static void arrive(struct host *host, unsigned second, unsigned now) {
     host->taken[RPR_FROM_CONTROL] += 60;
 }
 
-/* From second 15 to 35 the ring is busy; from 25 to 45 a station downstream is congested, and says so each second. */
+/* From second 15 to 35 the ring is busy; from 25 to 45 a station two hops downstream is congested, and says so each
+ * second. In second 40 its card tells of forty hops. */
 static void run_second(struct host *host, unsigned second) {
     unsigned load = second >= 15 && second < 35 ? 9 : 3; /* transit frames in 10 sends */
-    if (second >= 25 && second < 45) hear(host, 5000);
-    if (second == 45) hear(host, RPR_FULL_RATE);
+    if (second >= 25 && second < 45) hear(host, second == 40 ? 40 : 2, 5000);
+    if (second == 45) hear(host, 2, RPR_FULL_RATE);
     for (unsigned now = second * TICKS_PER_SECOND; now < (second + 1) * TICKS_PER_SECOND; now++) {
         arrive(host, second, now);
         tick(host);
@@ -283,6 +296,9 @@ static void run_minute(struct host *host) {
     puts("\nOffers put off:");
     for (unsigned number = RPR_NO_ROOM; number <= RPR_FAIR_RATE; number++)
         printf("%6u with %u, %s\n", host->put_off[number], number, rpr_refusal_text(number));
+    must(host->dropped == 1, "the one frame of the faulty card is refused");
+    puts("Fairness frames dropped:");
+    printf("%6u with %u, %s\n", host->dropped, RPR_BEYOND_RING, rpr_refusal_text(RPR_BEYOND_RING));
 }
 
 /* ---- what C's record comes to ---- */

@@ -24,12 +24,12 @@ static const struct {
 } promised[CALLS] = {
     [call_start] = {REFUSES(2, 1, 2, 1), 0},
     [call_tick] = {REFUSES(2, 1, 3, 3), 0},
-    [call_offer_client] = {REFUSES(2, 1, 3, 5) | REFUSES(6, 7, 6, 7), BYTE(4, 1)},
-    [call_offer_transit] = {REFUSES(2, 1, 3, 4), 0},
+    [call_offer_client] = {REFUSES(2, 1, 3, 13) | REFUSES(5, 6, 7, 7), BYTE(4, 1)},
+    [call_offer_transit] = {REFUSES(2, 1, 3, 13) | REFUSES(4, 4, 4, 4), 0},
     [call_offer_control] = {REFUSES(2, 1, 3, 4), 0},
     [call_select] = {REFUSES(2, 1, 2, 1), BYTE(1, 7) | BYTE(2, 3) | BYTE(3, 63) | BYTE(4, 1) | BYTE(6, 0x3fff)},
     [call_age] = {REFUSES(2, 1, 2, 1), 0},
-    [call_read_frame] = {REFUSES(2, 1, 3, 11), 0},
+    [call_read_frame] = {REFUSES(2, 1, 3, 13) | REFUSES(11, 11, 11, 11), 0},
     [call_write_frame] = {REFUSES(2, 1, 2, 1), 0},
     [call_show] = {REFUSES(2, 1, 2, 1), 0},
     [call_choose] = {REFUSES(1, 3, 8, 8), BYTE(1, 3) | BYTE(2, 63) | BYTE(3, 63) | BYTE(4, 1)},
@@ -103,7 +103,7 @@ _Noreturn static void fail(const struct request *r, uint64_t answer, const char 
 }
 
 /* How often each call was carried out, or refused with each number. */
-enum { REFUSALS = RPR_OWN_ADDRESS + 1 };
+enum { REFUSALS = RPR_BEYOND_RING + 1 };
 static unsigned long long tally[CALLS][REFUSALS];
 
 static void print_tally(void) {
@@ -224,6 +224,35 @@ static void check_smoothed(const struct request *r, uint64_t answer) {
     }
 }
 
+/* The hops of the frame that a call is given: a client's, a passing one's, or 256 less the ttl of a fairness frame. Others are given none. */
+static uint64_t given_hops(const struct request *r) {
+    if (r->call == call_offer_client || r->call == call_offer_transit) return r->numbers[3];
+    return r->call == call_read_frame ? UINT64_C(256) - r->slices[1].bytes[0] : 0;
+}
+
+/* The hops that a station holds and has received are below the number of stations; an empty slot has none. */
+static int within_ring(const uint8_t *station) {
+    uint32_t stations = setting(station, STATIONS);
+    int ok = hops_of(get(station + STAGE)) < stations && 256 - fair(station, RECEIVED_TTL) < stations;
+    for (unsigned slot = 0; slot < SLOTS; slot++)
+        ok = ok && hops_of(word(station + CONTROL, slot)) < stations && hops_of(word(station + PRIMARY, slot)) < stations &&
+             hops_of(word(station + SECONDARY, slot)) < stations;
+    return ok;
+}
+
+/* After 2, 1 and 3, and before all else, a frame is refused with 13 exactly where its hops reach the number of stations. So none goes so far
+ * that the station holds afterwards, or selects, or tells. */
+static void check_ring(const struct request *r, uint64_t answer, unsigned number) {
+    int at = r->call == call_start ? 1 : 0;
+    if (signatures[r->call].parameters[at].holds != HOLDS_station || (number >= RPR_SETTING && number <= RPR_RANGE)) return;
+    const uint8_t *station = place(at, &r->slices[at]);
+    uint32_t stations = setting(station, STATIONS);
+    if ((given_hops(r) >= stations) != (number == RPR_BEYOND_RING)) fail(r, answer, "13 for hops within the ring, or not for others");
+    if (!within_ring(station)) fail(r, answer, "hops beyond the ring are held");
+    if (r->call == call_select && rpr_selected_hops(answer) >= stations) fail(r, answer, "a frame that goes beyond the ring is selected");
+    if (r->call == call_write_frame && 256u - *place(1, &r->slices[1]) >= stations) fail(r, answer, "hops beyond the ring are told");
+}
+
 /* A frame that shapers turned down: with the bytes missing added to the credits it is not, and with one less it still is. B's own
  * share, of which the answer does not speak, is taken away. */
 static void check_short(const struct request *r, uint64_t answer) {
@@ -268,6 +297,7 @@ unsigned make(struct request *r) {
     for (int i = 0; i < PARAMETERS; i++)
         if (signatures[r->call].parameters[i].holds == HOLDS_station) check_station(r, answer, i);
     check_pair(r, answer, number);
+    check_ring(r, answer, number);
     check_smoothed(r, answer);
     check_short(r, answer);
     check_plain(r, answer);

@@ -22,6 +22,9 @@ static int frame_ok(uint32_t mtu, uint64_t class, uint64_t size, uint64_t hops) 
     return class <= 2 && size >= 16 && size <= mtu && hops >= 1 && hops <= 63;
 }
 
+/* So many hops reach the number of stations. */
+static int beyond_ring(const uint8_t *station, uint64_t hops) { return hops >= setting(station, STATIONS); }
+
 static uint32_t space(const uint8_t *queue, uint32_t capacity) { return queue[COUNT] == SLOTS ? 0 : capacity - get(queue + HELD); }
 
 /* The first frame's word, 0 where there is none: an empty slot is 0. */
@@ -130,6 +133,7 @@ uint64_t plain_offer_client(void *lent, size_t length, uint64_t class, uint64_t 
     uint64_t number = refused(station, length);
     if (number != 0) return number;
     if (!frame_ok(setting(station, MTU), class, size, hops)) return 3;
+    if (beyond_ring(station, hops)) return 13;
     if (get(station + STAGE) != 0) return 5;
     if (class == 0) return permits(station, A) ? to_stage(station, A, A, frame_word(class, size, hops, 0)) : refused_short(station, A, A);
     if (!permits(station, D)) return refused_short(station, C, D);
@@ -144,6 +148,7 @@ uint64_t plain_offer_transit(void *lent, size_t length, uint64_t class, uint64_t
     uint64_t number = refused(station, length);
     if (number != 0) return number;
     if (!frame_ok(setting(station, MTU), class, size, hops) || eligible > 1 || eligible > class) return 3;
+    if (beyond_ring(station, hops)) return 13;
     uint8_t *queue = station + (class == 0 ? PRIMARY : SECONDARY);
     if (size > space(queue, setting(station, class == 0 ? PRIMARY_BYTES : SECONDARY_BYTES))) return 4;
     push(queue, frame_word(class, size, hops, eligible));
@@ -256,6 +261,7 @@ uint64_t plain_read_frame(void *lent, size_t length, const void *heard, size_t f
     if ((frame[1] >> 4 & 3) != 2 || frame[8] >> 5 != 0 || (uint32_t)frame[1] >> 7 == setting(station, RINGLET)) return 2;
     if (!plain_station_ok(station)) return 1;
     if (frame[0] < LEAST_TTL) return 3;
+    if (frame[0] < last_ttl(station)) return 13;
     uint32_t high = get_be(frame + 2, 2), low = get_be(frame + 4, 4), rate = get_be(frame + 10, 2);
     if (high == setting(station, OWN_HIGH) && low == setting(station, OWN_LOW)) return 11;
     int clears = rate == FULL_RATE;
@@ -277,7 +283,7 @@ uint64_t plain_write_frame(const void *lent, size_t length, void *room, size_t r
     uint32_t own = fair(station, OWN_RATE), received = fair(station, RECEIVED_RATE), downstream = fair(station, DOWNSTREAM);
     if (fair(station, LOCALLY) && (!downstream || own <= received)) {
         rate = own;
-    } else if (downstream && fair(station, RECEIVED_TTL) != LEAST_TTL) {
+    } else if (downstream && fair(station, RECEIVED_TTL) != last_ttl(station)) {
         rate = received;
         ttl = fair(station, RECEIVED_TTL) - 1;
         high = fair(station, RECEIVED_HIGH);

@@ -5,13 +5,13 @@
 #include <stdint.h>
 #include <string.h>
 
-/* Where things stand in the 1,786 bytes of a station. */
-enum { CREDITS = 0, CONTROL = 20, PRIMARY = 538, SECONDARY = 1056, STAGE = 1574, FAIR = 1578, SETTINGS = 1666, STATION_LENGTH = 1786 };
+/* Where things stand in the 1,790 bytes of a station. */
+enum { CREDITS = 0, CONTROL = 20, PRIMARY = 538, SECONDARY = 1056, STAGE = 1574, FAIR = 1578, SETTINGS = 1666, STATION_LENGTH = 1790 };
 
 /* A queue: 128 slots of 4 bytes, the bytes held, the first slot's number and the number of frames. */
 enum { SLOTS = 128, HELD = 512, HEAD = 516, COUNT = 517 };
 
-enum { FRAME_LENGTH = 12, READING_LENGTH = 124, SETTINGS_LENGTH = 120 };
+enum { FRAME_LENGTH = 12, READING_LENGTH = 124, SETTINGS_LENGTH = 124 };
 
 /* The shapers, in the order of their credits and settings. */
 enum { M, A, B, C, D, SHAPERS };
@@ -25,10 +25,10 @@ enum {
 /* The words of the settings. */
 enum {
     OWN_HIGH, OWN_LOW, RINGLET, MTU, LO_LIMIT, HI_LIMIT, AMOUNT, CONTROL_BYTES = LO_LIMIT + 3 * SHAPERS, PRIMARY_BYTES,
-    SECONDARY_BYTES, LOW_THRESHOLD, WEIGHT, RATE_UNIT, TICKS, UNRESERVED, AGE_COEF, LP_COEF, RAMP_UP
+    SECONDARY_BYTES, LOW_THRESHOLD, WEIGHT, RATE_UNIT, TICKS, UNRESERVED, AGE_COEF, LP_COEF, RAMP_UP, STATIONS
 };
 
-enum { MOST_RATE = 2147483647, FULL_RATE = 65535, LEAST_TTL = 193, MOST_TTL = 255 };
+enum { MOST_RATE = 2147483647, FULL_RATE = 65535, LEAST_TTL = 193, MOST_TTL = 255, LEAST_STATIONS = 2, MOST_STATIONS = 63 };
 
 /* ---- numbers in bytes ---- */
 
@@ -67,9 +67,12 @@ static inline uint32_t hops_of(uint32_t frame) { return frame >> 14 & 0x3f; }
 static inline uint32_t class_of(uint32_t frame) { return frame >> 20 & 3; }
 static inline uint32_t mark_of(uint32_t frame) { return frame >> 22; }
 
+/* The ttl of a fairness frame that comes from the last hop of the ring, stations - 1: the least that a station takes. */
+static inline uint32_t last_ttl(const uint8_t *station) { return 256 - (setting(station, STATIONS) - 1); }
+
 /* ---- plain_range.c ---- */
 
-/* The 120 bytes of settings are in range. */
+/* The 124 bytes of settings are in range. */
 int plain_settings_ok(const uint8_t *settings);
 
 /* The settings, credits, queues, stage and fairness state of a station are in range. */

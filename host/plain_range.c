@@ -22,11 +22,16 @@ int plain_settings_ok(const uint8_t *s) {
     if (!within(s, SECONDARY_BYTES, 2 * mtu, 1048576) || word(s, LOW_THRESHOLD) > word(s, SECONDARY_BYTES)) return 0;
     if (!within(s, WEIGHT, 1, 255) || !within(s, RATE_UNIT, 1, 1024) || !within(s, TICKS, 1, 10000)) return 0;
     return within(s, UNRESERVED, 1, MOST_RATE) && power_ok(word(s, AGE_COEF), 1, 16) && power_ok(word(s, LP_COEF), 16, 512) &&
-           power_ok(word(s, RAMP_UP), 16, 512);
+           power_ok(word(s, RAMP_UP), 16, 512) && within(s, STATIONS, LEAST_STATIONS, MOST_STATIONS);
 }
 
+/* What a frame is held to: its size is at most the mtu, its hops are below the number of stations. */
+struct bounds {
+    uint32_t mtu, stations;
+};
+
 /* A run of slots holds frames in range; their bytes are added up. */
-static int used_ok(const uint8_t *queue, uint32_t from, uint32_t to, uint32_t mtu, uint32_t *bytes);
+static int used_ok(const uint8_t *queue, uint32_t from, uint32_t to, struct bounds bounds, uint32_t *bytes);
 
 /* A run of slots is empty. */
 static int free_ok(const uint8_t *queue, uint32_t from, uint32_t to);
@@ -34,29 +39,31 @@ static int free_ok(const uint8_t *queue, uint32_t from, uint32_t to);
 #ifdef SAME_ALGORITHM
 #include "same_range.h"
 #else
-static int word_ok(uint32_t w, uint32_t mtu) {
-    return size_of(w) >= 16 && size_of(w) <= mtu && hops_of(w) >= 1 && class_of(w) <= 2 && mark_of(w) <= 1 && mark_of(w) <= class_of(w);
+/* A range is one comparison: what is below its start wraps round to the largest numbers. */
+static int word_ok(uint32_t w, struct bounds bounds) {
+    return hops_of(w) - 1 < bounds.stations - 1 && size_of(w) - 16 <= bounds.mtu - 16 && class_of(w) <= 2 && mark_of(w) <= 1 &&
+           mark_of(w) <= class_of(w);
 }
 
 /* The frames stand in one run of slots, or in one at the end and one at the start. */
-static int queue_ok(const uint8_t *queue, uint32_t mtu, uint32_t capacity) {
+static int queue_ok(const uint8_t *queue, struct bounds bounds, uint32_t capacity) {
     uint32_t head = queue[HEAD], count = queue[COUNT], end = head + count, held = get(queue + HELD), sum = 0;
     int ok;
     if (head >= SLOTS || count > SLOTS) return 0;
     if (end <= SLOTS)
-        ok = free_ok(queue, 0, head) && used_ok(queue, head, end, mtu, &sum) && free_ok(queue, end, SLOTS);
+        ok = free_ok(queue, 0, head) && used_ok(queue, head, end, bounds, &sum) && free_ok(queue, end, SLOTS);
     else
-        ok = used_ok(queue, 0, end - SLOTS, mtu, &sum) && free_ok(queue, end - SLOTS, head) && used_ok(queue, head, SLOTS, mtu, &sum);
+        ok = used_ok(queue, 0, end - SLOTS, bounds, &sum) && free_ok(queue, end - SLOTS, head) && used_ok(queue, head, SLOTS, bounds, &sum);
     return ok && held == sum && held <= capacity;
 }
 #endif
 
 /* No loop here is left early, so that it runs on vectors. */
-static int used_ok(const uint8_t *queue, uint32_t from, uint32_t to, uint32_t mtu, uint32_t *bytes) {
+static int used_ok(const uint8_t *queue, uint32_t from, uint32_t to, struct bounds bounds, uint32_t *bytes) {
     uint32_t bad = 0, sum = 0;
     for (uint32_t i = from; i < to; i++) {
         uint32_t w = word(queue, i);
-        bad |= !word_ok(w, mtu);
+        bad |= !word_ok(w, bounds);
         sum += size_of(w);
     }
     *bytes += sum;
@@ -77,15 +84,16 @@ static int fair_ok(const uint8_t *station) {
         if (word(f, i) > MOST_RATE || stored(station, i) >= end) return 0;
     if (word(f, LOCAL_FAIR_RATE) > MOST_RATE || word(f, ALLOWED_RATE) > unreserved || word(f, ALLOWED_RATE_CONGESTED) > unreserved) return 0;
     if (word(f, OWN_RATE) >= FULL_RATE || word(f, LOCALLY) > 1 || word(f, DOWNSTREAM) > 1) return 0;
-    return within(f, RECEIVED_TTL, LEAST_TTL, MOST_TTL) && word(f, RECEIVED_HIGH) <= 65535 && word(f, RECEIVED_RATE) < FULL_RATE;
+    return within(f, RECEIVED_TTL, last_ttl(station), MOST_TTL) && word(f, RECEIVED_HIGH) <= 65535 && word(f, RECEIVED_RATE) < FULL_RATE;
 }
 
 int plain_station_ok(const uint8_t *s) {
     if (!plain_settings_ok(s + SETTINGS)) return 0;
     for (unsigned i = 0; i < SHAPERS; i++)
         if (word(s + CREDITS, i) > setting(s, HI_LIMIT + 3 * i)) return 0;
-    uint32_t mtu = setting(s, MTU), stage = get(s + STAGE);
-    if (!queue_ok(s + CONTROL, mtu, setting(s, CONTROL_BYTES)) || !queue_ok(s + PRIMARY, mtu, setting(s, PRIMARY_BYTES))) return 0;
-    if (!queue_ok(s + SECONDARY, mtu, setting(s, SECONDARY_BYTES))) return 0;
-    return (stage == 0 || word_ok(stage, mtu)) && fair_ok(s);
+    struct bounds bounds = {setting(s, MTU), setting(s, STATIONS)};
+    uint32_t stage = get(s + STAGE);
+    if (!queue_ok(s + CONTROL, bounds, setting(s, CONTROL_BYTES)) || !queue_ok(s + PRIMARY, bounds, setting(s, PRIMARY_BYTES))) return 0;
+    if (!queue_ok(s + SECONDARY, bounds, setting(s, SECONDARY_BYTES))) return 0;
+    return (stage == 0 || word_ok(stage, bounds)) && fair_ok(s);
 }

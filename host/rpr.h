@@ -3,8 +3,7 @@
  *
  * host/example.c is the page to start from. Documents 01 and 02 say what each call does, this header how it is called.
  *
- * Numbers.   Every number parameter is a uint64_t, so that no value is cut on its way in: a size of 65,600 is refused,
- *            not taken for 64.
+ * Numbers.   A number parameter is a uint64_t, so that no value is cut on its way in: 65,600 is not taken for 64.
  * Slices.    A slice is a pointer and then a length in bytes, at any alignment. A pointer is never null, even where
  *            the length is 0. A slice lent for writing (not const) overlaps no other slice of the call.
  * Answers.   Every call but rpr_version and rpr_station_length answers one uint64_t, read as eight bytes, byte 0 the
@@ -26,10 +25,6 @@
 #include <stddef.h>
 #include <stdint.h>
 
-/* The version of this interface. The first number grows where a host has to change what it calls or lends: from 2.0 on
- * a station is longer. One of version 1 is refused with 2: compile the host anew, and start its stations anew. */
-#define RPR_VERSION "2.0"
-
 #ifdef __cplusplus
 extern "C" {
 #define RPR_HOLDS(condition) static_assert(condition, #condition)
@@ -48,21 +43,28 @@ extern "C" {
 
 /* ---- version ---- */
 
+/* The version of this interface. The first number grows where a host has to change what it calls or lends: from 2.0 on
+ * a station is longer, from 3.0 on it and the settings have a word more, the number of stations, and no frame may have
+ * so many hops. What a host of an earlier version lends is refused with 2, and nothing is touched: set `stations` (0 is
+ * refused with 1), compile the host anew, and start its stations anew. */
+#define RPR_VERSION "3.0"
+
 /* The version of the library that is linked: 256 times the first number and the second. Nothing is refused. */
 RPR_ANSWERS uint64_t rpr_version(void);
 
 /* ---- refusals ---- */
 
-/* Why a call was refused. Where several apply the order is 2, 1, 3, 11, 10, 9, 4, 5, 6, 7, 8, and the first is given;
- * within a record the earliest fault counts instead, header first. */
+/* Why a call was refused. Where several apply the order is 2, 1, 3, 13, 11, 10, 9, 4, 5, 6, 7, 8, and the first is
+ * given; within a record the earliest fault counts instead, header first. */
 enum rpr_refusal {
     RPR_CARRIED_OUT = 0, /* no refusal */
 
     /* What was lent or said makes no sense: the host has a fault, or passes on somebody else's. */
-    RPR_SETTING = 1, /* a setting, or a lent station's state, is outside its range */
-    RPR_BYTES = 2,   /* bytes are not a whole record, frame or station: another length, or another form */
-    RPR_RANGE = 3,   /* a frame, station index, summary (its settings too), starting credit or coded choice is outside
-                        its range */
+    RPR_SETTING = 1,      /* a setting, or a lent station's state, is outside its range */
+    RPR_BYTES = 2,        /* bytes are not a whole record, frame or station: another length, or another form */
+    RPR_RANGE = 3,        /* a frame, station index, summary (its settings too), starting credit or coded choice is
+                             outside its range */
+    RPR_BEYOND_RING = 13, /* a frame's hops reach the number of stations or more */
 
     /* Not now: the same call may be carried out after a tick, a selection, an aging interval or a fairness frame. */
     RPR_NO_ROOM = 4,    /* a frame's size exceeds the queue's space */
@@ -125,8 +127,8 @@ enum rpr_origin {
 RPR_HOLDS(sizeof(size_t) == sizeof(uint64_t)); /* the library is for 64-bit machines */
 
 enum {
-    RPR_STATION_LENGTH = 1786,     /* a station; rpr_station_length() answers the same of the library that is linked */
-    RPR_SETTINGS_LENGTH = 120,     /* struct rpr_settings */
+    RPR_STATION_LENGTH = 1790,     /* a station; rpr_station_length() answers the same of the library that is linked */
+    RPR_SETTINGS_LENGTH = 124,     /* struct rpr_settings */
     RPR_READING_LENGTH = 124,      /* struct rpr_reading */
     RPR_FRAME_LENGTH = 12,         /* a fairness frame */
     RPR_SUMMARY_LENGTH = 48,       /* struct rpr_summary */
@@ -146,7 +148,7 @@ struct rpr_shaper {
     uint32_t amount;   /* 0 to 65,535 bytes that each tick adds */
 };
 
-/* The settings of a station: 30 words. Rates are in bytes per age_coef intervals, sizes and queues in bytes. */
+/* The settings of a station: 31 words. Rates are in bytes per age_coef intervals, sizes and queues in bytes. */
 struct rpr_settings {
     uint32_t own_address_high;   /* the first two bytes of the own address: 0 to 65,535 */
     uint32_t own_address_low;    /* the last four */
@@ -157,8 +159,7 @@ struct rpr_settings {
     struct rpr_shaper b;         /* client frames of class B, within their share */
     struct rpr_shaper c;         /* client frames of class C, and of B beyond the share; a tick adds the smaller of its
                                     amount and allowedRate / (age_coef * ticks_per_interval) */
-    struct rpr_shaper d;         /* downstream: client frames of B and C, and frames of the secondary queue while it has
-                                    space for another mtu */
+    struct rpr_shaper d;         /* downstream: client B and C, and the secondary queue while it has space for an mtu */
     uint32_t control_queue;      /* mtu to 1,048,576 bytes */
     uint32_t primary_queue;      /* mtu to 1,048,576 bytes */
     uint32_t secondary_queue;    /* 2 mtu to 1,048,576 bytes */
@@ -170,10 +171,11 @@ struct rpr_settings {
     uint32_t age_coef;           /* 1, 2, 4, 8 or 16: how slowly counters fade */
     uint32_t lp_coef;            /* 16, 32, 64, 128, 256 or 512: how slowly smoothed rates follow them */
     uint32_t ramp_up;            /* 16, 32, 64, 128, 256 or 512: how slowly allowed rates rise again */
+    uint32_t stations;           /* 2 to 63: how many stations the ring has; no frame has so many hops to go, or more */
 };
 
 RPR_HOLDS(sizeof(struct rpr_settings) == RPR_SETTINGS_LENGTH);
-RPR_HOLDS(offsetof(struct rpr_settings, control_queue) == 4 * 19 && offsetof(struct rpr_settings, ramp_up) == 4 * 29);
+RPR_HOLDS(offsetof(struct rpr_settings, control_queue) == 4 * 19 && offsetof(struct rpr_settings, stations) == 4 * 30);
 
 /* ---- a station: start, ticks, frames in, frames out ---- */
 
@@ -188,21 +190,22 @@ RPR_ANSWERS uint64_t rpr_station_length(void);
 RPR_LENT uint64_t rpr_start(const void *settings, size_t settings_length, void *station, size_t station_length);
 
 /* One tick of the host's clock: adds to each shaper's credit, and cuts the sum to hi_limit where its traffic waits,
- * else to lo_limit. RPR_YES or RPR_NO says whether client traffic of class A, B and C waits. Refuses 2, 1, 3 (neither
- * yes nor no). */
+ * else to lo_limit. RPR_YES or RPR_NO says whether client traffic of class A, B, C waits. Refuses 2, 1, 3 (neither). */
 RPR_LENT uint64_t rpr_tick(void *station, size_t station_length, uint64_t a_waits, uint64_t b_waits, uint64_t c_waits);
 
-/* Offers a client frame: class (enum rpr_class), size (16 to mtu) and hops to its destination (1 to 63). Its shapers
- * are charged and it goes to the stage. Answers the mark that it got, fairness eligible or not: rpr_mark_of. Refuses 2,
- * 1, 3 (class, size or hops), 5, 6 (rpr_shortfall_of), 7. (The parameter is class_ because class is a word of C++.) */
+/* Offers a client frame: class (enum rpr_class), size (16 to mtu) and hops to its destination (1 to 63, below the
+ * number of stations: the distance that rpr_choose answers, not the ttl). Its shapers are charged and it goes to the
+ * stage. Answers the mark that it got, fairness eligible or not: rpr_mark_of. Refuses 2, 1, 3 (class, size, or hops not
+ * 1 to 63), 13, 5, 6 (rpr_shortfall_of), 7. (The parameter is class_ because class is a word of C++.) */
 RPR_LENT uint64_t rpr_offer_client(void *station, size_t station_length, uint64_t class_, uint64_t size, uint64_t hops);
 
-/* Takes in a frame that passes through, with the mark that it bears: RPR_YES for fairness eligible, which only B and C
- * may be. A goes to the primary queue, B and C to the secondary. Refuses 2, 1, 3 (class, size, hops or mark), 4. */
+/* Takes in a frame that passes through: class, size and the hops that it has to go, in the same ranges, and the mark
+ * that it bears, RPR_YES for fairness eligible, which only B and C may be. A goes to the primary queue, B and C to the
+ * secondary. Refuses 2, 1, 3 (class, size, hops or mark), 13, 4. */
 RPR_LENT uint64_t rpr_offer_transit(void *station, size_t station_length, uint64_t class_, uint64_t size, uint64_t hops,
                                     uint64_t eligible);
 
-/* Puts a control frame into the control queue: class A, 1 hop. Refuses 2, 1, 3 (size), 4. */
+/* Puts a control frame into the control queue: class A, 1 hop, which any ring has. Refuses 2, 1, 3 (size), 4. */
 RPR_LENT uint64_t rpr_offer_control(void *station, size_t station_length, uint64_t size);
 
 /* Takes out the frame to be sent next, and charges and counts it; where nothing is to be sent now the answer is 0 and
@@ -218,11 +221,13 @@ enum { RPR_FULL_RATE = 65535 }; /* the rate in a fairness frame that says: not c
 RPR_LENT uint64_t rpr_age(void *station, size_t station_length);
 
 /* Hears a fairness frame of RPR_FRAME_LENGTH bytes: RPR_FULL_RATE clears downstream congestion, another rate sets it.
- * Refuses 2 (another length, frame type, header kind, or the own ringlet's bit), 1, 3 (ttl not 193 to 255), 11. */
+ * Refuses 2 (another length, frame type, header kind, or the own ringlet's bit), 1, 3 (ttl not 193 to 255), 13 (its
+ * hops, 256 - ttl, reach the number of stations, whatever its rate), 11. */
 RPR_LENT uint64_t rpr_read_frame(void *station, size_t station_length, const void *frame, size_t frame_length);
 
-/* Writes the fairness frame that the station advertises now, and changes nothing in the station. Refuses 2 (a room that
- * is not RPR_FRAME_LENGTH bytes too), 1. */
+/* Writes the fairness frame that the station advertises now, and changes nothing in the station: its own rate, or the
+ * received one with ttl less 1, or RPR_FULL_RATE, which also takes the place of a rate received from stations - 1 hops
+ * away. Refuses 2 (a room that is not RPR_FRAME_LENGTH bytes too), 1. */
 RPR_LENT uint64_t rpr_write_frame(const void *station, size_t station_length, void *room, size_t room_length);
 
 /* ---- a station: reading it ---- */
@@ -248,10 +253,7 @@ struct rpr_reading {
     uint32_t credit_b;
     uint32_t credit_c;
     uint32_t credit_d;
-    struct rpr_held control;
-    struct rpr_held primary;
-    struct rpr_held secondary;
-    struct rpr_held stage;
+    struct rpr_held control, primary, secondary, stage;
     struct rpr_rates counted;        /* addRate .. fwRateCongested: counted as sent, faded at each interval */
     struct rpr_rates smoothed;       /* lpAddRate .. lpFwRateCongested, the rates shown: they reach a steady counter */
     uint32_t local_fair_rate;        /* lpAddRate if locally congested, else unreserved_rate */
@@ -260,7 +262,7 @@ struct rpr_reading {
     uint32_t own_rate;               /* local_fair_rate as a fairness frame bears it: 0 to 65,534 */
     uint32_t locally_congested;      /* RPR_YES or RPR_NO, as of the last interval */
     uint32_t downstream_congested;   /* RPR_YES or RPR_NO, as of the last frame heard */
-    uint32_t received_ttl;           /* 193 to 255: while congested, the station that says so is 256 less this away */
+    uint32_t received_ttl;           /* 257 - stations to 255: while congested, the station is 256 less this away */
     uint32_t received_address_high;  /* the first two bytes of that station's address */
     uint32_t received_address_low;   /* the last four */
     uint32_t received_rate;          /* 0 to 65,534 */
@@ -277,11 +279,9 @@ RPR_LENT uint64_t rpr_show(const void *station, size_t station_length, void *roo
 /* Which side a frame takes from station `own` to station `target` of a ring of 2 to 63, numbered from 0. `links` has a
  * bit for each link, set if usable: link k joins k and k + 1, the last joins 0. Codes: enum rpr_side, rpr_protection,
  * rpr_ring. Answers side, distance, ttl and wrap mark: rpr_choice_side and so on. Refuses 1 (not 2 to 63 stations),
- * 3 (an index, equal indexes, a bit beyond the links, a code), 8.
- *
- * By default both ends of a pair, given the same `links` and `protection`, cross the same links, so that a cut breaks
- * both ways between them or none. Up to version 1.1 a tie went right from either end: a host that relied on this must
- * name RPR_RIGHT where twice the distance is `stations`. */
+ * 3 (an index, equal indexes, a bit beyond the links, a code), 8. By default both ends of a pair, given the same
+ * `links` and `protection`, cross the same links, so that a cut breaks both ways between them or none. Up to version
+ * 1.1 a tie went right from either end: who relied on it must name RPR_RIGHT where twice the distance is `stations`. */
 RPR_ANSWERS uint64_t rpr_choose(uint64_t stations, uint64_t own, uint64_t target, uint64_t links, uint64_t side,
                                 uint64_t protection, uint64_t ring);
 
@@ -346,8 +346,7 @@ static inline uint32_t rpr_shortfall_of(uint64_t answer) { return (uint32_t)(RPR
  * rpr_offer_client: RPR_YES where the frame is marked fairness eligible. */
 static inline unsigned rpr_mark_of(uint64_t answer) { return (unsigned)(RPR_IF(0) >> 32 & 0xff); }
 
-/* rpr_select: where the frame comes from (enum rpr_origin), its class (enum rpr_class), its hops, whether it is marked
- * fairness eligible, and its size. */
+/* rpr_select: the frame's origin (enum rpr_origin), class (enum rpr_class), hops, fairness eligible mark and size. */
 static inline unsigned rpr_selected_origin(uint64_t answer) { return (unsigned)(RPR_IF(0) >> 8 & 0xff); }
 static inline unsigned rpr_selected_class(uint64_t answer) { return (unsigned)(RPR_IF(0) >> 16 & 0xff); }
 static inline unsigned rpr_selected_hops(uint64_t answer) { return (unsigned)(RPR_IF(0) >> 24 & 0xff); }
@@ -375,6 +374,7 @@ static inline const char *rpr_refusal_text(uint64_t answer) {
         case RPR_SETTING: return "a setting, or a lent station's state, is outside its range";
         case RPR_BYTES: return "bytes are not a whole record, frame or station";
         case RPR_RANGE: return "a frame, station index, summary, starting credit or coded choice is outside its range";
+        case RPR_BEYOND_RING: return "a frame's hops reach the number of stations or more";
         case RPR_NO_ROOM: return "a frame's size exceeds the queue's space";
         case RPR_STAGE_FULL: return "the stage already holds a frame";
         case RPR_NO_PERMIT: return "a needed shaper doesn't permit";

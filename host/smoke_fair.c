@@ -77,9 +77,9 @@ static void local(void) {
     tells("own rate", BYTES(255, 0xa0, 2, 0, 0x5e, 0, 0, 1, 0, 0, 0, 4));
     hear("as much as the own rate", BYTES(254, 0xa0, 2, 0, 0x5e, 0, 0, 2, 0, 0, 0, 4), 0);
     tells("both: the own rate", BYTES(255, 0xa0, 2, 0, 0x5e, 0, 0, 1, 0, 0, 0, 4));
-    hear("less than the own rate", BYTES(194, 0xa0, 2, 0, 0x5e, 0, 0, 2, 0, 0, 0, 1), 0);
-    tells("both: the received rate", BYTES(193, 0xa0, 2, 0, 0x5e, 0, 0, 2, 0, 0, 0, 1));
-    hear("ttl 193", BYTES(193, 0xa0, 2, 0, 0x5e, 0, 0, 2, 0, 0, 0, 1), 0);
+    hear("less than the own rate", BYTES(195, 0xa0, 2, 0, 0x5e, 0, 0, 2, 0, 0, 0, 1), 0);
+    tells("both: the received rate", BYTES(194, 0xa0, 2, 0, 0x5e, 0, 0, 2, 0, 0, 0, 1));
+    hear("62 hops, in a ring of 63", BYTES(194, 0xa0, 2, 0, 0x5e, 0, 0, 2, 0, 0, 0, 1), 0);
     tells("no further", BYTES(255, 0xa0, 2, 0, 0x5e, 0, 0, 1, 0, 0, 255, 255));
 }
 
@@ -153,7 +153,7 @@ static void wrong_frames(void) {
     hear("frame type 0", BYTES(254, 0x80, 2, 0, 0x5e, 0, 0, 2, 0, 0, 0, 13), RPR_BYTES);
     hear("another header kind", BYTES(254, 0xa0, 2, 0, 0x5e, 0, 0, 2, 0x20, 0, 0, 13), RPR_BYTES);
     hear("ttl 192 is 3, before 11", BYTES(192, 0xa0, 2, 0, 0x5e, 0, 0, 1, 0, 0, 0, 13), RPR_RANGE);
-    hear("the own address", BYTES(193, 0xa0, 2, 0, 0x5e, 0, 0, 1, 0, 0, 0, 13), RPR_OWN_ADDRESS);
+    hear("the own address", BYTES(194, 0xa0, 2, 0, 0x5e, 0, 0, 1, 0, 0, 0, 13), RPR_OWN_ADDRESS);
     hear("the own address, FULL_RATE", BYTES(255, 0xa0, 2, 0, 0x5e, 0, 0, 1, 0, 0, 255, 255), RPR_OWN_ADDRESS);
     expect("not congested", show().downstream_congested, 0);
     lend_filled(STATION, 0, RPR_STATION_LENGTH);

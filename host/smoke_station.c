@@ -18,7 +18,7 @@ static void fresh(void) {
     want.local_fair_rate = want.allowed_rate = want.allowed_rate_congested = 10000;
     want.own_rate = 3333;
     want.received_ttl = 255;
-    expect("the version", rpr_version(), 256 * 2 + 0);
+    expect("the version", rpr_version(), 256 * 3 + 0);
     expect("the station's length", rpr_station_length(), RPR_STATION_LENGTH);
     start(&plain);
     struct rpr_reading got = show();
@@ -49,7 +49,8 @@ static void settings_words(void) {
         {21, 1048577, 1}, {22, 0, 0}, {22, 130, 0}, {22, 131, 1}, {23, 0, 1}, {23, 255, 0}, {23, 256, 1},
         {24, 0, 1}, {24, 1024, 0}, {24, 1025, 1}, {25, 0, 1}, {25, 10000, 0}, {25, 10001, 1}, {26, 0, 1},
         {26, 2147483647, 0}, {26, 2147483648, 1}, {27, 0, 1}, {27, 1, 0}, {27, 3, 1}, {27, 16, 0}, {27, 32, 1},
-        {28, 0, 1}, {28, 8, 1}, {28, 512, 0}, {28, 1024, 1}, {29, 16, 0}, {29, 24, 1}, {29, 1024, 1}};
+        {28, 0, 1}, {28, 8, 1}, {28, 512, 0}, {28, 1024, 1}, {29, 16, 0}, {29, 24, 1}, {29, 1024, 1},
+        {30, 0, 1}, {30, 1, 1}, {30, 2, 0}, {30, 63, 0}, {30, 64, 1}, {30, 256 + 6, 1}};
     for (size_t i = 0; i < sizeof cases / sizeof cases[0]; i++) {
         uint32_t words[RPR_SETTINGS_LENGTH / 4];
         memcpy(words, &plain, sizeof words);
@@ -63,25 +64,9 @@ static void settings_words(void) {
 
 /* ---- every call refuses 2, then 1 ---- */
 
-/* All calls that take a started station, with arguments that are wrong too: 2 and 1 come before 3 and 11. */
-static void all_refuse(const char *what, uint64_t want) {
-    static const uint8_t frame[] = {0, 0xa0, 2, 0, 0x5e, 0, 0, 1, 0, 0, 0, 5};
-    answered(what, rpr_tick(LENT(STATION), 2, 2, 2), STATION, want);
-    answered(what, rpr_offer_client(LENT(STATION), 3, 0, 0), STATION, want);
-    answered(what, rpr_offer_transit(LENT(STATION), 3, 0, 0, 2), STATION, want);
-    answered(what, rpr_offer_control(LENT(STATION), 0), STATION, want);
-    answered(what, rpr_select(LENT(STATION)), STATION, want);
-    answered(what, rpr_age(LENT(STATION)), STATION, want);
-    hear(what, frame, sizeof frame, want);
-    lend_filled(ROOM, 0xaa, RPR_FRAME_LENGTH);
-    answered(what, rpr_write_frame(LENT(STATION), LENT(ROOM)), ROOM, want);
-    lend_filled(ROOM, 0xaa, RPR_READING_LENGTH);
-    answered(what, rpr_show(LENT(STATION), LENT(ROOM)), ROOM, want);
-}
-
-/* Of version 1 a station has 1,770 bytes. */
+/* Of version 1 a station has 1,770 bytes, of version 2 it has 1,786, and its settings 30 words. */
 static void lengths(void) {
-    static const size_t others[] = {0, 1, 1770, RPR_STATION_LENGTH - 1, RPR_STATION_LENGTH + 1};
+    static const size_t others[] = {0, 1, 1770, 1786, RPR_STATION_LENGTH - 1, RPR_STATION_LENGTH + 1};
     for (size_t i = 0; i < sizeof others / sizeof others[0]; i++) {
         lend(SETTINGS, &plain, sizeof plain);
         lend_filled(STATION, 0, others[i]);
@@ -89,6 +74,8 @@ static void lengths(void) {
         answered("start", rpr_start(LENT(SETTINGS), LENT(STATION)), STATION, RPR_BYTES);
     }
     start(&plain);
+    lend(SETTINGS, &plain, 4 * 30);
+    answered("30 words", rpr_start(LENT(SETTINGS), LENT(STATION)), STATION, RPR_BYTES);
     lend_filled(SETTINGS, 0, RPR_SETTINGS_LENGTH - 1);
     answered("short settings", rpr_start(LENT(SETTINGS), LENT(STATION)), STATION, RPR_BYTES);
     lend_filled(SETTINGS, 0, RPR_SETTINGS_LENGTH + 1);
@@ -325,11 +312,11 @@ static void slots(void) {
     struct rpr_settings wide = plain;
     wide.secondary_queue = 1048576;
     start(&wide);
-    for (unsigned i = 0; i < 128; i++) transit("a slot", C, 16 + i % 40, 1 + i % 63, 1, 0);
+    for (unsigned i = 0; i < 128; i++) transit("a slot", C, 16 + i % 40, 1 + i % 62, 1, 0);
     transit("128 frames are held", B, 16, 1, 0, RPR_NO_ROOM);
     for (unsigned i = 0; i < 128; i++) {
-        selects("no space: secondary first", RPR_FROM_SECONDARY, C, 1 + i % 63, 1, 16 + i % 40);
-        transit("freed room", C, 16 + i % 40, 1 + i % 63, 1, 0);
+        selects("no space: secondary first", RPR_FROM_SECONDARY, C, 1 + i % 62, 1, 16 + i % 40);
+        transit("freed room", C, 16 + i % 40, 1 + i % 62, 1, 0);
     }
     expect("128 frames", show().secondary.frames, 128);
     transit("the other queue has room", A, 16, 1, 0, 0);

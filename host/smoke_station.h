@@ -15,13 +15,13 @@ enum { A = RPR_CLASS_A, B = RPR_CLASS_B, C = RPR_CLASS_C };
 #define SHORT(missing) (RPR_NO_PERMIT | (uint64_t)(missing) << 32)
 
 /* Every word differs from its neighbours, so that none is taken for another. Weight x unit is 3; C's amount, 53, is
- * below 10,000 / (4 x 10). */
+ * below 10,000 / (4 x 10). A ring of 63 has room for all hops but 63. */
 static const struct rpr_settings plain = {
     .own_address_high = 0x0200, .own_address_low = 0x5e000001, .own_ringlet = 0, .mtu = 64,
     .m = {100, 300, 50}, .a = {110, 310, 51}, .b = {120, 320, 52}, .c = {130, 330, 53}, .d = {140, 340, 54},
     .control_queue = 100, .primary_queue = 101, .secondary_queue = 130, .low_threshold = 98,
     .weight = 1, .rate_unit = 3, .ticks_per_interval = 10, .unreserved_rate = 10000,
-    .age_coef = 4, .lp_coef = 16, .ramp_up = 64};
+    .age_coef = 4, .lp_coef = 16, .ramp_up = 64, .stations = 63};
 
 static inline void start(const struct rpr_settings *settings) {
     lend(SETTINGS, settings, sizeof *settings);
@@ -82,6 +82,22 @@ static inline struct rpr_reading show(void) {
     answered("show", rpr_show(LENT(STATION), LENT(ROOM)), ROOM, 0);
     memcpy(&reading, slices[ROOM].memory + GUARD, sizeof reading);
     return reading;
+}
+
+/* All calls that take a started station, with arguments that are wrong too: 2 and 1 come before 3, 13 and 11. */
+static inline void all_refuse(const char *what, uint64_t want) {
+    static const uint8_t frame[] = {0, 0xa0, 2, 0, 0x5e, 0, 0, 1, 0, 0, 0, 5};
+    answered(what, rpr_tick(LENT(STATION), 2, 2, 2), STATION, want);
+    answered(what, rpr_offer_client(LENT(STATION), 3, 0, 0), STATION, want);
+    answered(what, rpr_offer_transit(LENT(STATION), 3, 0, 0, 2), STATION, want);
+    answered(what, rpr_offer_control(LENT(STATION), 0), STATION, want);
+    answered(what, rpr_select(LENT(STATION)), STATION, want);
+    answered(what, rpr_age(LENT(STATION)), STATION, want);
+    hear(what, frame, sizeof frame, want);
+    lend_filled(ROOM, 0xaa, RPR_FRAME_LENGTH);
+    answered(what, rpr_write_frame(LENT(STATION), LENT(ROOM)), ROOM, want);
+    lend_filled(ROOM, 0xaa, RPR_READING_LENGTH);
+    answered(what, rpr_show(LENT(STATION), LENT(ROOM)), ROOM, want);
 }
 
 static inline void rates(const char *what, struct rpr_rates got, struct rpr_rates want) {

@@ -5,3 +5,4 @@ pub mod Refusal
 pub mod Order
 pub mod Refused
 pub mod Early
+pub mod Hops

@@ -1,3 +1,4 @@
 pub mod Test
 pub mod Refusal
 pub mod Size
+pub mod Hops

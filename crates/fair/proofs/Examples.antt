@@ -14,9 +14,9 @@ use Rattle.fair.specs.Count.{beyond, over, raisedOf, countOf}
 use Rattle.fair.specs.Age.{adjustOf, allowedOf, allowedcOf, ageOf}
 use Rattle.fair.specs.Advertise.{toldOf, heardOf}
 
--- ringlet 0, address 00-01-00-00-00-02, low threshold 1,000, weight 2, rate unit 4, unreservedRate 1,000,000, default coefficients
-abbrev pub settings : Settings
-settings =
+-- ringlet 0, address 00-01-00-00-00-02, low threshold 1,000, weight 2, rate unit 4, unreservedRate 1,000,000, default coefficients, so many stations
+abbrev pub settingsOn : ℕ → Settings
+settingsOn stations =
     let b : Bucket = record { lo = 2000; hi = 9000; amount = 300 } in
     record {
       address = record { high = 1; low = 2 };
@@ -25,8 +25,12 @@ settings =
       shapers = record { m = b; a = b; b = b; c = b; d = b };
       queues = record { control = 100000; primary = 100000; secondary = 200000; threshold = 1000 };
       fairness = record { weight = 2; unit = 4; ticks = 100; unreserved = 1000000; age = 4; lp = 64; ramp = 64 };
-      site = record {};
+      site = record { stations = stations };
     }
+
+-- the largest ring
+abbrev pub settings : Settings
+settings = settingsOn 63
 
 -- congested both ways, as told by 00-03-00-00-00-04 with this ttl and rate 125, at this own rate; of lpAddRate 2,400 is stored
 abbrev pub state : (own ttl : ℕ) → Fair
@@ -41,9 +45,11 @@ abbrev pub frame : (ttl high low rate : ℕ) → Advert
 frame ttl high low rate = record { ringlet = 1; ttl = ttl; high = high; low = low; rate = rate }
 
 pub record Examples : Type 0 where
-  -- a received ttl of 192 is out of range
-  pub ttl-193 : test (fairOk settings (state 17 193)) ≡ true
-  pub ttl-192 : test (fairOk settings (state 17 192)) ≡ false
+  -- of 63 stations a received ttl of 194 tells of 62 hops, and one of 193 is out of range; of 6 it is 251, 5 hops, and 250
+  pub ttl-194 : test (fairOk settings (state 17 194)) ≡ true
+  pub ttl-193 : test (fairOk settings (state 17 193)) ≡ false
+  pub six-251 : test (fairOk (settingsOn 6) (state 17 251)) ≡ true
+  pub six-250 : test (fairOk (settingsOn 6) (state 17 250)) ≡ false
   -- ttl 250: the congested station is 6 hops away. 936 + 64 does not pass 1,000, 936 + 65 does.
   pub hops-6 : test (beyond (state 17 250) 6) ≡ false
   pub hops-7 : test (beyond (state 17 250) 7) ≡ true
@@ -67,10 +73,12 @@ pub record Examples : Type 0 where
   pub room-congested : ageOf (state 9 250) settings 1000 .decided .congested ≡ 0
   pub room-allowed : ageOf (state 9 250) settings 1000 .decided .allowed ≡ 15758
   pub room-own : ageOf (state 9 250) settings 1000 .decided .own ≡ 65534
-  -- own 125 ≤ received 125; own 126 > received 125, whose frame goes on unless its ttl was 193
+  -- own 125 ≤ received 125; own 126 > received 125, whose frame goes on unless its hops are the stations less 1: 62 of 63, 5 of 6
   pub own-told : toldOf (state 125 250) settings ≡ frame 255 1 2 125
   pub received-told : toldOf (state 126 250) settings ≡ frame 249 3 4 125
-  pub last-told : toldOf (state 126 193) settings ≡ frame 255 1 2 65535
+  pub last-told : toldOf (state 126 194) settings ≡ frame 255 1 2 65535
+  pub six-told : toldOf (state 126 252) (settingsOn 6) ≡ frame 251 3 4 125
+  pub six-last : toldOf (state 126 251) (settingsOn 6) ≡ frame 255 1 2 65535
   -- a rate of 65,535 clears what was received
   pub cleared : heardOf (state 17 250) (frame 200 5 6 65535) .received .downstream ≡ 0
   pub cleared-ttl : heardOf (state 17 250) (frame 200 5 6 65535) .received .ttl ≡ 255
@@ -80,8 +88,10 @@ pub examples : Examples
 unfolding test fairOk raisedOf adjustOf allowedOf allowedcOf toldOf receivedOf partOf smoothedOf shownOf agedOf rampedOf allowanceOf ownRateOf countedOf
 examples =
     record {
+      ttl-194 = refl;
       ttl-193 = refl;
-      ttl-192 = refl;
+      six-251 = refl;
+      six-250 = refl;
       hops-6 = refl;
       hops-7 = refl;
       size-64 = refl;
@@ -102,6 +112,8 @@ examples =
       own-told = refl;
       received-told = refl;
       last-told = refl;
+      six-told = refl;
+      six-last = refl;
       cleared = refl;
       cleared-ttl = refl;
       set-ttl = refl;

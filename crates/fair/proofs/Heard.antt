@@ -1,8 +1,10 @@
 -- What a frame changes that is heard, row by row; and the range. Assumes nothing.
-use Prim.Native.Nat.{_≤_}
+use Prim.Native.Nat.{_≤_, _<_}
 use mathlib.Core.Path.{_≡_, refl}
 use Rattle.advert.specs.declared.Advert.{Advert}
 use Rattle.settings.specs.declared.Settings.{Settings}
+use Rattle.settings.specs.Range.{SettingsOk}
+use Rattle.heard.specs.Range.{hopsOf}
 use Rattle.heard.specs.Frame.{noneReceived}
 use Rattle.heard.proofs.Frame.{received-clears, received-sets, received-in-range}
 use Rattle.fair.specs.declared.Fair.{Fair}
@@ -26,7 +28,12 @@ module _ (f : Fair) (a : Advert) where
 -- ---- the range
 
 -- a frame that leaves what is received in range leaves the state so
-pub heard-in-range : (s : Settings) (f : Fair) → FairOk s f → (a : Advert) → 193 ≤ a .ttl → a .ttl ≤ 255 → a .high ≤ 65535 → a .rate ≤ 65535 →
-    FairOk s (heardOf f a)
-heard-in-range s f ok a l m h r =
-    record { of-counters = ok .of-counters; of-smoothed = ok .of-smoothed; of-decided = ok .of-decided; of-received = received-in-range a l m h r }
+pub heard-in-range : (s : Settings) → SettingsOk s → (f : Fair) → FairOk s f → (a : Advert) → 193 ≤ a .ttl → a .ttl ≤ 255 → hopsOf (a .ttl) < s .site .stations →
+    a .high ≤ 65535 → a .rate ≤ 65535 → FairOk s (heardOf f a)
+heard-in-range s good f ok a l m g h r =
+    record {
+      of-counters = ok .of-counters;
+      of-smoothed = ok .of-smoothed;
+      of-decided = ok .of-decided;
+      of-received = received-in-range (s .site .stations) a (good .of-site .stations-least) l m g h r;
+    }

@@ -49,7 +49,7 @@ module _ (s : Settings) (f : Fair) where
         of-counters = four-facts (f .counters) counters;
         of-smoothed = stored-facts (s .fairness .lp) (f .smoothed) smoothed;
         of-decided = decided-facts s (f .decided) decided;
-        of-received = received-facts (f .received) received;
+        of-received = received-facts (s .site .stations) (f .received) received;
       }
 
   -- the facts: a state in range
@@ -61,7 +61,7 @@ module _ (s : Settings) (f : Fair) where
         four-holds (f .counters) (ok .of-counters),
         (
           stored-holds (s .fairness .lp) (f .smoothed) (ok .of-smoothed),
-          (decided-holds s (f .decided) (ok .of-decided), received-holds (f .received) (ok .of-received)),
+          (decided-holds s (f .decided) (ok .of-decided), received-holds (s .site .stations) (f .received) (ok .of-received)),
         ),
       )
 
@@ -89,5 +89,5 @@ start-in-range s ok =
             allowedc-most = omega arith;
             congested-most = omega arith;
           };
-      of-received = none-received-ok;
+      of-received = none-received-ok (s .site .stations) (ok .of-site .stations-least);
     }

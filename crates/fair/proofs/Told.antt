@@ -1,5 +1,5 @@
 -- What is advertised, row by row: each row follows from the definition by whether its tests hold. Assumes nothing.
-use Prim.Native.Nat.{_≤_, _<_}
+use Prim.Native.Nat.{_-_, _≤_, _<_}
 use mathlib.Core.Bool.{true, false}
 use mathlib.Core.Logic.{_⊎_, inl, inr, ⊎-elim}
 use mathlib.Core.Path.{_≡_, sym}
@@ -10,7 +10,7 @@ use Rattle.decide.proofs.Cases.{of-each}
 use Rattle.advert.specs.declared.Advert.{Advert}
 use Rattle.settings.specs.declared.Settings.{Settings}
 use Rattle.heard.specs.Frame.{ownFrame, lastHop}
-use Rattle.heard.proofs.Frame.{last-exactly}
+use Rattle.heard.specs.Range.{hopsOf}
 use Rattle.fair.specs.declared.Fair.{Fair}
 use Rattle.fair.specs.Advertise.{passedOn, uncongested, ownCounts, toldOf}
 
@@ -29,21 +29,21 @@ module _ (f : Fair) (s : Settings) where
   unfolding toldOf
   told-own n e = rw (n, e)
 
-  pub told-last : test (uncongested f) ≡ false → test (ownCounts f) ≡ false → test (lastHop (f .received .ttl)) ≡ true → toldOf f s ≡ ownFrame s 65535
+  pub told-last : test (uncongested f) ≡ false → test (ownCounts f) ≡ false → test (lastHop s (f .received .ttl)) ≡ true → toldOf f s ≡ ownFrame s 65535
   unfolding toldOf
   told-last n m e = rw (n, m, e)
 
-  pub told-passed : test (uncongested f) ≡ false → test (ownCounts f) ≡ false → test (lastHop (f .received .ttl)) ≡ false → toldOf f s ≡ passedOn f s
+  pub told-passed : test (uncongested f) ≡ false → test (ownCounts f) ≡ false → test (lastHop s (f .received .ttl)) ≡ false → toldOf f s ≡ passedOn f s
   unfolding toldOf
   told-passed n m e = rw (n, m, e)
 
-  -- what holds of a FULL frame, of an own one, and of a received one whose ttl was not 193, holds of what is told
-  pub told-each : (P : Advert → Type 0) → P (ownFrame s 65535) → P (ownFrame s (f .decided .own)) → (test (lastHop (f .received .ttl)) ≡ false → P (passedOn f s)) →
+  -- what holds of a FULL frame, of an own one, and of a received one that goes further, holds of what is told
+  pub told-each : (P : Advert → Type 0) → P (ownFrame s 65535) → P (ownFrame s (f .decided .own)) → (test (lastHop s (f .received .ttl)) ≡ false → P (passedOn f s)) →
       P (toldOf f s)
   unfolding toldOf
   told-each P full own passed =
       of-each P (test (uncongested f)) _ _ (λ e. full)
-      (λ e. of-each P (test (ownCounts f)) _ _ (λ e. own) (λ e. of-each P (test (lastHop (f .received .ttl))) _ _ (λ e. full) passed))
+      (λ e. of-each P (test (ownCounts f)) _ _ (λ e. own) (λ e. of-each P (test (lastHop s (f .received .ttl))) _ _ (λ e. full) passed))
 
   -- ---- one law for each row
 
@@ -73,9 +73,9 @@ module _ (f : Fair) (s : Settings) where
         (λ h. ⊎-elim (λ p. omega arith) (λ p. ⊎-elim (λ q. omega arith) (λ q. omega arith) (r .1)) h))
 
     -- else the received rate, its address, ttl less 1,
-    pub else-received : (f .received .ttl ≡ 193 → ⊥) → toldOf f s ≡ passedOn f s
-    else-received n = told-passed congested not-own (failing (lastHop (f .received .ttl)) (λ h. n (last-exactly (f .received .ttl) .0 h)))
+    pub else-received : (hopsOf (f .received .ttl) ≡ s .site .stations - 1 → ⊥) → toldOf f s ≡ passedOn f s
+    else-received n = told-passed congested not-own (failing (lastHop s (f .received .ttl)) n)
 
-    -- but FULL_RATE if its ttl was 193.
-    pub else-last : f .received .ttl ≡ 193 → toldOf f s ≡ ownFrame s 65535
-    else-last e = told-last congested not-own (passes (lastHop (f .received .ttl)) (last-exactly (f .received .ttl) .1 e))
+    -- but FULL_RATE when the received hops are the number of stations less 1.
+    pub else-last : hopsOf (f .received .ttl) ≡ s .site .stations - 1 → toldOf f s ≡ ownFrame s 65535
+    else-last e = told-last congested not-own (passes (lastHop s (f .received .ttl)) e)

@@ -31,12 +31,12 @@ ownCounts f =
     ∨? f .decided .congested ≡? 1 ∧? f .received .downstream ≡? 1 ∧? f .decided .own ≤? f .received .rate
 
 -- Advertise 65,535 (FULL_RATE) when not congested either way; own rate when only locally congested, or both and own ≤ received; else the received
--- rate, its address, ttl less 1, but FULL_RATE if its ttl was 193.
+-- rate, its address, ttl less 1, but FULL_RATE when the received hops are the number of stations less 1.
 unfoldable pub toldOf : Fair → Settings → Advert
 toldOf f s =
     cond (test (uncongested f)) (ownFrame s 65535)
     (cond (test (ownCounts f)) (ownFrame s (f .decided .own))
-    (cond (test (lastHop (f .received .ttl))) (ownFrame s 65535) (passedOn f s)))
+    (cond (test (lastHop s (f .received .ttl))) (ownFrame s 65535) (passedOn f s)))
 
 -- ---- heard
 

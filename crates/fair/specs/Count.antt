@@ -1,15 +1,16 @@
 -- Counting the frames that are selected, and the test of refusal 7. Assumes nothing.
-use Prim.Native.Nat.{ℕ, _+_, _-_}
+use Prim.Native.Nat.{ℕ, _+_}
 use mathlib.Core.Bool.{Bool, cond}
 use Rattle.decide.specs.Test.{Test, test, _<?_, _≡?_, _∧?_}
 use Rattle.rates.specs.Rates.{countedOf}
 use Rattle.settings.specs.declared.Settings.{Settings}
+use Rattle.heard.specs.Range.{hopsOf}
 use Rattle.fair.specs.declared.Four.{Four}
 use Rattle.fair.specs.declared.Fair.{Fair}
 
--- hopsToCongestion = 256 − ttl.
+-- of the received ttl
 abbrev pub hopsToCongestion : Fair → ℕ
-hopsToCongestion f = 256 - f .received .ttl
+hopsToCongestion f = hopsOf (f .received .ttl)
 
 -- downstream congested and hops > hopsToCongestion
 abbrev pub beyond : Fair → ℕ → Test

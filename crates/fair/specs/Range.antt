@@ -1,5 +1,6 @@
 -- The range of the fairness state: "own and received rates at most 65,534, other rates at most 2,147,483,647, allowed rates at most unreservedRate
--- and a received ttl 193 to 255"; of a smoothed rate it binds the rate shown (document 02, A4). Assumes nothing.
+-- and a received ttl 193 to 255"; of a smoothed rate it binds the rate shown, and a received ttl tells of no hops beyond the ring (document 02, A4 and A5).
+-- Assumes nothing.
 use Prim.Native.Nat.{ℕ, _≤_}
 use Rattle.decide.specs.Test.{Test, _≤?_, _∧?_}
 use Rattle.rates.specs.Rates.{shownOf, shownOk}
@@ -26,7 +27,7 @@ decidedOk s d =
     ∧? d .congested ≤? 1
 
 unfoldable pub fairOk : Settings → Fair → Test
-fairOk s f = fourOk (f .counters) ∧? storedOk (s .fairness .lp) (f .smoothed) ∧? decidedOk s (f .decided) ∧? receivedOk (f .received)
+fairOk s f = fourOk (f .counters) ∧? storedOk (s .fairness .lp) (f .smoothed) ∧? decidedOk s (f .decided) ∧? receivedOk (s .site .stations) (f .received)
 
 -- ---- the same as named facts
 
@@ -53,4 +54,4 @@ pub record FairOk (s : Settings) (f : Fair) : Type 0 where
   pub of-counters : FourOk (f .counters)
   pub of-smoothed : StoredOk (s .fairness .lp) (f .smoothed)
   pub of-decided : DecidedOk s (f .decided)
-  pub of-received : ReceivedOk (f .received)
+  pub of-received : ReceivedOk (s .site .stations) (f .received)

@@ -21,7 +21,7 @@ impl Fair {
             return heard::own_frame(settings, self.decided.own as u16);
         }
         let received = self.received;
-        if heard::last_hop(received.ttl) {
+        if heard::last_hop(settings, received.ttl) {
             return heard::own_frame(settings, FULL_RATE);
         }
         Advert {

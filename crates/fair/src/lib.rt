@@ -151,7 +151,7 @@ impl Fair {
         self.counters.in_range()
             & self.smoothed.in_range(settings.fairness.lp)
             & self.decided.in_range(settings)
-            & self.received.in_range()
+            & self.received.in_range(settings.site.stations)
     }
 
     // The state of a station that has just started.
@@ -193,7 +193,7 @@ impl Fair {
         ensures { λ r. ⌜ r ≡ test (beyond self hops) ⌝ }
     {
         let received = self.received;
-        (received.downstream == 1) & (decide::less(256, received.ttl as u64) < hops as u64)
+        (received.downstream == 1) & (heard::hops_of(received.ttl) < hops)
     }
 
     // Whether an eligible client frame of this size, with so many hops to go, would pass the congested fair rate: refusal 7. The sum is of 64 bits.

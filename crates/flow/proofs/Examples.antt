@@ -16,7 +16,7 @@ use Rattle.flow.specs.declared.Flow.{Flow}
 use Rattle.flow.specs.Tick.{tickOf}
 use Rattle.flow.specs.Offer.{clientOf}
 
--- mtu 64; each shaper loLimit 100, hiLimit 300, amount 50; control and primary queue 100 bytes, secondary 128
+-- mtu 64; each shaper loLimit 100, hiLimit 300, amount 50; control and primary queue 100 bytes, secondary 128; 6 stations
 abbrev pub settings : Settings
 settings =
     let b : Bucket = record { lo = 100; hi = 300; amount = 50 } in
@@ -27,7 +27,7 @@ settings =
       shapers = record { m = b; a = b; b = b; c = b; d = b };
       queues = record { control = 100; primary = 100; secondary = 128; threshold = 64 };
       fairness = record { weight = 1; unit = 1; ticks = 10; unreserved = 1000; age = 4; lp = 64; ramp = 64 };
-      site = record {};
+      site = record { stations = 6 };
     }
 
 -- a frame of class A with 3 hops to go, and a queue of such frames

@@ -9,7 +9,7 @@ use borrow.Author.Tests.{lt-ltb}
 use Rattle.decide.proofs.Refused.{of-answer}
 use Rattle.queue.specs.declared.Frame.{Frame}
 use Rattle.queue.specs.declared.Queue.{Queue}
-use Rattle.queue.specs.Frame.{FrameOk, wordOf}
+use Rattle.queue.specs.Frame.{FrameOk, HeldOk, wordOf}
 use Rattle.queue.specs.Queue.{framesOf, pushed, spaceOf}
 use Rattle.queue.proofs.Laws.{empty-frames, push-appends}
 use Rattle.queue.proofs.Word.{frame-fits, word-frame, word-not-empty}
@@ -51,7 +51,7 @@ module _ (s : Settings) (f : Flow) where
   tick-stage share a b c = refl
 
   -- a frame that fits stands last in its queue
-  pub enter-appends : SettingsOk s → FlowOk s f → (l : Line) (x : Frame) → FrameOk (boundsOf s) x → x .size ≤ spaceOf (queueOf f l) (capacityOf s l)
+  pub enter-appends : SettingsOk s → FlowOk s f → (l : Line) (x : Frame) → HeldOk (boundsOf s) x → x .size ≤ spaceOf (queueOf f l) (capacityOf s l)
       → framesOf (queueOf (enterOf s f l x .flow) l) ≡ framesOf (queueOf f l) ++ (x ∷ [])
   enter-appends good ok l x h fits =
       rw (enter-taken s f l x fits, same-queue f l (pushed (queueOf f l) x)) (push-appends (ok .queues l) x (bounds-ok good) h fits)

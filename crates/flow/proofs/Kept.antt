@@ -10,7 +10,7 @@ use Rattle.decide.proofs.Refused.{of-answer}
 use Rattle.shaper.specs.declared.Event.{Event}
 use Rattle.queue.specs.declared.Frame.{Frame}
 use Rattle.queue.specs.declared.Queue.{Queue}
-use Rattle.queue.specs.Frame.{FrameOk, frameOf, wordOf}
+use Rattle.queue.specs.Frame.{FrameOk, HeldOk, frameOf, wordOf}
 use Rattle.queue.specs.Queue.{pushed, spaceOf}
 use Rattle.queue.specs.Range.{QueueOk}
 use Rattle.queue.proofs.Laws.{push-ok}
@@ -44,7 +44,7 @@ module _ {s : Settings} {f : Flow} (ok : FlowOk s f) where
         stage = ok .stage;
       }
 
-  pub stage-kept : (w : ℕ) → (w ≡ 0) ⊎ FrameOk (boundsOf s) (frameOf w) → FlowOk s (withStage f w)
+  pub stage-kept : (w : ℕ) → (w ≡ 0) ⊎ HeldOk (boundsOf s) (frameOf w) → FlowOk s (withStage f w)
   stage-kept w h =
       record {
         credits = ok .credits;
@@ -67,16 +67,16 @@ module _ {s : Settings} (good : SettingsOk s) where
   unfolding tickOf
   tick-kept {f} ok share a b c = credits-kept ok good (tickEvents s f share a b c)
 
-  enter-kept : {f : Flow} (l : Line) (x : Frame) → FlowOk s f → FrameOk (boundsOf s) x → FlowOk s (enterOf s f l x .flow)
+  enter-kept : {f : Flow} (l : Line) (x : Frame) → FlowOk s f → HeldOk (boundsOf s) x → FlowOk s (enterOf s f l x .flow)
   enter-kept {f} l x ok h =
       by-cases (le-or (x .size) (spaceOf (queueOf f l) (capacityOf s l)))
       (λ fits. rw (enter-taken s f l x fits) (queue-kept ok l (pushed (queueOf f l) x) (push-ok (ok .queues l) x (bounds-ok good) h fits)))
       (λ over. rw (enter-refused s f l x over) ok)
 
-  pub transit-kept : {f : Flow} (x : Frame) → FlowOk s f → FrameOk (boundsOf s) x → FlowOk s (transitOf s f x .flow)
+  pub transit-kept : {f : Flow} (x : Frame) → FlowOk s f → HeldOk (boundsOf s) x → FlowOk s (transitOf s f x .flow)
   transit-kept x ok h = enter-kept (queueFor s (x .class)) x ok h
 
-  pub control-kept : {f : Flow} (size : ℕ) → FlowOk s f → FrameOk (boundsOf s) (controlFrame size) → FlowOk s (controlOf s f size .flow)
+  pub control-kept : {f : Flow} (size : ℕ) → FlowOk s f → HeldOk (boundsOf s) (controlFrame size) → FlowOk s (controlOf s f size .flow)
   control-kept size ok h = enter-kept Control (controlFrame size) ok h
 
   -- a frame that is given without a mark is in range as it lies in the stage
@@ -92,11 +92,11 @@ module _ {s : Settings} (good : SettingsOk s) where
         marked = way-mark s (f .credits) class;
       }
 
-  pub client-kept : {f : Flow} (class size hops : ℕ) (over : Bool) → FlowOk s f → FrameOk (boundsOf s) (record { size = size; hops = hops; class = class; mark = 0 })
+  pub client-kept : {f : Flow} (class size hops : ℕ) (over : Bool) → FlowOk s f → HeldOk (boundsOf s) (record { size = size; hops = hops; class = class; mark = 0 })
       → FlowOk s (clientOf s f class size hops over .flow)
   client-kept {f} class size hops over ok h =
       let x = clientFrame (wayOf s (f .credits) class) class size hops in
-      let inside = client-frame-ok f class size hops h in
+      let inside = client-frame-ok f class size hops (h .frame) in
       of-answer _ _ (λ (r : Client). FlowOk s (r .flow)) _
-      (λ e. stage-kept (credits-kept ok good (sends (needsOf (wayOf s (f .credits) class)) size)) (wordOf x) (inr (rw (word-frame x (frame-fits (bounds-ok good) inside)) inside)))
+      (λ e. stage-kept (credits-kept ok good (sends (needsOf (wayOf s (f .credits) class)) size)) (wordOf x) (inr (rw (word-frame x (frame-fits (bounds-ok good) inside)) (record { frame = inside; ring = h .ring }))))
       (λ e. ok)

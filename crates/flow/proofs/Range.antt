@@ -9,7 +9,7 @@ use Rattle.decide.specs.Test.{test, Holds, facts, passes}
 use Rattle.queue.specs.Frame.{BoundsOk, frameOf}
 use Rattle.queue.specs.Queue.{emptyQueue}
 use Rattle.queue.specs.Range.{queueOk, QueueOk}
-use Rattle.queue.proofs.Word.{frame-facts, frame-holds}
+use Rattle.queue.proofs.Word.{held-facts, held-holds}
 use Rattle.queue.proofs.Range.{queue-facts, queue-holds}
 use Rattle.queue.proofs.Laws.{empty-ok}
 use Rattle.settings.specs.declared.Settings.{Settings}
@@ -57,7 +57,7 @@ module _ (s : Settings) (f : Flow) where
             (queue-facts (boundsOf s) (s .queues .control) (f .control) k)
             (queue-facts (boundsOf s) (s .queues .primary) (f .primary) p)
             (queue-facts (boundsOf s) (s .queues .secondary) (f .secondary) q);
-        stage = ⊎-elim (λ z. inl z) (λ r. inr (frame-facts (boundsOf s) (frameOf (f .stage)) r)) g;
+        stage = ⊎-elim (λ z. inl z) (λ r. inr (held-facts (boundsOf s) (frameOf (f .stage)) r)) g;
       }
     where
       credits : f .credits .m ≤ s .shapers .m .hi → f .credits .a ≤ s .shapers .a .hi → f .credits .b ≤ s .shapers .b .hi
@@ -75,7 +75,7 @@ module _ (s : Settings) (f : Flow) where
       let q : (l : Line) → Holds (queueOk (boundsOf s) (capacityOf s l) (queueOf f l)) = λ l. queue-holds (boundsOf s) (capacityOf s l) (queueOf f l) (ok .queues l) in
       passes
       (flowOk s f)
-      ((c M, (c A, (c B, (c C, c D)))), (q Control, (q Primary, (q Secondary, ⊎-elim (λ z. inl z) (λ r. inr (frame-holds (boundsOf s) (frameOf (f .stage)) r)) (ok .stage)))))
+      ((c M, (c A, (c B, (c C, c D)))), (q Control, (q Primary, (q Secondary, ⊎-elim (λ z. inl z) (λ r. inr (held-holds (boundsOf s) (frameOf (f .stage)) r)) (ok .stage)))))
 
 -- ---- a fresh flow
 

@@ -6,7 +6,7 @@ use mathlib.Core.List.{List, [], _∷_}
 use lib.Dec.{ltb, eqb}
 use Rattle.decide.specs.Refusal.{Fault, fault, firstOf, refusedOr}
 use Rattle.queue.specs.declared.Frame.{Frame}
-use Rattle.queue.specs.Frame.{FrameOk, wordOf}
+use Rattle.queue.specs.Frame.{HeldOk, wordOf}
 use Rattle.queue.specs.Queue.{pushed, spaceOf}
 use Rattle.shaper.specs.Short.{detailOf}
 use Rattle.settings.specs.declared.Settings.{Settings}
@@ -25,11 +25,11 @@ use Rattle.flow.specs.Range.{FlowOk}
 
 -- ---- into the queues
 
--- what an offer to a queue may take for granted: settings, flow and frame are in range
+-- what an offer to a queue may take for granted: settings and flow are in range, and the frame may be held
 pub record Offered (s : Settings) (f : Flow) (x : Frame) : Type 0 where
   pub settings : SettingsOk s
   pub flow : FlowOk s f
-  pub frame : FrameOk (boundsOf s) x
+  pub frame : HeldOk (boundsOf s) x
 
 -- 4: a frame's size exceeds the queue's space
 abbrev pub enterFaults : Settings → Flow → Line → Frame → List Fault

@@ -23,7 +23,7 @@ capacityOf s Secondary = s .queues .secondary
 
 -- what the frames of a station are held to
 abbrev pub boundsOf : Settings → Bounds
-boundsOf s = record { mtu = s .mtu }
+boundsOf s = record { mtu = s .mtu; stations = s .site .stations }
 
 -- The stage holds one client frame: its word, or 0 where there is none.
 abbrev pub stageHolds : Flow → Bool

@@ -5,7 +5,7 @@ use mathlib.Core.Logic.{_⊎_}
 use mathlib.Core.Path.{_≡_}
 use Rattle.decide.specs.Test.{Test, _≡?_, _∧?_, _∨?_}
 use Rattle.queue.specs.declared.Bounds.{Bounds}
-use Rattle.queue.specs.Frame.{frameOf, frameOk, FrameOk}
+use Rattle.queue.specs.Frame.{frameOf, heldOk, HeldOk}
 use Rattle.queue.specs.Range.{queueOk, QueueOk}
 use Rattle.settings.specs.declared.Settings.{Settings}
 use Rattle.credits.specs.declared.Which.{Which}
@@ -15,9 +15,9 @@ use Rattle.flow.specs.declared.Flow.{Flow}
 use Rattle.flow.specs.declared.Line.{Line}
 use Rattle.flow.specs.Parts.{queueOf, capacityOf, boundsOf}
 
--- no frame, or one in range
+-- no frame, or one that may be held
 abbrev pub stageOk : Bounds → ℕ → Test
-stageOk b w = w ≡? 0 ∨? frameOk b (frameOf w)
+stageOk b w = w ≡? 0 ∨? heldOk b (frameOf w)
 
 -- A lent station is in range if its .. frames, slots and bytes held (the sizes' sum, at most the capacity) are, credits are 0 to hiLimit ..
 unfoldable pub flowOk : Settings → Flow → Test
@@ -32,4 +32,4 @@ flowOk s f =
 pub record FlowOk (s : Settings) (f : Flow) : Type 0 where
   pub credits : (w : Which) → creditOf (f .credits) w ≤ bucketOf s w .hi
   pub queues : (l : Line) → QueueOk (boundsOf s) (capacityOf s l) (queueOf f l)
-  pub stage : (f .stage ≡ 0) ⊎ FrameOk (boundsOf s) (frameOf (f .stage))
+  pub stage : (f .stage ≡ 0) ⊎ HeldOk (boundsOf s) (frameOf (f .stage))

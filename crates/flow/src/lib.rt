@@ -15,7 +15,6 @@ mod offers;
 
 use credits::Credits;
 use queue::Bounds;
-use queue::Frame;
 use queue::Queue;
 use settings::Bucket;
 use settings::Settings;
@@ -160,15 +159,17 @@ impl Flow {
 pub fn bounds(settings: Settings) -> Bounds
     ensures { λ r. ⌜ r ≡ boundsOf settings ⌝ }
 {
-    Bounds { mtu: settings.mtu }
+    Bounds {
+        mtu: settings.mtu,
+        stations: settings.site.stations,
+    }
 }
 
-// Whether a stage is empty or holds a frame in range.
+// Whether a stage is empty or holds a frame that may be held.
 pub fn stage_ok(bounds: Bounds, word: u32) -> bool
     ensures { λ r. ⌜ r ≡ test (stageOk bounds word) ⌝ }
 {
-    let frame = Frame::of(word);
-    (word == queue::EMPTY) | frame.in_range(bounds)
+    (word == queue::EMPTY) | queue::word_ok(bounds, word)
 }
 
 // A credit after a tick.

@@ -1,5 +1,5 @@
 -- A received frame that goes no further; what a frame leaves as received, row by row; the faults that it can have; and the range. Assumes nothing.
-use Prim.Native.Nat.{ℕ, _≤_, _<_}
+use Prim.Native.Nat.{ℕ, _-_, _≤_, _<_}
 use mathlib.Core.Bool.{true, false, true≢false}
 use mathlib.Core.Logic.{_↔_}
 use mathlib.Core.Path.{_≡_, sym, _∙_}
@@ -7,15 +7,17 @@ use native.Mathlib.Omega.{arith}
 use borrow.Author.Tests.{eq-eqb, ne-eqb, not-true}
 use Rattle.decide.specs.Test.{test, Holds, split, facts, passes, decided, _≡?_}
 use Rattle.decide.proofs.Cases.{by-cases, le-or}
+use Rattle.decide.proofs.Hops.{out-exactly}
 use Rattle.advert.specs.declared.Advert.{Advert}
 use Rattle.settings.specs.declared.Settings.{Settings}
-use Rattle.heard.specs.Range.{ttlOk, ReceivedOk}
-use Rattle.heard.specs.Frame.{lastHop, noneReceived, receivedOf, ownRinglet, ownAddress, ttlFault}
+use Rattle.settings.specs.Range.{SiteOk}
+use Rattle.heard.specs.Range.{ttlOk, hopsOf, ReceivedOk}
+use Rattle.heard.specs.Frame.{lastHop, noneReceived, receivedOf, ownRinglet, ownAddress, ttlFault, ringFault}
 use Rattle.heard.proofs.Range.{none-received-ok}
 
--- a received frame goes no further if its ttl was 193
-pub last-exactly : (ttl : ℕ) → Holds (lastHop ttl) ↔ (ttl ≡ 193)
-last-exactly ttl = (λ h. h, λ h. h)
+-- a received frame goes no further exactly if its ttl is the least that is in range on the ring
+pub last-exactly : (s : Settings) → SiteOk (s .site) → (ttl : ℕ) → Holds (lastHop s ttl) ↔ (ttl ≡ 257 - s .site .stations)
+last-exactly s ok ttl = let l = ok .stations-least in let m = ok .stations-most in (λ h. omega arith, λ h. omega arith)
 
 -- what a frame leaves as received: one that clears, and others
 module _ (a : Advert) where
@@ -39,6 +41,10 @@ module _ (s : Settings) (a : Advert) where
     λ g. rw (sym (decided (ttlOk (a .ttl)) false (λ h. omega arith))),
   )
 
+  -- 13: the hops that the frame tells of reach the number of stations or more
+  pub ring-exactly : (ringFault s a .applies ≡ true → s .site .stations ≤ hopsOf (a .ttl)) × (s .site .stations ≤ hopsOf (a .ttl) → ringFault s a .applies ≡ true)
+  ring-exactly = out-exactly (s .site .stations) (hopsOf (a .ttl))
+
   -- 11: the frame's address is the station's own, in both its parts
   pub own-address-exactly :
       (test (ownAddress s a) ≡ true → (a .high ≡ s .address .high) × (a .low ≡ s .address .low))
@@ -47,10 +53,11 @@ module _ (s : Settings) (a : Advert) where
 
 -- ---- the range
 
--- a frame with a ttl of 193 to 255, and an address and a rate as any frame has, leaves what is received in range
-pub received-in-range : (a : Advert) → 193 ≤ a .ttl → a .ttl ≤ 255 → a .high ≤ 65535 → a .rate ≤ 65535 → ReceivedOk (receivedOf a)
-received-in-range a l m h r =
+-- a frame with a ttl of 193 to 255, hops within the ring, and an address and a rate as any frame has, leaves what is received in range
+pub received-in-range : (stations : ℕ) (a : Advert) → 2 ≤ stations → 193 ≤ a .ttl → a .ttl ≤ 255 → hopsOf (a .ttl) < stations → a .high ≤ 65535 → a .rate ≤ 65535 →
+    ReceivedOk stations (receivedOf a)
+received-in-range stations a s l m g h r =
     by-cases (split (a .rate ≡? 65535))
-    (λ e. rw (received-clears a e) none-received-ok)
+    (λ e. rw (received-clears a e) (none-received-ok stations s))
     (λ n. rw (received-sets a n)
-    (record { rate-most = omega (arith, r, n); ttl-least = l; ttl-most = m; downstream-most = omega arith; high-most = h }))
+    (record { rate-most = omega (arith, r, n); ttl-least = l; ttl-most = m; ring = g; downstream-most = omega arith; high-most = h }))

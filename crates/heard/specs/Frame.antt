@@ -2,11 +2,12 @@
 use Prim.Native.Nat.{ℕ, _-_}
 use mathlib.Core.Bool.{cond, not}
 use Rattle.decide.specs.Test.{Test, test, _≡?_, _∧?_}
+use Rattle.decide.specs.Hops.{inRing}
 use Rattle.decide.specs.Refusal.{Fault, fault}
 use Rattle.advert.specs.declared.Advert.{Advert}
 use Rattle.settings.specs.declared.Settings.{Settings}
 use Rattle.heard.specs.declared.Received.{Received}
-use Rattle.heard.specs.Range.{ttlOk}
+use Rattle.heard.specs.Range.{ttlOk, hopsOf}
 
 -- ---- told
 
@@ -18,9 +19,9 @@ otherRinglet s = 1 - s .ringlet
 abbrev pub ownFrame : Settings → ℕ → Advert
 ownFrame s rate = record { ringlet = otherRinglet s; ttl = 255; high = s .address .high; low = s .address .low; rate = rate }
 
--- a received frame goes no further if its ttl was 193
-abbrev pub lastHop : ℕ → Test
-lastHop ttl = ttl ≡? 193
+-- A received frame goes no further, where document 01 said ttl 193, when the received hops are the number of stations less 1.
+abbrev pub lastHop : Settings → ℕ → Test
+lastHop s ttl = hopsOf ttl ≡? s .site .stations - 1
 
 -- ---- heard
 
@@ -51,6 +52,10 @@ ringletFault s a = fault 2 (test (ownRinglet s a))
 -- ttl 193 to 255, else 3
 abbrev pub ttlFault : Advert → Fault
 ttlFault a = fault 3 (not (test (ttlOk (a .ttl))))
+
+-- a fairness frame whose hops reach the number of stations or more: 13, whatever its rate
+abbrev pub ringFault : Settings → Advert → Fault
+ringFault s a = fault 13 (not (test (inRing (s .site .stations) (hopsOf (a .ttl)))))
 
 abbrev pub addressFault : Settings → Advert → Fault
 addressFault s a = fault 11 (test (ownAddress s a))

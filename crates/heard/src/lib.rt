@@ -2,7 +2,8 @@
 // the frames of its own.
 ghost use mathlib.Core.Path.{_≡_};
 ghost use Rattle.decide.specs.Test.{test};
-ghost use Rattle.heard.specs.Range.{ttlOk, receivedOk};
+ghost use Rattle.decide.specs.Hops.{inRing};
+ghost use Rattle.heard.specs.Range.{ttlOk, hopsOf, receivedOk};
 ghost use Rattle.heard.specs.Frame.{otherRinglet, ownFrame, lastHop, noneReceived, receivedOf, ownRinglet, ownAddress};
 use advert::Advert;
 use settings::Address;
@@ -37,12 +38,13 @@ impl Received {
         }
     }
 
-    // Whether rate, ttl, flag and address are each in range.
-    pub fn in_range(self) -> bool
-        ensures { λ r. ⌜ r ≡ test (receivedOk self) ⌝ }
+    // Whether rate, ttl, flag and address are each in range on a ring of so many stations.
+    pub fn in_range(self, stations: u32) -> bool
+        ensures { λ r. ⌜ r ≡ test (receivedOk stations self) ⌝ }
     {
         (self.rate <= Received::MAX_RATE)
             & ttl_ok(self.ttl)
+            & ttl_in_ring(stations, self.ttl)
             & (self.downstream <= 1)
             & (self.high <= Address::MAX_HIGH)
     }
@@ -53,6 +55,20 @@ pub fn ttl_ok(ttl: u32) -> bool
     ensures { λ r. ⌜ r ≡ test (ttlOk ttl) ⌝ }
 {
     (193 <= ttl) & (ttl <= 255)
+}
+
+// The hops to the congested station that a ttl tells of: 256 less the ttl.
+pub fn hops_of(ttl: u32) -> u32
+    ensures { λ r. ⌜ r ≡ hopsOf ttl ⌝ }
+{
+    decide::less(256, ttl as u64) as u32
+}
+
+// Whether the hops that a ttl tells of stay within a ring of so many stations: else refusal 13.
+pub fn ttl_in_ring(stations: u32, ttl: u32) -> bool
+    ensures { λ r. ⌜ r ≡ test (inRing stations (hopsOf ttl)) ⌝ }
+{
+    decide::in_ring(stations, hops_of(ttl))
 }
 
 // Whether a frame bears the station's own ringlet bit: refusal 2.
@@ -105,9 +121,9 @@ pub fn other_ringlet(settings: Settings) -> u8
     decide::less(1, settings.ringlet as u64) as u8
 }
 
-// Whether a received frame of this ttl goes no further.
-pub fn last_hop(ttl: u32) -> bool
-    ensures { λ r. ⌜ r ≡ test (lastHop ttl) ⌝ }
+// Whether a received frame of this ttl goes no further: one hop more would lead round the whole ring.
+pub fn last_hop(settings: Settings, ttl: u32) -> bool
+    ensures { λ r. ⌜ r ≡ test (lastHop settings ttl) ⌝ }
 {
-    ttl == 193
+    hops_of(ttl) as u64 == decide::less(settings.site.stations as u64, 1)
 }

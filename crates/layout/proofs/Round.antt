@@ -169,7 +169,7 @@ station-in-range-fits st ok n =
       of-control = slots.queue-in-range-fits (s .of-queues .control-most) (w .queues Control);
       of-primary = slots.queue-in-range-fits (s .of-queues .primary-most) (w .queues Primary);
       of-secondary = slots.queue-in-range-fits (s .of-queues .secondary-most) (w .queues Secondary);
-      of-stage = ⊎-elim (λ (e : st .flow .stage ≡ 0). omega arith) (λ h. omega (arith, h .mark)) (w .stage);
+      of-stage = ⊎-elim (λ (e : st .flow .stage ≡ 0). omega arith) (λ h. omega (arith, h .frame .mark)) (w .stage);
       of-fair = fair-in-range-fits (st .settings) (st .fair) s f (n .low);
       of-settings = settings.in-range-fit (st .settings) s (n .own-low);
     }

@@ -1,6 +1,6 @@
 -- Stations start and act so, by the laws beside each call.
 -- Assumes nothing.
-use Prim.Native.Nat.{ℕ, _≤_}
+use Prim.Native.Nat.{ℕ, _≤_, _<_}
 use mathlib.Core.Bool.{Bool, true, false, _&&_}
 use mathlib.Core.List.{[], _∷_, _++_, append-nil}
 use mathlib.Core.Logic.{_↔_}
@@ -9,6 +9,7 @@ use native.Mathlib.Omega.{arith}
 use borrow.Author.Tests.{eqb-true, eq-eqb, ne-eqb}
 use lib.Dec.{eqb}
 use Rattle.decide.specs.Test.{test, both, and-i, passes}
+use Rattle.decide.specs.Hops.{inRing}
 use Rattle.decide.proofs.Cases.{by-cases, true-or-false}
 use Rattle.settings.specs.declared.Settings.{Settings}
 use Rattle.queue.specs.declared.Frame.{Frame}
@@ -95,17 +96,21 @@ module _ {st : Station} (ok : StationOk st) where
   tested : {x : Frame} → FrameOk (boundsOf (st .settings)) x → test (frameOk (boundsOf (st .settings)) x) ≡ true
   tested {x} frame = passes (frameOk (boundsOf (st .settings)) x) (frame-holds (boundsOf (st .settings)) x frame)
 
-  brings : (l : Line) (x : Frame) → FrameOk (boundsOf (st .settings)) x → x .size ≤ spaceOf (queueOf (st .flow) l) (capacityOf (st .settings) l) → Brings st l x (offerOf st l x)
-  brings l x frame fits =
+  ringed : (hops : ℕ) → hops < st .settings .site .stations → test (inRing (st .settings .site .stations) hops) ≡ true
+  ringed hops within = passes (inRing (st .settings .site .stations) hops) within
+
+  brings : (l : Line) (x : Frame) → FrameOk (boundsOf (st .settings)) x → x .hops < st .settings .site .stations
+      → x .size ≤ spaceOf (queueOf (st .flow) l) (capacityOf (st .settings) l) → Brings st l x (offerOf st l x)
+  brings l x frame within fits =
       let q = pushed (queueOf (st .flow) l) x in
       let parts = other-parts (st .flow) q l in
       subst (Brings st l x)
-      (sym (offer-taken st l x in-range (tested frame) fits))
+      (sym (offer-taken st l x in-range (tested frame) (ringed (x .hops) within) fits))
       (record {
         number = (refl, refl);
         last =
             subst (λ (e : Entered). framesOf (queueOf (e .flow) l) ≡ framesOf (queueOf (st .flow) l) ++ (x ∷ []))
-            (enter-taken (st .settings) (st .flow) l x fits) (enter-appends (st .settings) (st .flow) (ok .settings) (ok .flow) l x frame fits);
+            (enter-taken (st .settings) (st .flow) l x fits) (enter-appends (st .settings) (st .flow) (ok .settings) (ok .flow) l x (record { frame = frame; ring = within }) fits);
         others = other-queue (st .flow) q l;
         kept = (parts .0, parts .1, refl, refl);
       })
@@ -113,7 +118,7 @@ module _ {st : Station} (ok : StationOk st) where
   empty : (Staged (st .flow) → ⊥) → stageHolds (st .flow) ≡ false
   empty none = denied-by (staged (st .flow) .0) none
 
-  module _ (class size hops : ℕ) (frame : FrameOk (boundsOf (st .settings)) (givenFrame class size hops 0)) where
+  module _ (class size hops : ℕ) (frame : FrameOk (boundsOf (st .settings)) (givenFrame class size hops 0)) (within : hops < st .settings .site .stations) where
     -- what is asked for 7: the frame is eligible, and would pass the rate
     abbrev asked : Bool
     asked = eqb (markOf (wayFor st class)) 1 && overFor st size hops
@@ -129,11 +134,11 @@ module _ {st : Station} (ok : StationOk st) where
     stages : Stages st class size hops (wayFor st class)
     stages =
         record {
-          full = λ some. client-occupied st class size hops in-range (tested frame) (staged (st .flow) .1 some);
-          barred = λ none lacks. client-denied st class size hops in-range (tested frame) (empty none)
+          full = λ some. client-occupied st class size hops in-range (tested frame) (ringed hops within) (staged (st .flow) .1 some);
+          barred = λ none lacks. client-denied st class size hops in-range (tested frame) (ringed hops within) (empty none)
               (by-cases (true-or-false (permitsAll (st .settings) (st .flow .credits) (needsOf (wayFor st class)))) (λ p. absurd (lacks p)) (λ p. p));
-          passing = λ none may marked past. client-passing st class size hops in-range (tested frame) (empty none) may (asked-exactly .1 (marked, past));
-          taken = λ none may no. client-entered st class size hops in-range (tested frame) (empty none) may
+          passing = λ none may marked past. client-passing st class size hops in-range (tested frame) (ringed hops within) (empty none) may (asked-exactly .1 (marked, past));
+          taken = λ none may no. client-entered st class size hops in-range (tested frame) (ringed hops within) (empty none) may
               (by-cases (true-or-false asked) (λ e. absurd (no (asked-exactly .0 e))) (λ e. e));
         }
 
@@ -149,7 +154,7 @@ module _ {st : Station} (ok : StationOk st) where
       record {
         tick = tick-credits;
         transit = λ class size hops eligible. brings (queueFor (st .settings) class) (givenFrame class size hops eligible);
-        control = λ size. brings Control (controlFrame size);
+        control = λ size frame. brings Control (controlFrame size) frame (ok .settings .of-site .stations-least);
         client = stages;
         select = select-done st in-range;
         age = age-ages ok;

@@ -10,6 +10,7 @@ use lib.Dec.{eqb}
 use lib.ListN.{length}
 use Rattle.decide.specs.Test.{test}
 use Rattle.decide.specs.Refusal.{Fault, firstOf, inOrder}
+use Rattle.decide.proofs.Hops.{out-exactly}
 use Rattle.decide.proofs.Refusal.{in-order}
 use Rattle.settings.specs.Range.{settingsOk}
 use Rattle.settings.specs.Words.{settingsLength, settingsAt}
@@ -23,8 +24,8 @@ use Rattle.flow.proofs.Range as flow
 use Rattle.fair.proofs.Range as fair
 use Rattle.queue.specs.Queue.{spaceOf}
 use Rattle.queue.proofs.Laws.{count-frames, space-full, space-left}
-use Rattle.queue.specs.Frame.{frameOk, FrameOk}
-use Rattle.queue.proofs.Word.{frame-facts, frame-holds}
+use Rattle.queue.specs.Frame.{frameOk, FrameOk, heldOk}
+use Rattle.queue.proofs.Word.{frame-facts, frame-holds, held-facts, held-holds}
 use Rattle.summary.specs.declared.Summary.{Summary}
 use Rattle.summary.specs.Range.{inRange, InRange}
 use Rattle.summary.proofs.Range.{in-range-exactly}
@@ -47,7 +48,7 @@ use Rattle.flow.specs.declared.Line.the-variants.{Control}
 use Rattle.flow.specs.Parts.{queueOf, capacityOf, boundsOf}
 use Rattle.flow.specs.Offer.{queueFor, controlFrame}
 use Rattle.flow.proofs.Held.{staged}
-use Rattle.heard.specs.Range.{ttlOk}
+use Rattle.heard.specs.Range.{ttlOk, hopsOf}
 use Rattle.heard.specs.Frame.{ownRinglet, ownAddress}
 use Rattle.fair.proofs.Count.{over-exactly}
 use Rattle.station.specs.Range.{stationOk}
@@ -68,7 +69,7 @@ use Rattle.rpr.specs.Station.{readFrameAnswer, readFrameAfter, writeFrameAnswer
 use Rattle.rpr.proofs.Promises as records
 use Rattle.rpr.proofs.Ways as ways
 use Rattle.rpr.proofs.Station as station
-use Rattle.paper.specs.Reasons.{RefusedWhen, OtherLength, StationOut, startRefused, tickRefused, offerRefused, clientRefused, stationRefused}
+use Rattle.paper.specs.Reasons.{RefusedWhen, refused, passed, OtherLength, StationOut, startRefused, tickRefused, offerRefused, controlRefused, clientRefused, stationRefused}
 use Rattle.paper.specs.Reasons.{readRefused, roomRefused, Spaces, CarriedOut, placeRefused, chooseRefused, pathRefused, joinRefused, settleRefused}
 use Rattle.paper.specs.Acts.{YesNo}
 use Rattle.paper.specs.First.{Refuses, RefusesLent, ReturnsShort, RefusesClient, Tested, Condition1}
@@ -135,8 +136,9 @@ module _ (xs : List ℕ) where
       lent (offerRows xs l x) (station.offer-leaves xs l x) refl
       (on-station
       (row (frame-out (boundsOf (st .settings)) x)
+      (row (out-exactly (st .settings .site .stations) (x .hops))
       (row (below (spaceOf (queueOf (st .flow) l) (capacityOf (st .settings) l)) (x .size))
-      none)))
+      none))))
 
   transit : (class size hops eligible : ℕ)
       → RefusesLent (offerRefused xs (queueFor (stationAt xs .settings) class) (givenFrame class size hops eligible)) (offerTransitAnswer xs class size hops eligible) xs
@@ -144,9 +146,26 @@ module _ (xs : List ℕ) where
   unfolding offerTransitAnswer offerTransitAfter
   transit class size hops eligible = offer (queueFor (stationAt xs .settings) class) (givenFrame class size hops eligible)
 
-  control : (size : ℕ) → RefusesLent (offerRefused xs Control (controlFrame size)) (offerControlAnswer xs size) xs (offerControlAfter xs size)
+  -- a control frame has 1 hop, and every ring 2 stations or more: no 13
+  never-13 : (size n : ℕ) → offerRefused xs Control (controlFrame size) n → controlRefused xs size n
+  never-13 size n (refused a e) = refused a e
+  never-13 size n (passed a (refused b e)) = passed a (refused b e)
+  never-13 size n (passed a (passed b (refused c e))) = passed a (passed b (refused c e))
+  never-13 size n (passed a (passed b (passed c (refused d e)))) = absurd (b (λ ok. omega (arith, d, ok .settings .of-site .stations-least)))
+  never-13 size n (passed a (passed b (passed c (passed d rest)))) = passed a (passed b (passed c rest))
+
+  control : (size : ℕ) → RefusesLent (controlRefused xs size) (offerControlAnswer xs size) xs (offerControlAfter xs size)
   unfolding offerControlAnswer offerControlAfter
-  control size = offer Control (controlFrame size)
+  control size =
+      let said = offer Control (controlFrame size) in
+      record { refuses = record { number = never-13 size _ (said .refuses .number); alone = said .refuses .alone }; stays = said .stays }
+
+  not-13 : (size n : ℕ) → controlRefused xs size n → n ≡ 13 → ⊥
+  not-13 size n (refused a e) is = omega (arith, e, is)
+  not-13 size n (passed a (refused b e)) is = omega (arith, e, is)
+  not-13 size n (passed a (passed b (refused c e))) is = omega (arith, e, is)
+  not-13 size n (passed a (passed b (passed c (refused d e)))) is = omega (arith, e, is)
+  not-13 size n (passed a (passed b (passed c (passed d e)))) is = omega (arith, e, is)
 
   module _ (class size hops : ℕ) where
     abbrev told : ℕ
@@ -160,10 +179,11 @@ module _ (xs : List ℕ) where
         by-rows (offerClientRows xs class size hops) (station.offer-client-leaves xs class size hops .0 .byte-0) refl
         (on-station
         (row (frame-out (boundsOf (st .settings)) (givenFrame class size hops 0))
+        (row (out-exactly (st .settings .site .stations) hops)
         (row (staged (st .flow))
         (row (denies permits (λ e. e, λ e. e))
         (row (both-exactly (eqb (markOf way) 1) (overFor st size hops) (equal (markOf way) 1) (over-exactly (st .fair) size hops))
-        none)))))
+        none))))))
 
     -- 6 returns the least amount for the shapers of the way that was tried
     short-for : (way : Way) {exceed : ℕ → Type 0} → told % 256 ≡ 6 → wayFor (stationAt xs) class ≡ way
@@ -204,7 +224,7 @@ module _ (xs : List ℕ) where
   aged : RefusesLent (stationRefused xs) (ageAnswer xs) xs (ageAfter xs)
   aged = lent (ageRows xs) (station.age-leaves xs) refl (on-station none)
 
-  -- a fairness frame: its shape and its ringlet bit before the station's range, then its ttl and its address
+  -- a fairness frame: its shape and its ringlet bit before the station's range, then its ttl, its hops and its address
   heard : (frame : List ℕ) → RefusesLent (readRefused xs frame) (readFrameAnswer xs frame) xs (readFrameAfter xs frame)
   heard frame =
       let own = stationAt xs .settings in
@@ -215,8 +235,9 @@ module _ (xs : List ℕ) where
       (row (tests (ownRinglet own a))
       (row (out xs)
       (row (denies (test (ttlOk (a .ttl))) (tests (ttlOk (a .ttl))))
+      (row (out-exactly (own .site .stations) (hopsOf (a .ttl)))
       (row (tests (ownAddress own a))
-      none))))))
+      none)))))))
 
   module _ (room : List ℕ) where
     written : RefusesLent (roomRefused advertLength xs room) (writeFrameAnswer xs room) room (writeFrameAfter xs room)
@@ -299,8 +320,8 @@ ranges-tested =
       limits = limits-exactly;
       summary = in-range-exactly;
       settings = λ s. (settings.in-range-facts s, settings.facts-in-range s);
-      site = λ x. tt;
       frame = λ b x. tested (frameOk b x) (frame-facts b x, frame-holds b x);
+      held = λ b x. tested (heldOk b x) (held-facts b x, held-holds b x);
       no-frame = λ b. tt;
       a-frame = λ b x xs. (λ h. h, λ h. h);
       age-coef = λ x. (λ h. h, λ h. h);
@@ -323,6 +344,7 @@ first-condition =
       offer-client = client;
       offer-transit = transit;
       offer-control = control;
+      control-in-ring = λ xs size. not-13 xs size _ (control xs size .refuses .number);
       space = spaces;
       select = selected;
       age = aged;

@@ -158,10 +158,11 @@ module _ (xs : List ℕ) (k : Keeps xs (stationAt xs)) where
       ∙ sym (nothing-chosen st in-range (sym (ap (λ (r : Selected). r .origin) (select-done st in-range)) ∙ z) .0)
 
   read-back : (room : List ℕ) → length room ≡ advertLength → {ys : List ℕ} {t : Station} → Keeps ys t → t .settings .ringlet ≡ st .settings .ringlet
+      → t .settings .site .stations ≡ st .settings .site .stations
       → ((toldOf (st .fair) (st .settings) .high ≡ t .settings .address .high) × (toldOf (st .fair) (st .settings) .low ≡ t .settings .address .low) → ⊥)
       → (readFrameAnswer ys (writeFrameAfter xs room) ≡ 0)
       × Keeps (readFrameAfter ys (writeFrameAfter xs room)) (changedOf t (toldOf (st .fair) (st .settings)))
-  read-back room h {ys} {t} j same other = written-read k room h j same (failing (ownAddress (t .settings) (toldOf (st .fair) (st .settings))) other)
+  read-back room h {ys} {t} j same many other = written-read k room h j same many (failing (ownAddress (t .settings) (toldOf (st .fair) (st .settings))) other)
 
   serves : Hosts xs st
   serves =
@@ -211,6 +212,7 @@ settings-words xs =
       queues = (refl, refl, refl, refl);
       rates = (refl, refl, refl, refl);
       coefficients = (refl, refl, refl);
+      stations = refl;
     }
 
 -- ---- the ring

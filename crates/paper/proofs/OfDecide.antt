@@ -10,4 +10,5 @@ functions =
       larger = λ x y. by-equation;
       less = λ x y. by-equation;
       below = λ a b. by-equation;
+      in-ring = λ stations hops. by-equation;
     }

@@ -43,6 +43,7 @@ use Rattle.rpr.specs.Lent.{Lending, NoNewStart, stationIn}
 use Rattle.rpr.specs.Says.{Keeps}
 use Rattle.rpr.specs.Steady.{SteadyIn}
 use Rattle.rpr.proofs.Steady.{steady-told, steady-told-always}
+use Rattle.rpr.proofs.Hops.{keeps-ringed, ring-told}
 use Rattle.rpr.proofs.Told.{credit-of-told}
 use Rattle.rpr.proofs.Pairs as told
 use Rattle.rpr.proofs.Kept.{kept-lent}
@@ -231,6 +232,8 @@ second-condition =
       rates = ages;
       steady = steadies;
       steady-told = tells-steady;
+      within-ring = ring-told;
+      lent-within-ring = λ mem st k. keeps-ringed mem k;
       holding = holds-till-interval;
       telling = tells;
       hearing = hears;

@@ -60,7 +60,7 @@ least =
       shapers = record { m = b; a = b; b = b; c = b; d = b };
       queues = record { control = 64; primary = 64; secondary = 128; threshold = 0 };
       fairness = record { weight = 1; unit = 1; ticks = 1; unreserved = 1; age = 1; lp = 16; ramp = 16 };
-      site = record {};
+      site = record { stations = 2 };
     }
 
 pub record Starts (s : Settings) : Type 0 where
@@ -107,7 +107,7 @@ Permits st way = permitsAll (st .settings) (st .flow .credits) (needsOf way) ≡
 abbrev pub Passes : Fair → ℕ → ℕ → Type 0
 Passes f size hops = ((f .received .downstream ≡ 1) × (256 - f .received .ttl < hops)) × (f .decided .allowedc < f .counters .addc + size)
 
--- A client's frame in range, where it goes in this way. A client gives no mark.
+-- A client's frame in range, its hops within the ring, where it goes in this way. A client gives no mark.
 pub record Stages (st : Station) (class size hops : ℕ) (way : Way) : Type 0 where
   -- The stage holds one client frame.
   pub full : Staged (st .flow) → offerClientOf st class size hops ≡ turnedOf st 5 0
@@ -139,7 +139,8 @@ pub record Acts (st : Station) : Type 0 where
   -- Transit A goes to the primary queue, B and C to the secondary.
   pub transit : (class size hops eligible : ℕ)
       → let x : Frame = record { size = size; hops = hops; class = class; mark = eligible } in
-      FrameOk (boundsOf (st .settings)) x → size ≤ spaceOf (queueOf (st .flow) (queueFor (st .settings) class)) (capacityOf (st .settings) (queueFor (st .settings) class))
+      FrameOk (boundsOf (st .settings)) x → hops < st .settings .site .stations
+      → size ≤ spaceOf (queueOf (st .flow) (queueFor (st .settings) class)) (capacityOf (st .settings) (queueFor (st .settings) class))
       → Brings st (queueFor (st .settings) class) x (offerTransitOf st class size hops eligible)
   -- Control frames, given by size alone (class A, 1 hop), go to the control queue.
   pub control : (size : ℕ)
@@ -148,7 +149,7 @@ pub record Acts (st : Station) : Type 0 where
       → Brings st Control x (offerControlOf st size)
   -- A client's frame goes in by the credits of the station.
   pub client : (class size hops : ℕ) → FrameOk (boundsOf (st .settings)) (record { size = size; hops = hops; class = class; mark = 0 })
-      → Stages st class size hops (wayOf (st .settings) (st .flow .credits) class)
+      → hops < st .settings .site .stations → Stages st class size hops (wayOf (st .settings) (st .flow .credits) class)
   -- The selected frame is counted by where it came from, its mark, hops and size.
   pub select :
       let r = selection.selectOf (st .settings) (st .flow) in

@@ -1,6 +1,6 @@
 -- What calls by value on a station answer where they are refused: the number, and the station as it was; and what hearing a frame leaves. A start that is refused
 -- stands in `Starts`, a client frame's 5, 6 and 7 in `Stages`. Assumes nothing.
-use Prim.Native.Nat.{ℕ, _/_, _%_, _≤_, _<_}
+use Prim.Native.Nat.{ℕ, _/_, _%_, _-_, _≤_, _<_}
 use mathlib.Core.List.{List}
 use mathlib.Core.Path.{_≡_}
 use Rattle.wire.specs.Wire.{be}
@@ -40,8 +40,14 @@ pub record Unfit (st : Station) : Type 0 where
   pub control : (size : ℕ) → (FrameOk (boundsOf (st .settings)) (record { size = size; hops = 1; class = 0; mark = 0 }) → ⊥) → offerControlOf st size ≡ refusedOf st 3
   pub client : (class size hops : ℕ) → (FrameOk (boundsOf (st .settings)) (record { size = size; hops = hops; class = class; mark = 0 }) → ⊥)
       → offerClientOf st class size hops ≡ turnedOf st 3 0
+  -- 13: a frame's hops reach the number of stations or more. A control frame, of 1 hop, never gets it: `Acts` and 4 below do not ask.
+  pub transit-beyond : (class size hops eligible : ℕ) → FrameOk (boundsOf (st .settings)) (record { size = size; hops = hops; class = class; mark = eligible })
+      → st .settings .site .stations ≤ hops → offerTransitOf st class size hops eligible ≡ refusedOf st 13
+  pub client-beyond : (class size hops : ℕ) → FrameOk (boundsOf (st .settings)) (record { size = size; hops = hops; class = class; mark = 0 })
+      → st .settings .site .stations ≤ hops → offerClientOf st class size hops ≡ turnedOf st 13 0
   -- 4: a frame's size exceeds the queue's space.
   pub transit-full : (class size hops eligible : ℕ) → FrameOk (boundsOf (st .settings)) (record { size = size; hops = hops; class = class; mark = eligible })
+      → hops < st .settings .site .stations
       → spaceOf (queueOf (st .flow) (queueFor (st .settings) class)) (capacityOf (st .settings) (queueFor (st .settings) class)) < size
       → offerTransitOf st class size hops eligible ≡ refusedOf st 4
   pub control-full : (size : ℕ) → FrameOk (boundsOf (st .settings)) (record { size = size; hops = 1; class = 0; mark = 0 })
@@ -54,9 +60,13 @@ pub record Listens (st : Station) (frame : List ℕ) : Type 0 where
   pub lost : WholeFrame frame → (be 1 frame 1 / 128 ≡ st .settings .ringlet → ⊥) → (StationOk st → ⊥) → hearOf st frame ≡ refusedOf st 1
   pub ttl : WholeFrame frame → (be 1 frame 1 / 128 ≡ st .settings .ringlet → ⊥) → StationOk st → ((193 ≤ be 1 frame 0) × (be 1 frame 0 ≤ 255) → ⊥)
       → hearOf st frame ≡ refusedOf st 3
+  pub beyond : WholeFrame frame → (be 1 frame 1 / 128 ≡ st .settings .ringlet → ⊥) → StationOk st → (193 ≤ be 1 frame 0) × (be 1 frame 0 ≤ 255)
+      → st .settings .site .stations ≤ 256 - be 1 frame 0 → hearOf st frame ≡ refusedOf st 13
   pub own-address : WholeFrame frame → (be 1 frame 1 / 128 ≡ st .settings .ringlet → ⊥) → StationOk st → (193 ≤ be 1 frame 0) × (be 1 frame 0 ≤ 255)
+      → 256 - be 1 frame 0 < st .settings .site .stations
       → (be 6 frame 2 / 4294967296 ≡ st .settings .address .high) × (be 6 frame 2 % 4294967296 ≡ st .settings .address .low)
       → hearOf st frame ≡ refusedOf st 11
   pub heard : WholeFrame frame → (be 1 frame 1 / 128 ≡ st .settings .ringlet → ⊥) → StationOk st → (193 ≤ be 1 frame 0) × (be 1 frame 0 ≤ 255)
+      → 256 - be 1 frame 0 < st .settings .site .stations
       → ((be 6 frame 2 / 4294967296 ≡ st .settings .address .high) × (be 6 frame 2 % 4294967296 ≡ st .settings .address .low) → ⊥)
       → hearOf st frame ≡ doneOf (withFair st (heardOf (st .fair) (advertIn frame)))

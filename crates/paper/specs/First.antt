@@ -21,8 +21,7 @@ use Rattle.shaper.specs.Limits.{mostEvents, mostAmount, mostSize, limitsOk, Lim
 use Rattle.summary.specs.declared.Summary.{Summary}
 use Rattle.summary.specs.Range.{inRange, InRange}
 use Rattle.settings.specs.declared.Settings.{Settings}
-use Rattle.settings.specs.declared.Site.{Site}
-use Rattle.settings.specs.Range.{settingsOk, AgeCoef, Coef, SiteOk, SettingsOk}
+use Rattle.settings.specs.Range.{settingsOk, AgeCoef, Coef, SettingsOk}
 use Rattle.flow.specs.declared.Flow.{Flow}
 use Rattle.flow.specs.Range.{flowOk, FlowOk}
 use Rattle.fair.specs.declared.Fair.{Fair}
@@ -34,13 +33,12 @@ use Rattle.settings.specs.Words.{settingsLength}
 use Rattle.queue.specs.declared.Queue.{Queue}
 use Rattle.queue.specs.declared.Frame.{Frame}
 use Rattle.queue.specs.declared.Bounds.{Bounds}
-use Rattle.queue.specs.Frame.{hopsOk, frameOk, FrameOk}
+use Rattle.queue.specs.Frame.{hopsOk, frameOk, FrameOk, heldOk, HeldOk}
 use Rattle.queue.specs.Range.{AllOk, queueOk, QueueOk}
 use Rattle.advert.specs.Frame.{advertLength}
 use Rattle.credits.specs.declared.Which.{Which}
 use Rattle.credits.specs.declared.Which.the-variants.{A, C, D}
 use Rattle.credits.specs.Which.{bucketOf, creditOf}
-use Rattle.flow.specs.declared.Line.the-variants.{Control}
 use Rattle.flow.specs.Offer.{queueFor}
 use Rattle.sheet.specs.Sheet.{sheetLength}
 use Rattle.layout.specs.Reading.{readingLength}
@@ -49,7 +47,7 @@ use Rattle.rpr.specs.Ways.{chooseAnswer, pathAnswer}
 use Rattle.rpr.specs.Station.{startAnswer, startAfter, tickAnswer, tickAfter, ageAnswer, ageAfter}
 use Rattle.rpr.specs.Station.{offerClientAnswer, offerClientAfter, offerTransitAnswer, offerTransitAfter, offerControlAnswer, offerControlAfter}
 use Rattle.rpr.specs.Station.{selectAnswer, selectAfter, readFrameAnswer, readFrameAfter, writeFrameAnswer, writeFrameAfter, showAnswer, showAfter}
-use Rattle.paper.specs.Reasons.{CarriedOut, placeRefused, OtherLength, Spaces, startRefused, tickRefused, offerRefused, clientRefused, stationRefused, readRefused, roomRefused}
+use Rattle.paper.specs.Reasons.{CarriedOut, placeRefused, OtherLength, Spaces, startRefused, tickRefused, offerRefused, controlRefused, clientRefused, stationRefused, readRefused, roomRefused}
 use Rattle.paper.specs.Reasons.{chooseRefused, pathRefused, RecordRefused, joinRefused, settleRefused}
 
 -- Byte 0 of the answer is the number that is given. Each returns its number alone, but a client's 6 (`RefusesClient`): where it is not 0, every other byte is 0.
@@ -95,11 +93,11 @@ pub record Tested : Type 0 where
   pub limits : (l : Limits) → (test (limitsOk l) ≡ true) ↔ LimitsOk l
   pub summary : (s : Summary) → (inRange s ≡ true) ↔ InRange s
   pub settings : (s : Settings) → (test (settingsOk s) ≡ true) ↔ SettingsOk s
-  pub site : (x : Site) → SiteOk x
   pub frame : (b : Bounds) (x : Frame) → (test (frameOk b x) ≡ true) ↔ FrameOk b x
-  -- the frames of a queue, each in range
+  pub held : (b : Bounds) (x : Frame) → (test (heldOk b x) ≡ true) ↔ HeldOk b x
+  -- the frames of a queue, each of which may be held
   pub no-frame : (b : Bounds) → AllOk b []
-  pub a-frame : (b : Bounds) (x : Frame) (xs : List Frame) → AllOk b (x ∷ xs) ↔ (FrameOk b x × AllOk b xs)
+  pub a-frame : (b : Bounds) (x : Frame) (xs : List Frame) → AllOk b (x ∷ xs) ↔ (HeldOk b x × AllOk b xs)
   -- ageCoef 1, 2, 4, 8 or 16; lpCoef and rampUp 16, 32, 64, 128, 256 or 512
   pub age-coef : (x : ℕ) → AgeCoef x ↔ ((x ≡ 1) ⊎ ((x ≡ 2) ⊎ ((x ≡ 4) ⊎ ((x ≡ 8) ⊎ (x ≡ 16)))))
   pub coef : (x : ℕ) → Coef x ↔ ((x ≡ 16) ⊎ ((x ≡ 32) ⊎ ((x ≡ 64) ⊎ ((x ≡ 128) ⊎ ((x ≡ 256) ⊎ (x ≡ 512))))))
@@ -112,9 +110,9 @@ pub record Tested : Type 0 where
 pub record Condition1 : Type 0 where
   -- The numbers that bound a record's events, which the ranges below name: 1,000,000 events, amount 65,535, size 9,216.
   pub bounds : (mostEvents ≡ 1000000) × (mostAmount ≡ 65535) × (mostSize ≡ 9216)
-  -- The lengths that a slice of another length is refused for: settings 30 words, a summary 48 bytes, a reading 31 words, a frame 12 bytes. A station's is
+  -- The lengths that a slice of another length is refused for: settings 31 words, a summary 48 bytes, a reading 31 words, a frame 12 bytes. A station's is
   -- the library's own, and one that a host can lend.
-  pub lengths : (settingsLength ≡ 120) × (sheetLength ≡ 48) × (readingLength ≡ 124) × (advertLength ≡ 12) × (stationLength < 65536)
+  pub lengths : (settingsLength ≡ 124) × (sheetLength ≡ 48) × (readingLength ≡ 124) × (advertLength ≡ 12) × (stationLength < 65536)
   pub hops : (h : ℕ) → Holds (hopsOk h) ↔ ((1 ≤ h) × (h ≤ 63))
   -- The library's own tests of ranges say the same.
   pub tested : Tested
@@ -126,7 +124,8 @@ pub record Condition1 : Type 0 where
       → RefusesLent (offerRefused station (queueFor (stationAt station .settings) class) (record { size = size; hops = hops; class = class; mark = eligible })) (offerTransitAnswer station class size hops eligible)
       station (offerTransitAfter station class size hops eligible)
   pub offer-control : (station : List ℕ) (size : ℕ)
-      → RefusesLent (offerRefused station Control (record { size = size; hops = 1; class = 0; mark = 0 })) (offerControlAnswer station size) station (offerControlAfter station size)
+      → RefusesLent (controlRefused station size) (offerControlAnswer station size) station (offerControlAfter station size)
+  pub control-in-ring : (station : List ℕ) (size : ℕ) → offerControlAnswer station size % 256 ≡ 13 → ⊥
   -- how much room a queue in range has, for 4
   pub space : (b : Bounds) (capacity : ℕ) (q : Queue) → QueueOk b capacity q → Spaces capacity q
   pub select : (station : List ℕ) → RefusesLent (stationRefused station) (selectAnswer station) station (selectAfter station)

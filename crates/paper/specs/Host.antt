@@ -72,10 +72,10 @@ pub record Hosts (xs : List ℕ) (st : Station) : Type 0 where
   -- The room of 12 bytes holds the frame that the station advertises.
   pub write-frame : (room : List ℕ) → length room ≡ advertLength
       → (writeFrameAnswer xs room ≡ 0) × (writeFrameAfter xs room ≡ advertBytes (toldOf (st .fair) (st .settings)))
-  -- Reading a written frame, with the same ringlet but an address it doesn't bear, is not refused, and takes what was told: ys are lent that hold the
-  -- station t, which is in range.
+  -- Reading a written frame, with the same ringlet and number of stations but an address it doesn't bear, is not refused, and takes what was told: ys are
+  -- lent that hold the station t, which is in range.
   pub written-read : (room : List ℕ) → length room ≡ advertLength → {ys : List ℕ} {t : Station} → Keeps ys t
-      → t .settings .ringlet ≡ st .settings .ringlet
+      → t .settings .ringlet ≡ st .settings .ringlet → t .settings .site .stations ≡ st .settings .site .stations
       → ((toldOf (st .fair) (st .settings) .high ≡ t .settings .address .high) × (toldOf (st .fair) (st .settings) .low ≡ t .settings .address .low) → ⊥)
       → (readFrameAnswer ys (writeFrameAfter xs room) ≡ 0)
       × Keeps (readFrameAfter ys (writeFrameAfter xs room)) (changedOf t (toldOf (st .fair) (st .settings)))
@@ -88,7 +88,7 @@ pub record Hosts (xs : List ℕ) (st : Station) : Type 0 where
 abbrev pub ShaperWords : List ℕ → ℕ → Bucket → Type 0
 ShaperWords xs at b = (b .lo ≡ le 4 xs at) × (b .hi ≡ le 4 xs (at + 4)) × (b .amount ≡ le 4 xs (at + 8))
 
--- The settings that 30 words of 4 bytes hold: word k stands at byte 4 × k.
+-- The settings that 31 words of 4 bytes hold: word k stands at byte 4 × k.
 pub record SettingsWords (xs : List ℕ) (s : Settings) : Type 0 where
   pub address : (s .address .high ≡ le 4 xs 0) × (s .address .low ≡ le 4 xs 4)
   pub ringlet : s .ringlet ≡ le 4 xs 8
@@ -101,6 +101,7 @@ pub record SettingsWords (xs : List ℕ) (s : Settings) : Type 0 where
   pub queues : (s .queues .control ≡ le 4 xs 76) × (s .queues .primary ≡ le 4 xs 80) × (s .queues .secondary ≡ le 4 xs 84) × (s .queues .threshold ≡ le 4 xs 88)
   pub rates : (s .fairness .weight ≡ le 4 xs 92) × (s .fairness .unit ≡ le 4 xs 96) × (s .fairness .ticks ≡ le 4 xs 100) × (s .fairness .unreserved ≡ le 4 xs 104)
   pub coefficients : (s .fairness .age ≡ le 4 xs 108) × (s .fairness .lp ≡ le 4 xs 112) × (s .fairness .ramp ≡ le 4 xs 116)
+  pub stations : s .site .stations ≡ le 4 xs 120
 
 -- rpr_start with settings in range: the station is fresh, whatever its bytes were.
 abbrev pub Begins : List ℕ → List ℕ → Type 0

@@ -39,6 +39,7 @@ use Rattle.selection.specs.Frames.{gone}
 use Rattle.selection.specs.Select.{originOf, leaves, leavesCharged, leavesStage}
 use Rattle.rates.specs.Rates.{smoothedOf, shownOf, agedOf, rampedOf, allowanceOf, ownRateOf, shareOf}
 use Rattle.rates.specs.Steady.{steadyOf, gapOf}
+use Rattle.heard.specs.Range.{hopsOf}
 use Rattle.fair.specs.declared.Fair.{Fair}
 use Rattle.fair.specs.declared.Four.{Four}
 use Rattle.fair.specs.declared.Stored.{Stored}
@@ -56,6 +57,7 @@ use Rattle.station.specs.declared.Station.{Station}
 use Rattle.station.specs.Answers.{withFlow, withFair, refusedOf, doneOf}
 use Rattle.station.specs.Offers.{turnedOf, offerClientOf, offerTransitOf, offerControlOf}
 use Rattle.station.specs.Hear.{changedOf, hearOf, tellOf}
+use Rattle.station.specs.Hops.{HopsBelow}
 use Rattle.station.specs.Show.{heldIn, heldOn, readingOf, blankOf, showOf}
 use Rattle.shaper.specs.declared.Charged.{Charged}
 use Rattle.station.specs.declared.Done.{Done}
@@ -104,7 +106,11 @@ pub record QueueNames : Type 0 where
   pub slot : (w : ℕ) → frameOf w ≡ record { size = w % 16384; hops = w / 16384 % 64; class = w / 1048576 % 4; mark = w / 4194304 }
   pub no-frame : frameOf 0 ≡ record { size = 0; hops = 0; class = 0; mark = 0 }
   -- what the frames of a station are held to
-  pub bounds : (s : Settings) → boundsOf s ≡ record { mtu = s .mtu }
+  pub bounds : (s : Settings) → boundsOf s ≡ record { mtu = s .mtu; stations = s .site .stations }
+  -- hopsToCongestion = 256 − ttl; and of each frame of a list the hops stay below the number of stations
+  pub hops-told : (ttl : ℕ) → hopsOf ttl ≡ 256 - ttl
+  pub none-below : (stations : ℕ) → HopsBelow stations []
+  pub more-below : (stations : ℕ) (x : Frame) (xs : List Frame) → HopsBelow stations (x ∷ xs) ↔ ((x .hops < stations) × HopsBelow stations xs)
   -- the first of a queue's frames
   pub first : (q : Queue) (x : Frame) (xs : List Frame) → framesOf q ≡ x ∷ xs → firstFrame q ≡ x
   -- a queue, and the stage, that holds a frame

@@ -2,7 +2,7 @@
 -- Assumes nothing.
 use Prim.Native.Nat.{ℕ}
 use Rattle.decide.specs.Test.{test}
-use Rattle.queue.specs.Frame.{frameOf, frameOk, hopsOk, wordOf}
+use Rattle.queue.specs.Frame.{frameOf, frameOk, heldOk, hopsOk, wordOf}
 use Rattle.queue.specs.Front.{frontOf, fronted}
 use Rattle.queue.specs.Queue.{emptyQueue, firstFrame, holdsFrame, pushed, spaceOf, takeOf}
 use Rattle.queue.specs.Range.{queueOk, usedOf}
@@ -45,6 +45,6 @@ pub record Functions : Type 0 where
   -- Queue::in_range
   pub queue-in-range : (self : Queue) (bounds : Bounds) (capacity : ℕ) → Determined (λ (r : Bool). r ≡ test (queueOk bounds capacity self))
   -- word_ok
-  pub word-ok : (bounds : Bounds) (w : ℕ) → Determined (λ (r : Bool). r ≡ test (frameOk bounds (frameOf w)))
+  pub word-ok : (bounds : Bounds) (w : ℕ) → Determined (λ (r : Bool). r ≡ test (heldOk bounds (frameOf w)))
   -- word_used
   pub word-used : (w : ℕ) → Determined (λ (r : ℕ). r ≡ usedOf w)

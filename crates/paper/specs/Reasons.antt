@@ -1,6 +1,7 @@
--- Why a call is refused, as facts: the number of the first reason that holds, in document 01's order 2, 1, 3, 11, 10, 9, 4, 5, 6, 7, 8.
+-- Why a call is refused, as facts: the number of the first reason that holds, in document 01's order 2, 1, 3, 11, 10, 9, 4, 5, 6, 7, 8, with 13 right after 3
+-- and before 11 (document 02, A5).
 -- Assumes nothing.
-use Prim.Native.Nat.{ℕ, _/_, _%_, _^_, _+_, _≤_, _<_}
+use Prim.Native.Nat.{ℕ, _/_, _%_, _^_, _+_, _-_, _≤_, _<_}
 use mathlib.Core.Bool.{false}
 use mathlib.Core.List.{List, _++_}
 use mathlib.Core.Logic.{_⊎_}
@@ -70,14 +71,29 @@ tickRefused xs a b c =
     (RefusedWhen 3 (YesNo a × YesNo b × YesNo c → ⊥)
     CarriedOut))
 
--- rpr_offer_transit and rpr_offer_control: into a queue
+-- A frame's hops reach the number of stations or more.
+abbrev pub BeyondRing : List ℕ → ℕ → Type 0
+BeyondRing xs hops = stationAt xs .settings .site .stations ≤ hops
+
+-- rpr_offer_transit: into a queue
 abbrev pub offerRefused : List ℕ → Line → Frame → ℕ → Type 0
 offerRefused xs l x =
     let st = stationAt xs in
     RefusedWhen 2 (OtherLength stationLength xs)
     (RefusedWhen 1 (StationOut xs)
     (RefusedWhen 3 (FrameOk (boundsOf (st .settings)) x → ⊥)
+    (RefusedWhen 13 (BeyondRing xs (x .hops))
     (RefusedWhen 4 (spaceOf (queueOf (st .flow) l) (capacityOf (st .settings) l) < x .size)
+    CarriedOut))))
+
+-- rpr_offer_control: class A, 1 hop, into the control queue. It never gets 13.
+abbrev pub controlRefused : List ℕ → ℕ → ℕ → Type 0
+controlRefused xs size =
+    let st = stationAt xs in
+    RefusedWhen 2 (OtherLength stationLength xs)
+    (RefusedWhen 1 (StationOut xs)
+    (RefusedWhen 3 (FrameOk (boundsOf (st .settings)) (record { size = size; hops = 1; class = 0; mark = 0 }) → ⊥)
+    (RefusedWhen 4 (spaceOf (st .flow .control) (st .settings .queues .control) < size)
     CarriedOut)))
 
 -- rpr_offer_client: into the stage. A client gives no mark; an eligible frame is one that goes in as excess.
@@ -88,10 +104,11 @@ clientRefused xs class size hops =
     RefusedWhen 2 (OtherLength stationLength xs)
     (RefusedWhen 1 (StationOut xs)
     (RefusedWhen 3 (FrameOk (boundsOf (st .settings)) (record { size = size; hops = hops; class = class; mark = 0 }) → ⊥)
+    (RefusedWhen 13 (BeyondRing xs hops)
     (RefusedWhen 5 (Staged (st .flow))
     (RefusedWhen 6 (Permits st way → ⊥)
     (RefusedWhen 7 ((markOf way ≡ 1) × Passes (st .fair) size hops)
-    CarriedOut)))))
+    CarriedOut))))))
 
 -- rpr_select and rpr_age
 abbrev pub stationRefused : List ℕ → ℕ → Type 0
@@ -101,7 +118,8 @@ stationRefused xs = RefusedWhen 2 (OtherLength stationLength xs) (RefusedWhen 1 
 abbrev pub WholeFrame : List ℕ → Type 0
 WholeFrame frame = (length frame ≡ advertLength) × ((be 1 frame 1 / 16 % 4 ≡ 2) × (be 2 frame 8 / 8192 ≡ 0))
 
--- rpr_read_frame. The ringlet bit is held to the lent station's own, whatever else is in that station; the address by its high 16 and its low 32 bits.
+-- rpr_read_frame. The ringlet bit is held to the lent station's own, whatever else is in that station; hopsToCongestion = 256 − ttl; the address by its high 16
+-- and its low 32 bits.
 abbrev pub readRefused : List ℕ → List ℕ → ℕ → Type 0
 readRefused xs frame =
     let own = stationAt xs .settings in
@@ -110,8 +128,9 @@ readRefused xs frame =
     (RefusedWhen 2 (be 1 frame 1 / 128 ≡ own .ringlet)
     (RefusedWhen 1 (StationOut xs)
     (RefusedWhen 3 ((193 ≤ be 1 frame 0) × (be 1 frame 0 ≤ 255) → ⊥)
+    (RefusedWhen 13 (BeyondRing xs (256 - be 1 frame 0))
     (RefusedWhen 11 ((be 6 frame 2 / 4294967296 ≡ own .address .high) × (be 6 frame 2 % 4294967296 ≡ own .address .low))
-    CarriedOut)))))
+    CarriedOut))))))
 
 -- rpr_write_frame and rpr_show: into a room of so many bytes
 abbrev pub roomRefused : ℕ → List ℕ → List ℕ → ℕ → Type 0

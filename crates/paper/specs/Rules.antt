@@ -127,11 +127,11 @@ pub record Tells (f : Fair) (s : Settings) : Type 0 where
   pub both : f .decided .congested ≡ 1 → f .received .downstream ≡ 1 → f .decided .own ≤ f .received .rate → toldOf f s ≡ ownFrame s (f .decided .own)
   -- Own and FULL frames use own address and ttl 255, and bear the other ringlet's bit;
   pub own-frame : (rate : ℕ) → ownFrame s rate ≡ record { ringlet = 1 - s .ringlet; ttl = 255; high = s .address .high; low = s .address .low; rate = rate }
-  -- else the received rate, its address, ttl less 1, but FULL_RATE if its ttl was 193.
+  -- else the received rate, its address, ttl less 1, but FULL_RATE when the received hops, 256 − ttl, are the number of stations less 1.
   pub passed-on : passedOn f s
       ≡ record { ringlet = 1 - s .ringlet; ttl = f .received .ttl - 1; high = f .received .high; low = f .received .low; rate = f .received .rate }
-  pub received : (f .received .downstream ≡ 1) × ((f .decided .congested ≡ 0) ⊎ (f .received .rate < f .decided .own)) → (f .received .ttl ≡ 193 → ⊥) → toldOf f s ≡ passedOn f s
-  pub last : (f .received .downstream ≡ 1) × ((f .decided .congested ≡ 0) ⊎ (f .received .rate < f .decided .own)) → f .received .ttl ≡ 193 → toldOf f s ≡ ownFrame s 65535
+  pub received : (f .received .downstream ≡ 1) × ((f .decided .congested ≡ 0) ⊎ (f .received .rate < f .decided .own)) → (256 - f .received .ttl ≡ s .site .stations - 1 → ⊥) → toldOf f s ≡ passedOn f s
+  pub last : (f .received .downstream ≡ 1) × ((f .decided .congested ≡ 0) ⊎ (f .received .rate < f .decided .own)) → 256 - f .received .ttl ≡ s .site .stations - 1 → toldOf f s ≡ ownFrame s 65535
 
 -- The twelve bytes: ttl; base (bit 7 ringlet, bits 5 to 4 frame type, 2 = fairness); address 6; header 2, top three bits 0 for single choke; rate 2.
 -- Big-endian.

@@ -54,6 +54,7 @@ use Rattle.rpr.specs.Station.{startAnswer}
 use Rattle.rpr.specs.Lent.{Lending, memoryThrough, NoNewStart, startedIn, stationIn}
 use Rattle.rpr.specs.Told.{recordTold}
 use Rattle.rpr.specs.Steady.{shownWord, smoothedWord, intervalsIn, SteadyIn, GivesRate}
+use Rattle.rpr.specs.Hops.{RingTold}
 use Rattle.rpr.specs.Ways.{chooseAnswer}
 use Rattle.rpr.specs.Pairs.{PairTold}
 use Rattle.rpr.specs.Says.{Keeps}
@@ -316,6 +317,13 @@ pub record Condition2 : Type 0 where
   pub steady-told : (mem room : List ℕ) → Bytes (take stationLength mem) → length (take stationLength mem) ≡ stationLength → StationOk (stationIn mem)
       → length room ≡ readingLength → (calls : List Lending) → NoNewStart mem calls → (k : Rate) (rate : ℕ) → SteadyIn room k rate mem calls
       → TellsSteady room mem calls k rate
+  -- No hops beyond the ring (document 02, A5): over any exported calls on one piece of memory, wrong lengths, refused arguments and refused starts among them, from a
+  -- start that was carried out, the station holds no frame whose hops reach the number of stations, has received none, selects none and tells of none; and so of
+  -- any station in range that is lent.
+  pub within-ring : (settings mem : List ℕ) → Bytes settings → startAnswer settings (take stationLength mem) ≡ 0
+      → (calls : List Lending) → NoNewStart (startedIn settings mem) calls
+      → RingTold (settingsAt settings 0 .site .stations) (memoryThrough (startedIn settings mem) calls)
+  pub lent-within-ring : (mem : List ℕ) (st : Station) → Keeps (take stationLength mem) st → RingTold (st .settings .site .stations) mem
   -- Local congestion and own rate hold till the next interval, with all else that it decides and with the stored numbers: no call but that of an interval
   -- changes them.
   pub holding : (st : Station) (c : Call) → (c ≡ history.age → ⊥)

@@ -14,13 +14,13 @@ use Rattle.decide.specs.Test.{split, _≤?_, _<?_}
 use Rattle.queue.specs.declared.Bounds.{Bounds}
 use Rattle.queue.specs.declared.Frame.{Frame}
 use Rattle.queue.specs.declared.Queue.{Queue}
-use Rattle.queue.specs.Frame.{FrameOk, BoundsOk, wordOf}
+use Rattle.queue.specs.Frame.{HeldOk, BoundsOk, wordOf}
 use Rattle.queue.specs.Queue.{framesFrom, framesOf, sizes, emptyQueue, pushed, firstFrame, taken, spaceOf, holdsFrame}
 use Rattle.queue.specs.Range.{AllOk, QueueOk}
 use Rattle.queue.proofs.Word.{word-frame, frame-fits}
 use Rattle.queue.proofs.Ring.{from-mod, from-set, from-snoc, from-length, sizes-append}
 
-all-snoc : (bounds : Bounds) (fs : List Frame) (f : Frame) → AllOk bounds fs → FrameOk bounds f → AllOk bounds (fs ++ (f ∷ []))
+all-snoc : (bounds : Bounds) (fs : List Frame) (f : Frame) → AllOk bounds fs → HeldOk bounds f → AllOk bounds (fs ++ (f ∷ []))
 all-snoc bounds [] f a r = (r, tt)
 all-snoc bounds (g ∷ fs) f a r = (a .0, all-snoc bounds fs f (a .1) r)
 
@@ -115,7 +115,7 @@ module _ {bounds : Bounds} {capacity : ℕ} {q : Queue} (ok : QueueOk bounds cap
         ap (framesFrom (q .slots) (q .head)) e
         ∙ rw (from-set (q .slots) (q .head % 128) 0 ((q .head + 1) % 128) (q .count - 1) (λ j l e. omega (arith, ok .count)), from-mod (q .slots) (suc (q .head)) ((q .head + 1) % 128) (q .count - 1) (omega arith))
 
-    pub first-ok : FrameOk bounds (firstFrame q)
+    pub first-ok : HeldOk bounds (firstFrame q)
     first-ok = (rw take-first at (ok .frames)) .0
 
     -- the bytes held are the first frame's and the others'
@@ -160,9 +160,9 @@ module _ {bounds : Bounds} {capacity : ℕ} {q : Queue} (ok : QueueOk bounds cap
 
   -- ---- pushing
 
-  module _ (f : Frame) (large : BoundsOk bounds) (good : FrameOk bounds f) (fits : f .size ≤ spaceOf q capacity) where
+  module _ (f : Frame) (large : BoundsOk bounds) (good : HeldOk bounds f) (fits : f .size ≤ spaceOf q capacity) where
     room : (q .count < 128) × (q .held + f .size ≤ capacity)
-    room = space-fits (f .size) (omega (arith, good .least)) fits
+    room = space-fits (f .size) (omega (arith, good .frame .least)) fits
 
     -- the frame pushed is the list's last
     pub push-appends : framesOf (pushed q f) ≡ framesOf q ++ (f ∷ [])
@@ -172,7 +172,7 @@ module _ {bounds : Bounds} {capacity : ℕ} {q : Queue} (ok : QueueOk bounds cap
         let at = (q .head + q .count) % 128 in
         ap (framesFrom (set (q .slots) at (wordOf f)) (q .head)) (add-one (q .count))
         ∙ from-snoc (set (q .slots) at (wordOf f)) (q .head) (q .count)
-        ∙ rw (getD-set-same (q .slots) at (wordOf f) 0 (omega (arith, ok .slots)), from-set (q .slots) at (wordOf f) (q .head) (q .count) (λ j l e. omega arith), word-frame f (frame-fits large good))
+        ∙ rw (getD-set-same (q .slots) at (wordOf f) 0 (omega (arith, ok .slots)), from-set (q .slots) at (wordOf f) (q .head) (q .count) (λ j l e. omega arith), word-frame f (frame-fits large (good .frame)))
 
     pub push-ok : QueueOk bounds capacity (pushed q f)
     unfolding pushed sizes

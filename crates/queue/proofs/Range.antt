@@ -14,10 +14,10 @@ use Rattle.decide.specs.Test.{Test, test, Holds, split, _≤?_, _<?_, _≡?_, _
 use Rattle.decide.proofs.Tests.{same-test}
 use Rattle.queue.specs.declared.Bounds.{Bounds}
 use Rattle.queue.specs.declared.Queue.{Queue}
-use Rattle.queue.specs.Frame.{frameOf, frameOk, FrameOk}
+use Rattle.queue.specs.Frame.{frameOf, heldOk, HeldOk}
 use Rattle.queue.specs.Queue.{framesFrom, framesOf, sizes}
 use Rattle.queue.specs.Range.{QueueOk, occupied, slotOk, eachFrom, slotsOk, emptyOk, bytesIn, queueOk}
-use Rattle.queue.proofs.Word.{frame-facts, frame-holds}
+use Rattle.queue.proofs.Word.{held-facts, held-holds}
 use Rattle.queue.proofs.Ring.{from-more, from-done, held-sum, zero-sizes, all-in, in-all}
 
 -- ---- the slots one by one, and all
@@ -47,13 +47,13 @@ slotAt bounds h n s j = slotOk bounds (occupied h n j) (getD s j 0)
 -- ---- what a slot holds, by whether it is occupied
 
 module _ (bounds : Bounds) (o : Bool) (w : ℕ) where
-  slot-frame : o ≡ true → Holds (slotOk bounds o w) → FrameOk bounds (frameOf w)
+  slot-frame : o ≡ true → Holds (slotOk bounds o w) → HeldOk bounds (frameOf w)
   unfolding slotOk
-  slot-frame e h = frame-facts bounds (frameOf w) (rw e at h)
+  slot-frame e h = held-facts bounds (frameOf w) (rw e at h)
 
-  frame-slot : o ≡ true → FrameOk bounds (frameOf w) → Holds (slotOk bounds o w)
+  frame-slot : o ≡ true → HeldOk bounds (frameOf w) → Holds (slotOk bounds o w)
   unfolding slotOk
-  frame-slot e r = rw e (frame-holds bounds (frameOf w) r)
+  frame-slot e r = rw e (held-holds bounds (frameOf w) r)
 
   slot-zero : o ≡ false → Holds (slotOk bounds o w) → w ≡ 0
   unfolding slotOk
@@ -64,7 +64,7 @@ module _ (bounds : Bounds) (o : Bool) (w : ℕ) where
   zero-slot e z = rw e z
 
 -- the test of a slot as code makes it
-pub slot-test : (bounds : Bounds) (o : Bool) (w : ℕ) → ((o && test (frameOk bounds (frameOf w))) || (not o && eqb w 0)) ≡ test (slotOk bounds o w)
+pub slot-test : (bounds : Bounds) (o : Bool) (w : ℕ) → ((o && test (heldOk bounds (frameOf w))) || (not o && eqb w 0)) ≡ test (slotOk bounds o w)
 unfolding slotOk test
 slot-test bounds true w = or-false _
 slot-test bounds false w = refl

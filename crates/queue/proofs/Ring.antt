@@ -10,7 +10,7 @@ use lib.ListN.{length, getD, set}
 use lib.Seq.{getD-set-other}
 use Rattle.queue.specs.declared.Bounds.{Bounds}
 use Rattle.queue.specs.declared.Frame.{Frame}
-use Rattle.queue.specs.Frame.{frameOf, FrameOk}
+use Rattle.queue.specs.Frame.{frameOf, HeldOk}
 use Rattle.queue.specs.Queue.{framesFrom, sizes}
 use Rattle.queue.specs.Range.{AllOk, weighed}
 
@@ -131,14 +131,14 @@ pub held-sum : (s : List ℕ) (h n : ℕ) → n ≤ 128 → ((j : ℕ) → n ≤
 held-sum s h n p z = sizes-weighed s 0 128 ∙ weigh-held (λ (w : ℕ). frameOf w .size) s refl h n p z ∙ sym (sizes-weighed s h n)
 
 -- the frames one by one, and all
-pub all-in : (bounds : Bounds) (s : List ℕ) (h n : ℕ) → ((j : ℕ) → j < n → FrameOk bounds (frameOf (getD s ((h + j) % 128) 0))) → AllOk bounds (framesFrom s h n)
+pub all-in : (bounds : Bounds) (s : List ℕ) (h n : ℕ) → ((j : ℕ) → j < n → HeldOk bounds (frameOf (getD s ((h + j) % 128) 0))) → AllOk bounds (framesFrom s h n)
 unfolding framesFrom
 all-in bounds s h zero f = tt
 all-in bounds s h (suc n) f =
     let e : h % 128 ≡ (h + 0) % 128 = omega arith in
     (rw e (f 0 (omega arith)), all-in bounds s (suc h) n (λ j l. let k : (suc h + j) % 128 ≡ (h + suc j) % 128 = omega arith in rw k (f (suc j) (omega arith))))
 
-pub in-all : (bounds : Bounds) (s : List ℕ) (h n : ℕ) → AllOk bounds (framesFrom s h n) → (j : ℕ) → j < n → FrameOk bounds (frameOf (getD s ((h + j) % 128) 0))
+pub in-all : (bounds : Bounds) (s : List ℕ) (h n : ℕ) → AllOk bounds (framesFrom s h n) → (j : ℕ) → j < n → HeldOk bounds (frameOf (getD s ((h + j) % 128) 0))
 unfolding framesFrom
 in-all bounds s h zero a j l = absurd (omega arith)
 in-all bounds s h (suc n) a zero l = let e : (h + 0) % 128 ≡ h % 128 = omega arith in rw e (a .0)

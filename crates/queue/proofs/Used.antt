@@ -13,7 +13,7 @@ use Rattle.queue.specs.declared.Frame.{Frame}
 use Rattle.queue.specs.declared.Queue.{Queue}
 use Rattle.queue.specs.Queue.{framesFrom, framesOf, sizes}
 use Rattle.queue.specs.Range.{AllOk, QueueOk, queueOk, framesOk, weighed, usedOf, usedIn}
-use Rattle.queue.proofs.Word.{frame-facts, frame-holds}
+use Rattle.queue.proofs.Word.{held-facts, held-holds}
 use Rattle.queue.proofs.Ring.{weigh-split, weigh-held}
 use Rattle.queue.proofs.Range.{queue-facts, queue-holds}
 
@@ -22,12 +22,12 @@ use Rattle.queue.proofs.Range.{queue-facts, queue-holds}
 all-facts : (bounds : Bounds) (fs : List Frame) → Holds (framesOk bounds fs) → AllOk bounds fs
 unfolding framesOk
 all-facts bounds [] h = tt
-all-facts bounds (f ∷ fs) h = (frame-facts bounds f (h .0), all-facts bounds fs (h .1))
+all-facts bounds (f ∷ fs) h = (held-facts bounds f (h .0), all-facts bounds fs (h .1))
 
 all-holds : (bounds : Bounds) (fs : List Frame) → AllOk bounds fs → Holds (framesOk bounds fs)
 unfolding framesOk
 all-holds bounds [] a = omega arith
-all-holds bounds (f ∷ fs) a = (frame-holds bounds f (a .0), all-holds bounds fs (a .1))
+all-holds bounds (f ∷ fs) a = (held-holds bounds f (a .0), all-holds bounds fs (a .1))
 
 -- ---- how many words are not 0
 
@@ -35,7 +35,7 @@ all-holds bounds (f ∷ fs) a = (frame-holds bounds f (a .0), all-holds bounds f
 all-used : (bounds : Bounds) (s : List ℕ) (h n : ℕ) → AllOk bounds (framesFrom s h n) → weighed usedOf s h n ≡ n
 unfolding framesFrom weighed
 all-used bounds s h zero a = refl
-all-used bounds s h (suc n) a = omega (arith, a .0 .least, all-used bounds s (suc h) n (a .1))
+all-used bounds s h (suc n) a = omega (arith, a .0 .frame .least, all-used bounds s (suc h) n (a .1))
 
 -- where there is none each is 0
 none-used : (s : List ℕ) (h n : ℕ) → weighed usedOf s h n ≡ 0 → (j : ℕ) → j < n → getD s ((h + j) % 128) 0 ≡ 0

@@ -1,16 +1,16 @@
 -- A frame and its word: each is read back from the other, since the parts of a word do not overlap; and the tests of both say the same.
 -- Assumes nothing.
-use Prim.Native.Nat.{ℕ, _+_, _*_, _/_, _%_, _<_, _≤_}
+use Prim.Native.Nat.{ℕ, _+_, _*_, _/_, _%_, _<_, _≤_, min}
 use mathlib.Core.Path.{_≡_, ap, _∙_}
 use mathlib.Core.Logic.{⊎-elim, inl, inr}
 use mathlib.Core.Bool.{_&&_, _||_}
 use native.Mathlib.Omega.{arith}
-use lib.Dec.{leb}
-use Rattle.decide.specs.Test.{test, Holds, split, _≤?_, _∧?_, _∨?_}
+use lib.Dec.{leb, ltb}
+use Rattle.decide.specs.Test.{test, Holds, split, _≤?_, _<?_, _∧?_, _∨?_}
 use Rattle.decide.proofs.Tests.{same-test}
 use Rattle.queue.specs.declared.Bounds.{Bounds}
 use Rattle.queue.specs.declared.Frame.{Frame}
-use Rattle.queue.specs.Frame.{frameOk, FrameOk, BoundsOk, wordOf, frameOf, FrameFits}
+use Rattle.queue.specs.Frame.{frameOk, FrameOk, heldOk, HeldOk, BoundsOk, wordOf, frameOf, FrameFits}
 
 -- ---- the codec
 
@@ -65,6 +65,13 @@ frame-facts bounds f h =
 pub frame-holds : (bounds : Bounds) (f : Frame) → FrameOk bounds f → Holds (frameOk bounds f)
 frame-holds bounds f r = ((r .least, r .most), (r .hops, (r .class, (r .mark, r .marked))))
 
+-- the same of a frame that may be held
+pub held-facts : (bounds : Bounds) (f : Frame) → Holds (heldOk bounds f) → HeldOk bounds f
+held-facts bounds f h = record { frame = frame-facts bounds f (h .0); ring = h .1 }
+
+pub held-holds : (bounds : Bounds) (f : Frame) → HeldOk bounds f → Holds (heldOk bounds f)
+held-holds bounds f r = (frame-holds bounds f (r .frame), r .ring)
+
 -- a frame in range fits a word
 pub frame-fits : {bounds : Bounds} {f : Frame} → BoundsOk bounds → FrameOk bounds f → FrameFits f
 frame-fits m r = record { size = omega (arith, r .most, m .mtu-most); hops = omega (arith, r .hops); class = omega (arith, r .class); mark = omega (arith, r .mark) }
@@ -80,3 +87,21 @@ kinds w =
     same-test (w / 1048576 ≤? 2 ∨? 5 ≤? w / 1048576 ∧? w / 1048576 ≤? 6) (w / 1048576 % 4 ≤? 2 ∧? w / 4194304 ≤? 1 ∧? w / 4194304 ≤? w / 1048576 % 4)
     (λ h. ⊎-elim (λ (l : w / 1048576 ≤ 2). (omega arith, (omega arith, omega arith))) (λ (l : (5 ≤ w / 1048576) × (w / 1048576 ≤ 6)). (omega arith, (omega arith, omega arith))) h)
     (λ h. ⊎-elim (λ (l : w / 1048576 ≤ 2). inl l) (λ l. inr (omega arith, omega arith)) (split (w / 1048576 ≤? 2)))
+
+-- below the class: hops, and below them the size
+low-parts : (w : ℕ) → w % 1048576 ≡ w % 16384 + w / 16384 % 64 * 16384
+low-parts w = omega arith
+
+-- hops tested with the size below them: at least one,
+pub some-hops : (w : ℕ) → leb 16384 (w % 1048576) ≡ (leb 1 (w / 16384 % 64) && leb (w / 16384 % 64) 63)
+unfolding test
+some-hops w =
+    same-test (16384 ≤? w % 1048576) (1 ≤? w / 16384 % 64 ∧? w / 16384 % 64 ≤? 63)
+    (λ h. (omega (arith, low-parts w, h), omega arith)) (λ h. omega (arith, low-parts w, h .0))
+
+-- and less than the first beyond the ring
+pub ring-hops : (w stations : ℕ) → ltb (w % 1048576) (min stations 64 * 16384) ≡ ltb (w / 16384 % 64) stations
+unfolding test
+ring-hops w stations =
+    same-test (w % 1048576 <? min stations 64 * 16384) (w / 16384 % 64 <? stations)
+    (λ h. omega (arith, low-parts w, h)) (λ h. omega (arith, low-parts w, h))

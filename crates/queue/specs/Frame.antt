@@ -3,6 +3,7 @@
 use Prim.Native.Nat.{ℕ, _+_, _*_, _/_, _%_, _≤_, _<_}
 use Rattle.decide.specs.Test.{Test, Holds, _≤?_, _∧?_}
 use Rattle.decide.specs.Size.{sizeOk}
+use Rattle.decide.specs.Hops.{inRing}
 use Rattle.queue.specs.declared.Bounds.{Bounds}
 use Rattle.queue.specs.declared.Frame.{Frame}
 
@@ -26,6 +27,15 @@ pub record FrameOk (b : Bounds) (f : Frame) : Type 0 where
   pub class : f .class ≤ 2
   pub mark : f .mark ≤ 1
   pub marked : f .mark ≤ f .class
+
+-- A lent station's frames are in range, and none of them has hops that reach the number of stations or more.
+abbrev pub heldOk : Bounds → Frame → Test
+heldOk b f = frameOk b f ∧? inRing (b .stations) (f .hops)
+
+-- the same as facts with names
+pub record HeldOk (b : Bounds) (f : Frame) : Type 0 where
+  pub frame : FrameOk b f
+  pub ring : f .hops < b .stations
 
 -- what frames may be held to: mtu at most 9,216
 pub record BoundsOk (b : Bounds) : Type 0 where

@@ -10,15 +10,15 @@ use Rattle.decide.specs.Test.{Test, _≤?_, _<?_, _≡?_, _∧?_}
 use Rattle.queue.specs.declared.Bounds.{Bounds}
 use Rattle.queue.specs.declared.Frame.{Frame}
 use Rattle.queue.specs.declared.Queue.{Queue}
-use Rattle.queue.specs.Frame.{frameOf, frameOk, FrameOk}
+use Rattle.queue.specs.Frame.{frameOf, heldOk, HeldOk}
 use Rattle.queue.specs.Queue.{framesFrom, framesOf, sizes}
 
 -- ---- as facts
 
--- every frame of the list is in range
+-- every frame of the list may be held
 abbrev pub AllOk : Bounds → List Frame → Type 0
 AllOk b [] = Unit {0}
-AllOk b (f ∷ fs) = FrameOk b f × AllOk b fs
+AllOk b (f ∷ fs) = HeldOk b f × AllOk b fs
 
 -- A lent station is in range if its .. frames, slots and bytes held (the sizes' sum, at most the capacity) are. A slot outside head .. head + count is
 -- empty, which is 0.
@@ -37,9 +37,9 @@ pub record QueueOk (b : Bounds) (capacity : ℕ) (q : Queue) : Type 0 where
 unfoldable pub occupied : ℕ → ℕ → ℕ → Bool
 occupied h n i = ltb ((128 - h + i) % 128) n
 
--- an occupied slot holds a frame in range, another 0
+-- an occupied slot holds a frame that may be held, another 0
 unfoldable pub slotOk : Bounds → Bool → ℕ → Test
-slotOk b o w = cond o (frameOk b (frameOf w)) (w ≡? 0)
+slotOk b o w = cond o (heldOk b (frameOf w)) (w ≡? 0)
 
 -- a test at each of the k numbers from i on
 unfoldable pub eachFrom : (ℕ → Test) → ℕ → ℕ → Test
@@ -69,10 +69,10 @@ queueOk b capacity q =
 
 -- ---- what the test over a queue's bytes counts instead
 
--- every frame of the list is in range
+-- every frame of the list may be held
 unfoldable pub framesOk : Bounds → List Frame → Test
 framesOk b [] = 0 ≤? 0
-framesOk b (f ∷ fs) = frameOk b f ∧? framesOk b fs
+framesOk b (f ∷ fs) = heldOk b f ∧? framesOk b fs
 
 -- the sum of a weight over the words of n slots, from slot h on, round the ring of 128
 unfoldable pub weighed : (ℕ → ℕ) → List ℕ → ℕ → ℕ → ℕ

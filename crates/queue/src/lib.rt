@@ -2,14 +2,15 @@
 ghost use mathlib.Core.Path.{_≡_};
 ghost use Prim.Native.Nat.{_+_, _<_, _^_};
 ghost use Rattle.decide.specs.Test.{test};
-ghost use Rattle.queue.specs.Frame.{hopsOk, frameOk, wordOf, frameOf};
+ghost use Rattle.queue.specs.Frame.{hopsOk, frameOk, heldOk, wordOf, frameOf};
 ghost use Rattle.queue.specs.Queue.{emptyQueue, pushed, firstFrame, takeOf, spaceOf, holdsFrame};
 ghost use Rattle.queue.specs.Front.{frontOf, fronted};
 ghost use Rattle.queue.specs.Range.{slotOk, emptyOk, queueOk, usedOf};
 
-// What frames are held to: their largest size.
+// What frames are held to: their largest size, and the number of stations on the ring, which their hops stay below.
 pub struct Bounds {
     pub mtu: u32,
+    pub stations: u32,
 }
 
 // A frame. Its class is A 0, B 1 or C 2; its mark is 1 where it is fairness eligible, else 0.
@@ -45,7 +46,7 @@ pub struct Taken {
 // The word of an empty slot.
 pub const EMPTY: u32 = 0;
 
-// Whether a frame may have so many hops to go. Every test of hops is made here.
+// Whether hops are 1 to 63, whatever the ring: else refusal 3. The test against the ring is `decide::in_ring`; of a word `word_ok` makes both.
 pub fn hops_ok(hops: u32) -> bool
     ensures { λ r. ⌜ r ≡ test (hopsOk hops) ⌝ }
 {
@@ -237,23 +238,29 @@ impl Queue {
     }
 }
 
-// Whether a slot is in range: an occupied one holds a frame in range, another nothing.
+// Whether a slot is in range: an occupied one holds a frame that may be held, another nothing.
 fn slot_ok(bounds: Bounds, occupied: bool, w: u32) -> bool
     ensures { λ r. ⌜ r ≡ test (slotOk bounds occupied w) ⌝ }
 {
     (occupied & word_ok(bounds, w)) | (!occupied & (w == EMPTY))
 }
 
-// Whether the frame of a word is in range. Its class and mark are tested as one number, which is quicker than two: 0, 1 or 2 without the mark, 5 or 6
-// with it.
+// Whether the frame of a word may be held: it is in range, and its hops stay within the ring. Its class and mark are tested as one number, which is quicker
+// than two: 0, 1 or 2 without the mark, 5 or 6 with it. Hops are tested with the size that stands below them, which needs no shift: both together are at least
+// one hop, and less than the first hop beyond the ring. That end is cut to 64 hops, which no slot passes, so that it can be compared as a signed number, as vectors can.
 pub fn word_ok(bounds: Bounds, w: u32) -> bool
-    ensures { λ r. ⌜ r ≡ test (frameOk bounds (frameOf w)) ⌝ }
+    ensures { λ r. ⌜ r ≡ test (heldOk bounds (frameOf w)) ⌝ }
 {
     let mtu = bounds.mtu;
     let size = w % 16384;
-    let hops = hops_ok(w / 16384 % 64);
+    let low = w % 1048576;
+    let end = decide::lesser(bounds.stations as u64, 64) as u32 * 16384;
     let kind = w / 1048576;
-    (16 <= size) & (size <= mtu) & hops & ((kind <= 2) | ((5 <= kind) & (kind <= 6)))
+    (16 <= size)
+        & (size <= mtu)
+        & (16384 <= low)
+        & ((kind <= 2) | ((5 <= kind) & (kind <= 6)))
+        & (low < end)
 }
 
 // 0 for the word of an empty slot, 1 for any other.

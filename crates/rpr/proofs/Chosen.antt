@@ -1,6 +1,6 @@
--- The frame that is selected fits the bytes of the answer: it comes from a queue or a stage in range, or there is none.
+-- The frame that is selected fits the bytes of the answer, and its hops are within the ring: it comes from a queue or a stage in range, or there is none.
 -- Assumes nothing.
-use Prim.Native.Nat.{ℕ, _≤_}
+use Prim.Native.Nat.{ℕ, _≤_, _<_}
 use mathlib.Core.Bool.{true}
 use mathlib.Core.Path.{_≡_, refl, sym, ap, _∙_}
 use native.Mathlib.Omega.{arith}
@@ -12,10 +12,11 @@ use Rattle.settings.specs.declared.Settings.{Settings}
 use Rattle.settings.specs.Range.{SettingsOk}
 use Rattle.queue.specs.declared.Bounds.{Bounds}
 use Rattle.queue.specs.declared.Frame.{Frame}
-use Rattle.queue.specs.Frame.{FrameOk, frameOf}
+use Rattle.queue.specs.Frame.{FrameOk, HeldOk, frameOf}
 use Rattle.queue.proofs.Laws.{first-ok}
 use Rattle.flow.specs.declared.Flow.{Flow}
 use Rattle.flow.specs.declared.Line.the-variants.{Control, Primary, Secondary}
+use Rattle.flow.specs.Parts.{boundsOf}
 use Rattle.flow.specs.Range.{FlowOk}
 use Rattle.selection.specs.declared.Selected as selection
 use Rattle.selection.specs.Select.{controlReady, primaryReady, needy, secondaryReady}
@@ -40,18 +41,29 @@ of-none : (origin w : ℕ) → origin ≤ 4 → w ≡ 0 → EachByte (selectedBy
 unfolding digits
 of-none origin w h e = omega arith
 
-module _ {s : Settings} {f : Flow} (good : SettingsOk s) (ok : FlowOk s f) where
-  of-row : {r : selection.Selected} → Goes s f r → EachByte (selectedBytes (r .origin) (r .frame))
-  of-row (control a) = of-frame 1 (omega arith) (first-ok (ok .queues Control) (lt-ltb 0 (f .control .count) (facts (controlReady s f) a .0)))
-  of-row (primary a b) = of-frame 2 (omega arith) (first-ok (ok .queues Primary) (lt-ltb 0 (f .primary .count) (facts (primaryReady f) b)))
-  of-row (pressed a b c) = of-frame 3 (omega arith) (first-ok (ok .queues Secondary) (needy-holds ok good (facts (needy s f) c)))
-  of-row (staged a b c d) = by-cases (ok .stage) (λ e. of-none 4 (f .stage) (omega arith) e) (λ x. of-frame 4 (omega arith) x)
+-- what holds of a frame that may be held and of an empty slot, from any place, holds of what is selected
+module _ {s : Settings} {f : Flow} (good : SettingsOk s) (ok : FlowOk s f) (P : ℕ → Frame → Type 0)
+    (frame : (origin : ℕ) (x : Frame) → origin ≤ 4 → HeldOk (boundsOf s) x → P origin x) (none : (origin w : ℕ) → origin ≤ 4 → w ≡ 0 → P origin (frameOf w)) where
+  of-row : {r : selection.Selected} → Goes s f r → P (r .origin) (r .frame)
+  of-row (control a) = frame 1 _ (omega arith) (first-ok (ok .queues Control) (lt-ltb 0 (f .control .count) (facts (controlReady s f) a .0)))
+  of-row (primary a b) = frame 2 _ (omega arith) (first-ok (ok .queues Primary) (lt-ltb 0 (f .primary .count) (facts (primaryReady f) b)))
+  of-row (pressed a b c) = frame 3 _ (omega arith) (first-ok (ok .queues Secondary) (needy-holds ok good (facts (needy s f) c)))
+  of-row (staged a b c d) = by-cases (ok .stage) (λ e. none 4 (f .stage) (omega arith) e) (λ x. frame 4 _ (omega arith) x)
   of-row (secondary a b c d e) =
-      of-frame 3 (omega arith) (first-ok (ok .queues Secondary) (lt-ltb 0 (f .secondary .count) (facts (secondaryReady s f) e .0)))
-  of-row (nothing a b c d e) = of-none 0 0 (omega arith) (omega arith)
+      frame 3 _ (omega arith) (first-ok (ok .queues Secondary) (lt-ltb 0 (f .secondary .count) (facts (secondaryReady s f) e .0)))
+  of-row (nothing a b c d e) = none 0 0 (omega arith) (omega arith)
 
-pub chosen-small : {st : Station} → StationOk st → EachByte (selectedBytes (chosenOf st .origin) (chosenOf st .frame))
-chosen-small {st} ok = of-row (ok .settings) (ok .flow) (goes (st .settings) (st .flow))
+module _ {st : Station} (ok : StationOk st) where
+  pub chosen-small : EachByte (selectedBytes (chosenOf st .origin) (chosenOf st .frame))
+  chosen-small =
+      of-row (ok .settings) (ok .flow) (λ (origin : ℕ) (x : Frame). EachByte (selectedBytes origin x)) (λ origin x h r. of-frame origin h (r .frame)) of-none
+      (goes (st .settings) (st .flow))
+
+  -- its hops are within the ring
+  pub chosen-in-ring : chosenOf st .frame .hops < st .settings .site .stations
+  chosen-in-ring =
+      of-row (ok .settings) (ok .flow) (λ (origin : ℕ) (x : Frame). x .hops < st .settings .site .stations) (λ origin x h r. r .ring)
+      (λ origin w h e. omega (arith, e, ok .settings .of-site .stations-least)) (goes (st .settings) (st .flow))
 
 -- Where nothing goes the answer is 0, and the station is as it was.
 pub nothing-chosen : (st : Station) → test (stationOk st) ≡ true → chosenOf st .origin ≡ 0

@@ -18,3 +18,4 @@ pub mod Kept
 pub mod Pieces
 pub mod Reading
 pub mod Steady
+pub mod Hops

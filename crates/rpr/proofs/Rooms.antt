@@ -69,15 +69,15 @@ module _ {xs : List ℕ} {st : Station} (k : Keeps xs st) (room : List ℕ) (h :
   abbrev told : Advert
   told = toldOf (st .fair) (st .settings)
 
-  module _ (same : t .settings .ringlet ≡ st .settings .ringlet) (other : test (ownAddress (t .settings) told) ≡ false) where
+  module _ (same : t .settings .ringlet ≡ st .settings .ringlet) (many : t .settings .site .stations ≡ st .settings .site .stations) (other : test (ownAddress (t .settings) told) ≡ false) where
     heard : hearOf t (advertBytes told) ≡ doneOf (changedOf t told)
     heard =
         let f = keeps-fits k in
         let said : tellOf st .advert ≡ told = ap (λ (r : Told). r .advert) (tell-done st (facts-in-range st (k .in-range))) in
         subst (λ (a : Advert). test (ownAddress (t .settings) a) ≡ false → hearOf t (advertBytes a) ≡ doneOf (changedOf t a)) said
-        (told-heard (k .in-range) (f .of-settings .of-address .1) (omega (arith, f .of-fair .of-received)) (j .in-range) same) other
+        (told-heard (k .in-range) (f .of-settings .of-address .1) (omega (arith, f .of-fair .of-received)) (j .in-range) same many) other
 
-    -- Reading a written frame, with the same ringlet but an address it doesn't bear, is not refused, and takes what was told.
+    -- Reading a written frame, with the same ringlet and number of stations but an address it doesn't bear, is not refused, and takes what was told.
     pub written-read : (readFrameAnswer ys (writeFrameAfter xs room) ≡ 0) × Keeps (readFrameAfter ys (writeFrameAfter xs room)) (changedOf t told)
     unfolding readFrameAnswer
     written-read =

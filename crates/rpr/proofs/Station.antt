@@ -167,7 +167,7 @@ module _ (xs : List ℕ) where
     client-mark =
         let st = stationAt xs in
         let w = wayFor st class in
-        let own = without _ _ refl (without _ _ refl (without _ _ refl (client-said .0))) in
+        let own = without _ _ refl (without _ _ refl (without _ _ refl (without _ _ refl (client-said .0)))) in
         ap (λ (r : Client). r .mark) (carried-by _ _ _ own)
 
     pub offer-client-bytes : digits 8 (offerClientAnswer xs class size hops) ≡ 0 ∷ 0 ∷ 0 ∷ 0 ∷ markOf (wayFor (stationAt xs) class) ∷ 0 ∷ 0 ∷ 0 ∷ []

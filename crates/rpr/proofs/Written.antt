@@ -125,7 +125,7 @@ module _ (ys : List ℕ) (st : Station) (s : Slotted st) (y : ys ≡ stationByte
 entered : (st : Station) (l : Line) (x : Frame) → firstOf (offerFaults st l x) ≡ 0
     → enterOf (st .settings) (st .flow) l x .flow ≡ withQueue (st .flow) l (pushed (queueOf (st .flow) l) x)
 entered st l x z =
-    let fits : x .size ≤ spaceOf (queueOf (st .flow) l) (capacityOf (st .settings) l) = ltb-false _ _ (free (offerFaults st l x) refl z _ (inr (inr (inl refl)))) in
+    let fits : x .size ≤ spaceOf (queueOf (st .flow) l) (capacityOf (st .settings) l) = ltb-false _ _ (free (offerFaults st l x) refl z _ (inr (inr (inr (inl refl))))) in
     rw (enter-taken (st .settings) (st .flow) l x fits)
 
 module _ (xs : List ℕ) (b : Bytes xs) (e : length xs ≡ stationLength) where

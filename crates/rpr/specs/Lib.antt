@@ -9,3 +9,4 @@ pub mod Pairs
 pub mod Pieces
 pub mod Reading
 pub mod Steady
+pub mod Hops

@@ -114,7 +114,7 @@ ageAfter xs = afterOf (ageRows xs) xs (stationBytes (agedOf (stationAt xs)))
 
 -- ---- rpr_read_frame
 
--- 2, also for the frame's shape, and for its ringlet bit against the lent station's own; then 1, 3 and 11
+-- 2, also for the frame's shape, and for its ringlet bit against the lent station's own; then 1, 3, 13 and 11
 abbrev pub readFrameRows : List ℕ → List ℕ → List Fault
 readFrameRows xs frame = otherLength stationLength xs ∷ hearFaults (stationAt xs) frame
 

@@ -62,7 +62,7 @@ pub extern "C" fn rpr_tick(station: &mut [u8], a: u64, b: u64, c: u64) -> u64
     0
 }
 
-// Takes a client frame into the stage, and answers the mark that it got. 2, 1, 3, 5, 6 and how far short, then 7.
+// Takes a client frame into the stage, and answers the mark that it got. 2, 1, 3, 13, 5, 6 and how far short, then 7.
 #[no_mangle]
 pub extern "C" fn rpr_offer_client(station: &mut [u8], class: u64, size: u64, hops: u64) -> u64
     ensures { λ r. ⌜ r ≡ offerClientAnswer (now (station .entry)) class size hops ⌝ }
@@ -83,7 +83,7 @@ pub extern "C" fn rpr_offer_client(station: &mut [u8], class: u64, size: u64, ho
     answer::marked(out.mark)
 }
 
-// Takes a transit frame into the queue of its class. 2, 1, 3, then 4.
+// Takes a transit frame into the queue of its class. 2, 1, 3, 13, then 4.
 #[no_mangle]
 pub extern "C" fn rpr_offer_transit(
     station: &mut [u8],
@@ -172,7 +172,7 @@ pub extern "C" fn rpr_age(station: &mut [u8]) -> u64
     0
 }
 
-// Reads a fairness frame. 2 (the frame's shape and its ringlet bit too), 1, 3, then 11.
+// Reads a fairness frame. 2 (the frame's shape and its ringlet bit too), 1, 3, 13, then 11.
 #[no_mangle]
 pub extern "C" fn rpr_read_frame(station: &mut [u8], frame: &[u8]) -> u64
     ensures { λ r. ⌜ r ≡ readFrameAnswer (now (station .entry)) (now (frame .entry)) ⌝ }

@@ -26,7 +26,7 @@ use Rattle.selection.proofs.Select.{Goes, control, primary, pressed, st
 module _ (s : Settings) (f : Flow) where
   -- the size of a queue's first frame
   head-size : FlowOk s f → (l : Line) → queue.holdsFrame (queueOf f l) ≡ true → (16 ≤ queue.firstFrame (queueOf f l) .size) × (queue.firstFrame (queueOf f l) .size ≤ s .mtu)
-  head-size ok l h = let x = first-ok (ok .queues l) h in (x .least, x .most)
+  head-size ok l h = let x = first-ok (ok .queues l) h in (x .frame .least, x .frame .most)
 
   row-feeds : {r : Selected} → FlowOk s f → Goes s f r → Feeds s f (r .flow) (selectEvents s f r)
   row-feeds ok (control a) =

@@ -18,13 +18,13 @@ abbrev five : List ℕ → List ℕ
 five ws = ws ++ ws ++ ws ++ ws ++ ws
 
 -- The words of settings in range: own address, own ringlet, mtu; loLimit, hiLimit and amount of each shaper; control, primary and secondary queue, low
--- threshold; weight, rate unit, ticks, unreservedRate; ageCoef, lpCoef, rampUp. Each at its least,
+-- threshold; weight, rate unit, ticks, unreservedRate; ageCoef, lpCoef, rampUp; stations. Each at its least,
 abbrev pub least : List ℕ
 least =
     (0 ∷ 0 ∷ 0 ∷ 64 ∷ [])
     ++ five (64 ∷ 65 ∷ 0 ∷ [])
     ++ (64 ∷ 64 ∷ 128 ∷ 0 ∷ [])
-    ++ (1 ∷ 1 ∷ 1 ∷ 1 ∷ 1 ∷ 16 ∷ 16 ∷ [])
+    ++ (1 ∷ 1 ∷ 1 ∷ 1 ∷ 1 ∷ 16 ∷ 16 ∷ 2 ∷ [])
 
 -- each at its most,
 abbrev pub most : List ℕ
@@ -32,7 +32,7 @@ most =
     (65535 ∷ 4294967295 ∷ 1 ∷ 9216 ∷ [])
     ++ five (65536 ∷ 1048576 ∷ 65535 ∷ [])
     ++ (1048576 ∷ 1048576 ∷ 1048576 ∷ 1048576 ∷ [])
-    ++ (255 ∷ 1024 ∷ 10000 ∷ 2147483647 ∷ 16 ∷ 512 ∷ 512 ∷ [])
+    ++ (255 ∷ 1024 ∷ 10000 ∷ 2147483647 ∷ 16 ∷ 512 ∷ 512 ∷ 63 ∷ [])
 
 -- and between, with the default coefficients
 abbrev pub usual : List ℕ
@@ -40,7 +40,7 @@ usual =
     (0 ∷ 0 ∷ 1 ∷ 1500 ∷ [])
     ++ five (2000 ∷ 9000 ∷ 300 ∷ [])
     ++ (100000 ∷ 100000 ∷ 200000 ∷ 50000 ∷ [])
-    ++ (1 ∷ 4 ∷ 100 ∷ 1000000 ∷ 4 ∷ 64 ∷ 64 ∷ [])
+    ++ (1 ∷ 4 ∷ 100 ∷ 1000000 ∷ 4 ∷ 64 ∷ 64 ∷ 6 ∷ [])
 
 -- the words of what each shaper has of its own, and of control and primary queue, which have one range
 abbrev pub lo : List ℕ
@@ -101,6 +101,10 @@ pub record Edges : Type 0 where
   pub ramp-8 : Outside least (29 ∷ []) 8
   pub ramp-100 : Outside usual (29 ∷ []) 100
   pub ramp-1024 : Outside most (29 ∷ []) 1024
+  -- no ring
+  pub stations-0 : Outside least (30 ∷ []) 0
+  pub stations-1 : Outside least (30 ∷ []) 1
+  pub stations-64 : Outside most (30 ∷ []) 64
 
 pub edges : Edges
 unfolding ok test settingsOk
@@ -140,4 +144,7 @@ edges =
       ramp-8 = refl;
       ramp-100 = refl;
       ramp-1024 = refl;
+      stations-0 = refl;
+      stations-1 = refl;
+      stations-64 = refl;
     }

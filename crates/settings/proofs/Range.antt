@@ -88,7 +88,7 @@ module _ (f : Fairness) where
 
 module _ (s : Site) where
   site-facts : Holds (siteOk s) → SiteOk s
-  site-facts h = tt
+  site-facts h = record { stations-least = omega arith; stations-most = omega arith }
 
   site-hold : SiteOk s → Holds (siteOk s)
   site-hold ok = omega arith

@@ -59,9 +59,9 @@ fairnessOk f =
     ∧? 1 ≤? f .unreserved ∧? f .unreserved ≤? 2147483647
     ∧? ageOk (f .age) ∧? coefOk (f .lp) ∧? coefOk (f .ramp)
 
--- no setting, and so none out of range
+-- The number of stations, 2 to 63 (document 02, A5).
 abbrev pub siteOk : Site → Test
-siteOk s = 0 ≤? 0
+siteOk s = 2 ≤? s .stations ∧? s .stations ≤? 63
 
 -- Own address of 48 bits, own ringlet 0 or 1, mtu 64 to 9,216, and the settings of the parts.
 unfoldable pub settingsOk : Settings → Test
@@ -116,8 +116,9 @@ pub record FairnessOk (f : Fairness) : Type 0 where
   pub lp-one-of : Coef (f .lp)
   pub ramp-one-of : Coef (f .ramp)
 
-abbrev pub SiteOk : Site → Type 0
-SiteOk s = Unit {0}
+pub record SiteOk (s : Site) : Type 0 where
+  pub stations-least : 2 ≤ s .stations
+  pub stations-most : s .stations ≤ 63
 
 pub record SettingsOk (s : Settings) : Type 0 where
   pub high-most : s .address .high ≤ 65535

@@ -36,7 +36,7 @@ abbrev pub fairnessLength : ℕ
 fairnessLength = 7 * 4
 
 abbrev pub siteLength : ℕ
-siteLength = 0
+siteLength = 4
 
 -- ---- where each part of the settings stands: behind the one before it
 
@@ -94,7 +94,7 @@ fairnessParts f =
     ∷ []
 
 abbrev pub siteParts : Site → List Part
-siteParts s = []
+siteParts s = word (s .stations) ∷ []
 
 abbrev pub settingsParts : Settings → List Part
 settingsParts s =
@@ -171,7 +171,7 @@ fairnessAt xs at =
     }
 
 abbrev pub siteAt : List ℕ → ℕ → Site
-siteAt xs at = record {}
+siteAt xs at = record { stations = le 4 xs at }
 
 unfoldable pub settingsAt : List ℕ → ℕ → Settings
 settingsAt xs at =
@@ -208,7 +208,7 @@ FairnessFits f =
     × Fits32 (f .age) × Fits32 (f .lp) × Fits32 (f .ramp)
 
 abbrev pub SiteFits : Site → Type 0
-SiteFits s = Unit {0}
+SiteFits s = Fits32 (s .stations)
 
 pub record SettingsFit (s : Settings) : Type 0 where
   pub of-address : AddressFits (s .address)

@@ -46,8 +46,10 @@ pub struct Fairness {
     pub ramp: u32,
 }
 
-// The settings whose words stand behind those of all other parts. There are none.
-pub struct Site {}
+// The settings whose words stand behind those of all other parts: the number of stations on the ring.
+pub struct Site {
+    pub stations: u32,
+}
 
 // An address of 48 bits: its high 16 and its low 32.
 pub struct Address {
@@ -214,11 +216,15 @@ impl Fairness {
 }
 
 impl Site {
-    // Whether each of its settings is in its range.
+    pub const MIN_STATIONS: u32 = 2;
+
+    pub const MAX_STATIONS: u32 = 63;
+
+    // Whether the number of stations is in its range.
     fn in_range(self) -> bool
         ensures { λ r. ⌜ r ≡ test (siteOk self) ⌝ }
     {
-        true
+        (Site::MIN_STATIONS <= self.stations) & (self.stations <= Site::MAX_STATIONS)
     }
 }
 

@@ -207,19 +207,23 @@ impl Fairness {
 }
 
 impl Site {
-    const LENGTH: usize = 0;
+    const LENGTH: usize = WORD;
 
     // The settings of the site whose words stand in `s` from `at` on.
     fn read(s: &[u8], at: usize) -> Site
         requires { ⌜ at + siteLength ≤ length (now s) ⌝ }
         ensures { λ r. ⌜ r ≡ siteAt (now (s .entry)) at ⌝ }
     {
-        Site {}
+        Site {
+            stations: wire::get32(s, at),
+        }
     }
 
     // Writes the words of the site's settings to `s` from `at` on.
     fn write(self, s: &mut [u8], at: usize)
         requires { ⌜ at + siteLength ≤ length (now s) ⌝ }
         ensures { λ _. ⌜ now (s .exit) ≡ put (now (s .entry)) at (siteBytes self) ⌝ }
-    {}
+    {
+        wire::put32(s, at, self.stations);
+    }
 }

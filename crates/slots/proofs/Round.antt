@@ -132,7 +132,7 @@ queue-in-range-fits {bounds} {capacity} {q} m ok =
     turn : (k : ℕ) → k < 128 → getD (q .slots) ((q .head + k) % 128) 0 < 256 ^ 4
     turn k l =
         ⊎-elim
-        (λ (h : k < q .count). omega (arith, in-all bounds (q .slots) (q .head) (q .count) (ok .frames) k h .mark))
+        (λ (h : k < q .count). omega (arith, in-all bounds (q .slots) (q .head) (q .count) (ok .frames) k h .frame .mark))
         (λ h. omega (arith, ok .rest k (omega arith) l))
         (split (k <? q .count))
 

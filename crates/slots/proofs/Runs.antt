@@ -10,19 +10,19 @@ use Rattle.decide.specs.Test.{test}
 use Rattle.decide.proofs.Cases.{by-cases, le-or}
 use Rattle.queue.specs.declared.Bounds.{Bounds}
 use Rattle.queue.specs.declared.Frame.{Frame}
-use Rattle.queue.specs.Frame.{frameOf, frameOk}
+use Rattle.queue.specs.Frame.{frameOf, heldOk}
 use Rattle.queue.specs.Queue.{framesFrom, sizes}
 use Rattle.queue.specs.Range.{framesOk}
 use Rattle.slots.specs.Slots.{foundOf}
 use Rattle.queue.proofs.Ring.{from-mod, from-append, from-more, from-done, sizes-append}
 
--- ---- a run: what was found so far, and the frames still to come, are in range exactly where all are
+-- ---- a run: what was found so far, and the frames still to come, may be held exactly where all may
 
 module _ (bounds : Bounds) (s : List ℕ) (i to : ℕ) (good whole : Bool) (w : (good && test (framesOk bounds (framesFrom s i (to - i)))) ≡ whole) where
-  pub good-more : i < to → i < 128 → ((good && test (frameOk bounds (frameOf (getD s i 0)))) && test (framesOk bounds (framesFrom s (i + 1) (to - (i + 1))))) ≡ whole
+  pub good-more : i < to → i < 128 → ((good && test (heldOk bounds (frameOf (getD s i 0)))) && test (framesOk bounds (framesFrom s (i + 1) (to - (i + 1))))) ≡ whole
   unfolding framesOk test
   good-more p l =
-      and-assoc good (test (frameOk bounds (frameOf (getD s i 0)))) (test (framesOk bounds (framesFrom s (i + 1) (to - (i + 1)))))
+      and-assoc good (test (heldOk bounds (frameOf (getD s i 0)))) (test (framesOk bounds (framesFrom s (i + 1) (to - (i + 1)))))
       ∙ ap (λ (fs : List Frame). good && test (framesOk bounds fs)) (sym (from-more s i to p l))
       ∙ w
 
@@ -36,7 +36,7 @@ good-append : (bounds : Bounds) (fs gs : List Frame) → (test (framesOk bounds 
 unfolding framesOk test
 good-append bounds [] gs = refl
 good-append bounds (f ∷ fs) gs =
-    and-assoc (test (frameOk bounds f)) (test (framesOk bounds fs)) (test (framesOk bounds gs)) ∙ ap (λ (b : Bool). test (frameOk bounds f) && b) (good-append bounds fs gs)
+    and-assoc (test (heldOk bounds f)) (test (framesOk bounds fs)) (test (framesOk bounds gs)) ∙ ap (λ (b : Bool). test (heldOk bounds f) && b) (good-append bounds fs gs)
 
 -- the first run ends at the last slot, the other begins with slot 0; where the frames do not go round the ring it is empty
 module _ (s : List ℕ) (h n near : ℕ) (l : h < 128) (e : near ≡ min (h + n) 128) where

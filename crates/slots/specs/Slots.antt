@@ -67,7 +67,7 @@ slotAnew q i word held head count = record { slots = set (q .slots) i word; head
 
 -- ---- what the range test finds
 
--- what frames come to: whether each is in range, and their bytes
+-- what frames come to: whether each may be held, and their bytes
 abbrev pub foundOf : Bounds → List Frame → Found
 foundOf b fs = record { good = test (framesOk b fs); bytes = sizes fs }
 

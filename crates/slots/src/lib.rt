@@ -16,7 +16,7 @@ use queue::Queue;
 // How many bytes a queue takes.
 pub const LENGTH: usize = 518;
 
-// What frames come to: whether each is in range, and their bytes.
+// What frames come to: whether each may be held, and their bytes.
 struct Found {
     good: bool,
     bytes: u32,

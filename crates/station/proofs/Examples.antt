@@ -30,7 +30,7 @@ use Rattle.station.specs.Calls.{freshOf}
 use Rattle.station.specs.Hear.{hearOf, tellOf}
 use Rattle.station.specs.History.{Call, tick, offerClient, offerTransit, select, age, step, after, recordOf}
 
--- mtu 64; each shaper loLimit 100, hiLimit 300, amount 50; 10 ticks per interval, unreservedRate 1,999, default coefficients
+-- mtu 64; each shaper loLimit 100, hiLimit 300, amount 50; 10 ticks per interval, unreservedRate 1,999, default coefficients; 8 stations
 abbrev pub settings : Settings
 settings =
     let b : Bucket = record { lo = 100; hi = 300; amount = 50 } in
@@ -41,7 +41,7 @@ settings =
       shapers = record { m = b; a = b; b = b; c = b; d = b };
       queues = record { control = 100; primary = 100; secondary = 128; threshold = 64 };
       fairness = record { weight = 1; unit = 1; ticks = 10; unreserved = 1999; age = 4; lp = 64; ramp = 64 };
-      site = record {};
+      site = record { stations = 8 };
     }
 
 -- C traffic waits, a client gives a frame of class C of 64 bytes with so many hops to go, and a frame goes
@@ -79,9 +79,22 @@ pub record Examples : Type 0 where
   -- Low threshold 64: 80 bytes of class B, in the secondary queue, make the station locally congested; as many of class A, in the primary queue, do not.
   pub loaded-b : after (freshOf settings) (loaded 1) .fair .decided .congested ≡ 1
   pub loaded-a : after (freshOf settings) (loaded 0) .fair .decided .congested ≡ 0
-  -- A received frame is passed on with its ttl less 1, but for ttl 193: then FULL_RATE, with own address and ttl 255.
-  pub told-194 : tellOf (choked 194) .advert ≡ record { ringlet = 1; ttl = 193; high = 3; low = 4; rate = 125 }
-  pub told-193 : tellOf (choked 193) .advert ≡ record { ringlet = 1; ttl = 255; high = 1; low = 2; rate = 65535 }
+  -- A received frame is passed on with its ttl less 1, but for 7 hops, which is ttl 249: then FULL_RATE, with own address and ttl 255.
+  pub told-250 : tellOf (choked 250) .advert ≡ record { ringlet = 1; ttl = 249; high = 3; low = 4; rate = 125 }
+  pub told-249 : tellOf (choked 249) .advert ≡ record { ringlet = 1; ttl = 255; high = 1; low = 2; rate = 65535 }
+  -- A client frame with 7 hops to go is looked at further (6: no credit yet), one with 8 is 13, one with 64 is 3; so it is with transit frames.
+  pub client-7 : step (offerClient 2 64 7) (freshOf settings) .answer .number ≡ 6
+  pub client-8 : step (offerClient 2 64 8) (freshOf settings) .answer .number ≡ 13
+  pub client-64 : step (offerClient 2 64 64) (freshOf settings) .answer .number ≡ 3
+  pub transit-7 : step (offerTransit 2 64 7 1) (freshOf settings) .answer .number ≡ 0
+  pub transit-8 : step (offerTransit 2 64 8 1) (freshOf settings) .answer .number ≡ 13
+  pub transit-64 : step (offerTransit 2 64 64 1) (freshOf settings) .answer .number ≡ 3
+  -- Congestion 8 hops away, ttl 248, and forty, ttl 216, is 13, and 64 hops away, ttl 192, is 3. What was known before stays, and frames count by it.
+  pub heard-8 : hearOf (choked 250) (choke 248) .number ≡ 13
+  pub heard-40 : hearOf (choked 250) (choke 216) .number ≡ 13
+  pub heard-64 : hearOf (choked 250) (choke 192) .number ≡ 3
+  pub known-40 : hearOf (choked 250) (choke 216) .station .fair .received .ttl ≡ 250
+  pub counted-40 : after (hearOf (choked 250) (choke 216) .station) (sent 7) .fair .counters ≡ record { add = 64; fw = 0; addc = 64; fwc = 0 }
 
 pub examples : Examples
 unfolding test stationOk settingsOk flowOk fairOk queueOk eachFrom slotOk occupied framesFrom sizes firstOf first refusedOr flow.startOf flow.tickOf queueFor wayOf selection.selectOf emptyQueue spaceOf queue.firstFrame queue.pushed queue.taken ownRateOf shareOf countedOf raisedOf be receivedOf toldOf adjustOf allowedOf allowedcOf partOf smoothedOf shownOf agedOf rampedOf allowanceOf
@@ -97,6 +110,17 @@ examples =
       size-62 = refl;
       loaded-b = refl;
       loaded-a = refl;
-      told-194 = refl;
-      told-193 = refl;
+      told-250 = refl;
+      told-249 = refl;
+      client-7 = refl;
+      client-8 = refl;
+      client-64 = refl;
+      transit-7 = refl;
+      transit-8 = refl;
+      transit-64 = refl;
+      heard-8 = refl;
+      heard-40 = refl;
+      heard-64 = refl;
+      known-40 = refl;
+      counted-40 = refl;
     }

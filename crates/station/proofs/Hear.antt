@@ -7,6 +7,7 @@ use mathlib.Core.Path.{_≡_, refl}
 use native.Mathlib.Omega.{arith}
 use borrow.Author.Tests.{eq-eqb, ne-eqb}
 use Rattle.decide.specs.Test.{test}
+use Rattle.decide.specs.Hops.{inRing}
 use Rattle.decide.specs.Refusal.{refusedOr}
 use Rattle.decide.proofs.Cases.{by-cases, true-or-false}
 use Rattle.decide.proofs.Refusal.{in-order}
@@ -15,7 +16,7 @@ use Rattle.advert.specs.declared.Advert.{Advert}
 use Rattle.advert.specs.declared.Parsed.the-variants.{Frame, Refused}
 use Rattle.advert.specs.Frame.{whole, advertIn, parsedOf}
 use Rattle.advert.proofs.Parsing.{parsed-whole, parsed-not}
-use Rattle.heard.specs.Range.{ttlOk}
+use Rattle.heard.specs.Range.{ttlOk, hopsOf}
 use Rattle.heard.specs.Frame.{ownRinglet, ownAddress}
 use Rattle.fair.specs.Advertise.{toldOf}
 use Rattle.station.specs.declared.Station.{Station}
@@ -71,15 +72,22 @@ module _ (st : Station) (a : Advert) where
       unfolding refusedOr
       listen-far t = rw (in-order (listenFaults st a) refl, r, e, t)
 
-      -- else 11 where it bears the station's own address
-      pub listen-self : test (ttlOk (a .ttl)) ≡ true → test (ownAddress (st .settings) a) ≡ true → listenOf st a ≡ refusedOf st 11
-      unfolding refusedOr
-      listen-self t o = rw (in-order (listenFaults st a) refl, r, e, t, o)
+      module _ (t : test (ttlOk (a .ttl)) ≡ true) where
+        -- else 13 where the hops that it tells of reach the number of stations or more
+        pub listen-beyond : test (inRing (st .settings .site .stations) (hopsOf (a .ttl))) ≡ false → listenOf st a ≡ refusedOf st 13
+        unfolding refusedOr
+        listen-beyond g = rw (in-order (listenFaults st a) refl, r, e, t, g)
 
-      -- else it is heard
-      pub listen-done : test (ttlOk (a .ttl)) ≡ true → test (ownAddress (st .settings) a) ≡ false → listenOf st a ≡ doneOf (changedOf st a)
-      unfolding refusedOr
-      listen-done t o = rw (in-order (listenFaults st a) refl, r, e, t, o)
+        module _ (g : test (inRing (st .settings .site .stations) (hopsOf (a .ttl))) ≡ true) where
+          -- else 11 where it bears the station's own address
+          pub listen-self : test (ownAddress (st .settings) a) ≡ true → listenOf st a ≡ refusedOf st 11
+          unfolding refusedOr
+          listen-self o = rw (in-order (listenFaults st a) refl, r, e, t, g, o)
+
+          -- else it is heard
+          pub listen-done : test (ownAddress (st .settings) a) ≡ false → listenOf st a ≡ doneOf (changedOf st a)
+          unfolding refusedOr
+          listen-done o = rw (in-order (listenFaults st a) refl, r, e, t, g, o)
 
 -- ---- tell and show
 

@@ -76,24 +76,25 @@ module _ {st : Station} (ok : StationOk st) where
       (record { feeds = idle; settings = refl })
   step-goes (offerClient class size hops) =
       client-cases ok (λ (r : Client). Goes (offerClient class size hops) (ofClient r)) class size hops
-      (λ x. record { feeds = client-feeds (st .settings) (st .flow) class size hops (overFor st size hops) (x .least, x .most); settings = refl })
+      (λ x. record { feeds = client-feeds (st .settings) (st .flow) class size hops (overFor st size hops) (x .frame .least, x .frame .most); settings = refl })
+      (record { feeds = idle; settings = refl })
       (record { feeds = idle; settings = refl })
   step-goes (offerTransit class size hops eligible) =
       let x = givenFrame class size hops eligible in
       offer-cases ok (λ (r : Done). Goes (offerTransit class size hops eligible) (ofDone r)) (queueFor (st .settings) class) x
       (λ h. record { feeds = enter-feeds (st .settings) (st .flow) (queueFor (st .settings) class) x; settings = refl })
-      (record { feeds = idle; settings = refl })
+      (λ n. record { feeds = idle; settings = refl })
   step-goes (offerControl size) =
       offer-cases ok (λ (r : Done). Goes (offerControl size) (ofDone r)) Control (controlFrame size)
       (λ h. record { feeds = enter-feeds (st .settings) (st .flow) Control (controlFrame size); settings = refl })
-      (record { feeds = idle; settings = refl })
+      (λ n. record { feeds = idle; settings = refl })
   step-goes select =
       select-case ok (λ (r : Selected). Goes select (ofSelected r))
       (record { feeds = select-feeds (st .settings) (st .flow) (ok .flow); settings = refl })
   step-goes age = age-case ok (λ (r : Done). Goes age (ofDone r)) (record { feeds = idle; settings = refl })
   step-goes (hear xs bytes) =
       hear-cases ok (λ (r : Done). Goes (hear xs bytes) (ofDone r)) xs
-      (λ t. record { feeds = idle; settings = refl })
+      (λ t g. record { feeds = idle; settings = refl })
       (λ n. record { feeds = idle; settings = refl })
   step-goes tell = record { feeds = idle; settings = refl }
   step-goes show = record { feeds = idle; settings = refl }

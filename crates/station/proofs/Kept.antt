@@ -7,10 +7,11 @@ use mathlib.Core.Path.{_≡_, sym, subst}
 use native.Mathlib.Omega.{arith}
 use lib.Dec.{eqb}
 use Rattle.decide.specs.Test.{test, Holds, facts}
+use Rattle.decide.specs.Hops.{inRing}
 use Rattle.decide.proofs.Cases.{by-cases, true-or-false}
 use Rattle.wire.specs.Wire.{Bytes}
 use Rattle.queue.specs.declared.Frame.{Frame}
-use Rattle.queue.specs.Frame.{frameOk, FrameOk}
+use Rattle.queue.specs.Frame.{frameOk, HeldOk}
 use Rattle.queue.proofs.Word.{frame-facts}
 use Rattle.settings.specs.declared.Settings.{Settings}
 use Rattle.settings.specs.Range.{settingsOk}
@@ -25,7 +26,7 @@ use Rattle.flow.specs.Range.{FlowOk}
 use Rattle.flow.proofs.Kept.{tick-kept, transit-kept, control-kept, client-kept}
 use Rattle.selection.specs.Select.{selectOf}
 use Rattle.selection.proofs.Kept.{select-kept}
-use Rattle.heard.specs.Range.{ttlOk}
+use Rattle.heard.specs.Range.{ttlOk, hopsOf}
 use Rattle.heard.specs.Frame.{ownRinglet, ownAddress}
 use Rattle.fair.proofs.Age.{age-in-range}
 use Rattle.fair.proofs.Count.{count-in-range}
@@ -43,8 +44,8 @@ use Rattle.station.specs.Hear.{changedOf, hearOf}
 use Rattle.station.specs.History.{Call, tick, offerClient, offerTransit, offerControl, select, age, hear, tell, show, step}
 use Rattle.station.proofs.Range.{in-range-facts, facts-in-range, fresh-ok}
 use Rattle.station.proofs.Calls.{start-refused, start-done, tick-coded, tick-done, select-done, age-done}
-use Rattle.station.proofs.Offers.{offer-coded, offer-brought, client-coded, client-staged}
-use Rattle.station.proofs.Hear.{hear-not-whole, hear-whole, listen-own, listen-far, listen-self, listen-done}
+use Rattle.station.proofs.Offers.{offer-coded, offer-beyond, offer-brought, client-coded, client-beyond, client-staged}
+use Rattle.station.proofs.Hear.{hear-not-whole, hear-whole, listen-own, listen-far, listen-beyond, listen-self, listen-done}
 
 -- ---- what a call on a station in range can answer
 
@@ -58,19 +59,30 @@ module _ {st : Station} (ok : StationOk st) where
       (λ f. subst P (sym (tick-done st a b c in-range f)) does)
       (λ f. subst P (sym (tick-coded st a b c in-range f)) turns)
 
-  pub offer-cases : (P : Done → Type 0) (l : Line) (x : Frame) → (FrameOk (boundsOf (st .settings)) x → P (broughtOf st (enterOf (st .settings) (st .flow) l x))) → P (refusedOf st 3) → P (offerOf st l x)
+  -- a frame that is neither 3 nor 13 may be held
+  may-be-held : (x : Frame) → test (frameOk (boundsOf (st .settings)) x) ≡ true → test (inRing (st .settings .site .stations) (x .hops)) ≡ true → HeldOk (boundsOf (st .settings)) x
+  may-be-held x f r =
+      let bounds = boundsOf (st .settings) in
+      record { frame = frame-facts bounds x (facts (frameOk bounds x) f); ring = facts (inRing (st .settings .site .stations) (x .hops)) r }
+
+  pub offer-cases : (P : Done → Type 0) (l : Line) (x : Frame) → (HeldOk (boundsOf (st .settings)) x → P (broughtOf st (enterOf (st .settings) (st .flow) l x)))
+      → ((n : ℕ) → P (refusedOf st n)) → P (offerOf st l x)
   offer-cases P l x does turns =
       by-cases (true-or-false (test (frameOk (boundsOf (st .settings)) x)))
-      (λ f. subst P (sym (offer-brought st l x in-range f)) (does (frame-facts (boundsOf (st .settings)) x (facts (frameOk (boundsOf (st .settings)) x) f))))
-      (λ f. subst P (sym (offer-coded st l x in-range f)) turns)
+      (λ f. by-cases (true-or-false (test (inRing (st .settings .site .stations) (x .hops))))
+      (λ r. subst P (sym (offer-brought st l x in-range f r)) (does (may-be-held x f r)))
+      (λ r. subst P (sym (offer-beyond st l x in-range f r)) (turns 13)))
+      (λ f. subst P (sym (offer-coded st l x in-range f)) (turns 3))
 
-  pub client-cases : (P : Client → Type 0) (class size hops : ℕ) → (FrameOk (boundsOf (st .settings)) (givenFrame class size hops 0) → P (stagedOf st (staging st class size hops)))
-      → P (turnedOf st 3 0) → P (offerClientOf st class size hops)
-  client-cases P class size hops does turns =
+  pub client-cases : (P : Client → Type 0) (class size hops : ℕ) → (HeldOk (boundsOf (st .settings)) (givenFrame class size hops 0) → P (stagedOf st (staging st class size hops)))
+      → P (turnedOf st 3 0) → P (turnedOf st 13 0) → P (offerClientOf st class size hops)
+  client-cases P class size hops does coded beyond =
       let x = givenFrame class size hops 0 in
       by-cases (true-or-false (test (frameOk (boundsOf (st .settings)) x)))
-      (λ f. subst P (sym (client-staged st class size hops in-range f)) (does (frame-facts (boundsOf (st .settings)) x (facts (frameOk (boundsOf (st .settings)) x) f))))
-      (λ f. subst P (sym (client-coded st class size hops in-range f)) turns)
+      (λ f. by-cases (true-or-false (test (inRing (st .settings .site .stations) hops)))
+      (λ r. subst P (sym (client-staged st class size hops in-range f r)) (does (may-be-held x f r)))
+      (λ r. subst P (sym (client-beyond st class size hops in-range f r)) beyond))
+      (λ f. subst P (sym (client-coded st class size hops in-range f)) coded)
 
   pub select-case : (P : Selected → Type 0) → P (chosenOf st) → P (calls.selectOf st)
   select-case P does = subst P (sym (select-done st in-range)) does
@@ -78,7 +90,9 @@ module _ {st : Station} (ok : StationOk st) where
   pub age-case : (P : Done → Type 0) → P (doneOf (agedOf st)) → P (calls.ageOf st)
   age-case P does = subst P (sym (age-done st in-range)) does
 
-  pub hear-cases : (P : Done → Type 0) (xs : List ℕ) → (Holds (ttlOk (advertIn xs .ttl)) → P (doneOf (changedOf st (advertIn xs)))) → ((n : ℕ) → P (refusedOf st n)) → P (hearOf st xs)
+  pub hear-cases : (P : Done → Type 0) (xs : List ℕ)
+      → (Holds (ttlOk (advertIn xs .ttl)) → Holds (inRing (st .settings .site .stations) (hopsOf (advertIn xs .ttl))) → P (doneOf (changedOf st (advertIn xs))))
+      → ((n : ℕ) → P (refusedOf st n)) → P (hearOf st xs)
   hear-cases P xs does turns =
       let a = advertIn xs in
       by-cases (true-or-false (test (whole xs)))
@@ -86,9 +100,11 @@ module _ {st : Station} (ok : StationOk st) where
       (by-cases (true-or-false (test (ownRinglet (st .settings) a)))
       (λ r. subst P (sym (listen-own st a r)) (turns 2))
       (λ r. by-cases (true-or-false (test (ttlOk (a .ttl))))
-      (λ t. by-cases (true-or-false (test (ownAddress (st .settings) a)))
-      (λ o. subst P (sym (listen-self st a r in-range t o)) (turns 11))
-      (λ o. subst P (sym (listen-done st a r in-range t o)) (does (facts (ttlOk (a .ttl)) t))))
+      (λ t. by-cases (true-or-false (test (inRing (st .settings .site .stations) (hopsOf (a .ttl)))))
+      (λ g. by-cases (true-or-false (test (ownAddress (st .settings) a)))
+      (λ o. subst P (sym (listen-self st a r in-range t g o)) (turns 11))
+      (λ o. subst P (sym (listen-done st a r in-range t g o)) (does (facts (ttlOk (a .ttl)) t) (facts (inRing (st .settings .site .stations) (hopsOf (a .ttl))) g))))
+      (λ g. subst P (sym (listen-beyond st a r in-range t g)) (turns 13)))
       (λ t. subst P (sym (listen-far st a r in-range t)) (turns 3)))))
       (λ w. subst P (sym (hear-not-whole st xs w)) (turns 2))
 
@@ -97,13 +113,13 @@ module _ {st : Station} (ok : StationOk st) where
   frames-kept : (l : Line) (x : Frame) → FlowOk (st .settings) (enterOf (st .settings) (st .flow) l x .flow) → StationOk (broughtOf st (enterOf (st .settings) (st .flow) l x) .station)
   frames-kept l x h = record { settings = ok .settings; flow = h; fair = ok .fair }
 
-  hear-kept : (xs : List ℕ) → Bytes xs → Holds (ttlOk (advertIn xs .ttl)) → StationOk (changedOf st (advertIn xs))
-  hear-kept xs bytes t =
+  hear-kept : (xs : List ℕ) → Bytes xs → Holds (ttlOk (advertIn xs .ttl)) → Holds (inRing (st .settings .site .stations) (hopsOf (advertIn xs .ttl))) → StationOk (changedOf st (advertIn xs))
+  hear-kept xs bytes t g =
       let fits = parsed-fits xs bytes in
       record {
         settings = ok .settings;
         flow = ok .flow;
-        fair = heard-in-range (st .settings) (st .fair) (ok .fair) (advertIn xs) (t .0) (t .1) (omega (arith, fits .high-fits)) (omega (arith, fits .rate-fits));
+        fair = heard-in-range (st .settings) (ok .settings) (st .fair) (ok .fair) (advertIn xs) (t .0) (t .1) g (omega (arith, fits .high-fits)) (omega (arith, fits .rate-fits));
       }
 
   pub range-kept : (c : Call) → StationOk (step c st .station)
@@ -115,11 +131,12 @@ module _ {st : Station} (ok : StationOk st) where
       client-cases (λ (r : Client). StationOk (r .station)) class size hops
       (λ x. record { settings = ok .settings; flow = client-kept (ok .settings) class size hops (overFor st size hops) (ok .flow) x; fair = ok .fair })
       ok
+      ok
   range-kept (offerTransit class size hops eligible) =
       let x = givenFrame class size hops eligible in
-      offer-cases (λ (r : Done). StationOk (r .station)) (queueFor (st .settings) class) x (λ h. frames-kept (queueFor (st .settings) class) x (transit-kept (ok .settings) x (ok .flow) h)) ok
+      offer-cases (λ (r : Done). StationOk (r .station)) (queueFor (st .settings) class) x (λ h. frames-kept (queueFor (st .settings) class) x (transit-kept (ok .settings) x (ok .flow) h)) (λ n. ok)
   range-kept (offerControl size) =
-      offer-cases (λ (r : Done). StationOk (r .station)) Control (controlFrame size) (λ h. frames-kept Control (controlFrame size) (control-kept (ok .settings) size (ok .flow) h)) ok
+      offer-cases (λ (r : Done). StationOk (r .station)) Control (controlFrame size) (λ h. frames-kept Control (controlFrame size) (control-kept (ok .settings) size (ok .flow) h)) (λ n. ok)
   range-kept select =
       let r = selectOf (st .settings) (st .flow) in
       select-case (λ (r : Selected). StationOk (r .station))

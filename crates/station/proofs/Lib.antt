@@ -12,4 +12,5 @@ pub mod History
 pub mod Steady
 pub mod ReadBack
 pub mod Narrow
+pub mod Hops
 pub mod Examples

@@ -87,10 +87,11 @@ module _ (s : Settings) (good : SettingsOk s) (own : NarrowOwn s) (cs : List Cal
       (frame-read-back (st .settings) (st .fair) (ok .settings) (ok .fair) (reached .own-low) (reached .low))
 
   -- and a station that hears it takes what was told
-  pub reached-heard : {t : Station} → StationOk t → t .settings .ringlet ≡ s .ringlet
+  pub reached-heard : {t : Station} → StationOk t → t .settings .ringlet ≡ s .ringlet → t .settings .site .stations ≡ s .site .stations
       → test (ownAddress (t .settings) (tellOf (after (freshOf s) cs) .advert)) ≡ false
       → hearOf t (advertBytes (tellOf (after (freshOf s) cs) .advert)) ≡ doneOf (changedOf t (tellOf (after (freshOf s) cs) .advert))
-  reached-heard {t} ok same other =
+  reached-heard {t} ok same many other =
       told-heard (reached-in-range s good cs) (reached .own-low) (reached .low) ok
       (subst (λ (u : Settings). t .settings .ringlet ≡ u .ringlet) (sym (after-settings (fresh-ok good) cs)) same)
+      (subst (λ (u : Settings). t .settings .site .stations ≡ u .site .stations) (sym (after-settings (fresh-ok good) cs)) many)
       other

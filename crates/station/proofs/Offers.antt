@@ -1,4 +1,4 @@
--- The offers, row by row: rows stand in the order of their ranks, so 1 and 3 may be tried first, and the queue or the stage says the rest.
+-- The offers, row by row: rows stand in the order of their ranks, so 1, 3 and 13 may be tried first, and the queue or the stage says the rest.
 -- Assumes nothing.
 use Prim.Native.Nat.{ℕ, _≤_, _<_}
 use mathlib.Core.Bool.{Bool, true, false, _&&_}
@@ -6,8 +6,10 @@ use mathlib.Core.List.{List}
 use mathlib.Core.Path.{_≡_, refl, sym, ap, _∙_}
 use native.Mathlib.Omega.{arith}
 use lib.Dec.{eqb}
-use Rattle.decide.specs.Test.{test, facts}
+use Rattle.decide.specs.Test.{test, facts, passes}
+use Rattle.decide.specs.Hops.{inRing}
 use Rattle.decide.specs.Refusal.{Fault, firstOf, refusedOr}
+use Rattle.decide.proofs.Cases.{by-cases, le-or, true-or-false}
 use Rattle.decide.proofs.Refusal.{in-order}
 use Rattle.decide.proofs.Refused.{of-answer, carried-by, refused-by}
 use Rattle.queue.specs.declared.Bounds.{Bounds}
@@ -21,8 +23,9 @@ use Rattle.credits.specs.Way.{needsOf, markOf}
 use Rattle.flow.specs.declared.Client as flow
 use Rattle.flow.specs.declared.Entered.{Entered}
 use Rattle.flow.specs.declared.Line.{Line}
+use Rattle.flow.specs.declared.Line.the-variants.{Control}
 use Rattle.flow.specs.Parts.{queueOf, capacityOf, boundsOf, stageHolds, withCredits, withStage, withQueue}
-use Rattle.flow.specs.Offer.{Offered, enterFaults, enterOf, clientFaults, clientFrame}
+use Rattle.flow.specs.Offer.{Offered, enterFaults, enterOf, controlFrame, clientFaults, clientFrame}
 use Rattle.flow.proofs.Range.{bounds-ok}
 use Rattle.flow.proofs.Offer.{enter-refused, enter-taken, client-full, client-barred, client-over, client-taken}
 use Rattle.station.specs.declared.Station.{Station}
@@ -30,7 +33,7 @@ use Rattle.station.specs.declared.Done.{Done}
 use Rattle.station.specs.declared.Client.{Client}
 use Rattle.station.specs.Range.{stationOk, StationOk}
 use Rattle.station.specs.Answers.{withFlow, refusedOf, doneOf}
-use Rattle.station.specs.Offers.{givenFrame, cutOf, cutFrame, offerFaults, broughtOf, offerOf, overFor, wayFor, offerClientFaults, stagedOf, staging, shortFor, turnedOf, turnedFor, takenOf, offerClientOf}
+use Rattle.station.specs.Offers.{givenFrame, cutOf, cutFrame, offerFaults, broughtOf, offerOf, offerControlOf, overFor, wayFor, offerClientFaults, stagedOf, staging, shortFor, turnedOf, turnedFor, takenOf, offerClientOf}
 use Rattle.station.proofs.Range.{in-range-facts}
 
 -- ---- numbers that are cut
@@ -70,9 +73,18 @@ module _ (st : Station) (e : test (stationOk st) ≡ true) (class size hops mark
     pub cut-given : x ≡ givenFrame class size hops mark
     cut-given = q ∙ cut-is (boundsOf (st .settings)) (bounds-ok (ok .settings)) class size hops mark given-ok
 
-    -- and which may be offered then
-    pub cut-offered : Offered (st .settings) (st .flow) (givenFrame class size hops mark)
-    cut-offered = record { settings = ok .settings; flow = ok .flow; frame = given-ok }
+    -- so that its hops are the given ones,
+    pub cut-ringed : (b : Bool) → test (inRing (st .settings .site .stations) (x .hops)) ≡ b → test (inRing (st .settings .site .stations) hops) ≡ b
+    cut-ringed b t = sym (ap (λ (f : Frame). test (inRing (st .settings .site .stations) (f .hops))) cut-given) ∙ t
+
+    -- and which may be offered where they are within the ring
+    pub cut-offered : test (inRing (st .settings .site .stations) hops) ≡ true → Offered (st .settings) (st .flow) (givenFrame class size hops mark)
+    cut-offered r =
+        record { settings = ok .settings; flow = ok .flow; frame = record { frame = given-ok; ring = facts (inRing (st .settings .site .stations) hops) r } }
+
+-- the one hop of a control frame is within every ring
+pub control-ringed : (st : Station) → test (stationOk st) ≡ true → (size : ℕ) → test (inRing (st .settings .site .stations) (controlFrame size .hops)) ≡ true
+control-ringed st e size = passes (inRing (st .settings .site .stations) 1) (in-range-facts st e .settings .of-site .stations-least)
 
 -- ---- into a queue
 
@@ -87,7 +99,13 @@ module _ (st : Station) (l : Line) (x : Frame) where
   unfolding refusedOr
   offer-coded e f = rw (in-order (offerFaults st l x) refl, e, f)
 
-  module _ (e : test (stationOk st) ≡ true) (f : test (frameOk (boundsOf (st .settings)) x) ≡ true) where
+  -- else 13 where its hops reach the number of stations or more
+  pub offer-beyond : test (stationOk st) ≡ true → test (frameOk (boundsOf (st .settings)) x) ≡ true → test (inRing (st .settings .site .stations) (x .hops)) ≡ false
+      → offerOf st l x ≡ refusedOf st 13
+  unfolding refusedOr
+  offer-beyond e f r = rw (in-order (offerFaults st l x) refl, e, f, r)
+
+  module _ (e : test (stationOk st) ≡ true) (f : test (frameOk (boundsOf (st .settings)) x) ≡ true) (r : test (inRing (st .settings .site .stations) (x .hops)) ≡ true) where
     -- else what the queue says:
     pub offer-brought : offerOf st l x ≡ broughtOf st (enterOf (st .settings) (st .flow) l x)
     offer-brought =
@@ -102,7 +120,7 @@ module _ (st : Station) (l : Line) (x : Frame) where
         said n r = refusedOr (refusedOf st) n (doneOf (withFlow st (r .flow)))
 
         number : firstOf (offerFaults st l x) ≡ firstOf rows
-        number = rw (in-order (offerFaults st l x) refl, in-order rows refl, e, f)
+        number = rw (in-order (offerFaults st l x) refl, in-order rows refl, e, f, r)
 
     -- 4 where the size exceeds its space,
     pub offer-full : spaceOf (queueOf (st .flow) l) (capacityOf (st .settings) l) < x .size → offerOf st l x ≡ refusedOf st 4
@@ -112,6 +130,24 @@ module _ (st : Station) (l : Line) (x : Frame) where
     pub offer-taken : x .size ≤ spaceOf (queueOf (st .flow) l) (capacityOf (st .settings) l)
         → offerOf st l x ≡ doneOf (withFlow st (withQueue (st .flow) l (pushed (queueOf (st .flow) l) x)))
     offer-taken h = offer-brought ∙ ap (broughtOf st) (enter-taken (st .settings) (st .flow) l x h)
+
+-- A control frame never gets 13, whatever the station is.
+pub control-never-13 : (st : Station) (size : ℕ) → offerControlOf st size .number ≡ 13 → ⊥
+control-never-13 st size e =
+    by-cases (true-or-false (test (stationOk st)))
+    (λ ok. by-cases (true-or-false (test (frameOk (boundsOf (st .settings)) x)))
+    (λ f. by-cases (le-or size (spaceOf (st .flow .control) (st .settings .queues .control)))
+    (λ fits. other (offer-taken st Control x ok f (control-ringed st ok size) fits) (λ z. omega arith))
+    (λ over. other (offer-full st Control x ok f (control-ringed st ok size) over) (λ z. omega arith)))
+    (λ f. other (offer-coded st Control x ok f) (λ z. omega arith)))
+    (λ lost. other (offer-lost st Control x lost) (λ z. omega arith))
+  where
+    x : Frame
+    x = controlFrame size
+
+    -- an answer of another number
+    other : {r : Done} → offerControlOf st size ≡ r → (r .number ≡ 13 → ⊥) → ⊥
+    other is never = never (sym (ap (λ (d : Done). d .number) is) ∙ e)
 
 -- ---- into the stage
 
@@ -126,7 +162,13 @@ module _ (st : Station) (class size hops : ℕ) where
   unfolding refusedOr
   client-coded e f = rw (in-order (offerClientFaults st class size hops) refl, e, f)
 
-  module _ (e : test (stationOk st) ≡ true) (f : test (frameOk (boundsOf (st .settings)) (givenFrame class size hops 0)) ≡ true) where
+  -- else 13 where its hops reach the number of stations or more
+  pub client-beyond : test (stationOk st) ≡ true → test (frameOk (boundsOf (st .settings)) (givenFrame class size hops 0)) ≡ true
+      → test (inRing (st .settings .site .stations) hops) ≡ false → offerClientOf st class size hops ≡ turnedOf st 13 0
+  unfolding refusedOr
+  client-beyond e f r = rw (in-order (offerClientFaults st class size hops) refl, e, f, r)
+
+  module _ (e : test (stationOk st) ≡ true) (f : test (frameOk (boundsOf (st .settings)) (givenFrame class size hops 0)) ≡ true) (r : test (inRing (st .settings .site .stations) hops) ≡ true) where
     -- else what the stage says:
     pub client-staged : offerClientOf st class size hops ≡ stagedOf st (staging st class size hops)
     client-staged =
@@ -141,7 +183,7 @@ module _ (st : Station) (class size hops : ℕ) where
         said n r = refusedOr (turnedFor st class) n (takenOf st r)
 
         number : firstOf (offerClientFaults st class size hops) ≡ firstOf rows
-        number = rw (in-order (offerClientFaults st class size hops) refl, in-order rows refl, e, f)
+        number = rw (in-order (offerClientFaults st class size hops) refl, in-order rows refl, e, f, r)
 
     -- 5 where it holds a frame;
     pub client-occupied : stageHolds (st .flow) ≡ true → offerClientOf st class size hops ≡ turnedOf st 5 0

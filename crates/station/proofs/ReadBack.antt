@@ -4,9 +4,10 @@ use Prim.Native.Nat.{_<_}
 use mathlib.Core.Bool.{false}
 use mathlib.Core.Path.{_≡_, sym, ap, subst, _∙_}
 use Rattle.decide.specs.Test.{test, passes, decided}
+use Rattle.decide.specs.Hops.{inRing}
 use Rattle.advert.specs.declared.Advert.{Advert}
 use Rattle.advert.specs.Frame.{advertBytes}
-use Rattle.heard.specs.Range.{ttlOk}
+use Rattle.heard.specs.Range.{ttlOk, hopsOf}
 use Rattle.heard.specs.Frame.{ownRinglet, ownAddress}
 use Rattle.fair.specs.Advertise.{toldOf}
 use Rattle.fair.proofs.ReadBack.{frame-read-back}
@@ -20,10 +21,11 @@ use Rattle.station.proofs.Hear.{frame-found, hear-whole, listen-done, t
 
 -- stations in range; the low 32 bits of an address are a 32-bit number
 module _ {st : Station} (ok : StationOk st) (own-low : st .settings .address .low < 4294967296) (low : st .fair .received .low < 4294967296) {t : Station} (good : StationOk t) where
-  -- Reading a written frame, with the same ringlet but an address it doesn't bear, is not refused, and takes what was told.
-  pub told-heard : t .settings .ringlet ≡ st .settings .ringlet → test (ownAddress (t .settings) (tellOf st .advert)) ≡ false
+  -- Reading a written frame, with the same ringlet and number of stations but an address it doesn't bear, is not refused, and takes what was told.
+  pub told-heard : t .settings .ringlet ≡ st .settings .ringlet → t .settings .site .stations ≡ st .settings .site .stations
+      → test (ownAddress (t .settings) (tellOf st .advert)) ≡ false
       → hearOf t (advertBytes (tellOf st .advert)) ≡ doneOf (changedOf t (tellOf st .advert))
-  told-heard same other = subst Heard (sym told) said other
+  told-heard same many other = subst Heard (sym told) said other
     where
       a : Advert
       a = toldOf (st .fair) (st .settings)
@@ -44,4 +46,5 @@ module _ {st : Station} (ok : StationOk st) (own-low : st .settings .address .lo
           (sym (decided (ownRinglet (t .settings) a) false (λ e. back .ringlet-other (e ∙ same))))
           (facts-in-range t good)
           (passes (ttlOk (a .ttl)) (back .ttl-in-range))
+          (passes (inRing (t .settings .site .stations) (hopsOf (a .ttl))) (rw many (back .in-ring)))
           o

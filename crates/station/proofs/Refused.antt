@@ -87,12 +87,12 @@ bears f (g ∷ gs) b m = ⊎-elim (λ k. subst (λ (x : Fault). 0 < x .number) (
 
 bearing : (c : Call) (st : Station) → Bearing (rowsOf c st)
 bearing (tick a b c) st = (omega arith, (omega arith, tt))
-bearing (offerClient class size hops) st = (omega arith, (omega arith, (omega arith, (omega arith, (omega arith, tt)))))
-bearing (offerTransit class size hops eligible) st = (omega arith, (omega arith, (omega arith, tt)))
-bearing (offerControl size) st = (omega arith, (omega arith, (omega arith, tt)))
+bearing (offerClient class size hops) st = (omega arith, (omega arith, (omega arith, (omega arith, (omega arith, (omega arith, tt))))))
+bearing (offerTransit class size hops eligible) st = (omega arith, (omega arith, (omega arith, (omega arith, tt))))
+bearing (offerControl size) st = (omega arith, (omega arith, (omega arith, (omega arith, tt))))
 bearing select st = (omega arith, tt)
 bearing age st = (omega arith, tt)
-bearing (hear xs bytes) st = (omega arith, (omega arith, (omega arith, (omega arith, (omega arith, tt)))))
+bearing (hear xs bytes) st = (omega arith, (omega arith, (omega arith, (omega arith, (omega arith, (omega arith, tt))))))
 bearing tell st = (omega arith, tt)
 bearing show st = (omega arith, tt)
 
@@ -141,12 +141,12 @@ absent f (g ∷ gs) a m n p =
 
 none : {st : Station} → StationOk st → (c : Call) → Absent (rowsOf c st)
 none {st} ok (tick a b c) = (rw (facts-in-range st ok), (refl, tt))
-none {st} ok (offerClient class size hops) = (rw (facts-in-range st ok), (refl, (refl, (refl, (refl, tt)))))
-none {st} ok (offerTransit class size hops eligible) = (rw (facts-in-range st ok), (refl, (refl, tt)))
-none {st} ok (offerControl size) = (rw (facts-in-range st ok), (refl, (refl, tt)))
+none {st} ok (offerClient class size hops) = (rw (facts-in-range st ok), (refl, (refl, (refl, (refl, (refl, tt))))))
+none {st} ok (offerTransit class size hops eligible) = (rw (facts-in-range st ok), (refl, (refl, (refl, tt))))
+none {st} ok (offerControl size) = (rw (facts-in-range st ok), (refl, (refl, (refl, tt))))
 none {st} ok select = (rw (facts-in-range st ok), tt)
 none {st} ok age = (rw (facts-in-range st ok), tt)
-none {st} ok (hear xs bytes) = (refl, (refl, (rw (facts-in-range st ok), (refl, (refl, tt)))))
+none {st} ok (hear xs bytes) = (refl, (refl, (rw (facts-in-range st ok), (refl, (refl, (refl, tt))))))
 none {st} ok tell = (rw (facts-in-range st ok), tt)
 none {st} ok show = (rw (facts-in-range st ok), tt)
 

@@ -7,6 +7,7 @@ use native.Mathlib.Omega.{arith}
 use borrow.Author.Tests.{ne-eqb}
 use lib.Dec.{eqb}
 use Rattle.decide.specs.Test.{test}
+use Rattle.decide.specs.Hops.{inRing}
 use Rattle.decide.specs.Refusal.{firstOf}
 use Rattle.decide.proofs.Refusal.{in-order}
 use Rattle.decide.proofs.Refused.{of-answer, number-by}
@@ -22,15 +23,16 @@ use Rattle.station.specs.Range.{stationOk}
 use Rattle.station.specs.Offers.{givenFrame, overFor, wayFor, offerClientFaults, shortFor, offerClientOf}
 use Rattle.station.proofs.Range.{in-range-facts}
 
--- of the rows 1, 3, 5, 6, 7 it is that of 6 that counts
-six : (ok fits holds permits over : Bool) → _≡_ {A = ℕ} (cond (not ok) 1 (cond (not fits) 3 (cond holds 5 (cond (not permits) 6 (cond over 7 0))))) 6
+-- of the rows 1, 3, 13, 5, 6, 7 it is that of 6 that counts
+six : (ok fits ring holds permits over : Bool) → _≡_ {A = ℕ} (cond (not ok) 1 (cond (not fits) 3 (cond (not ring) 13 (cond holds 5 (cond (not permits) 6 (cond over 7 0)))))) 6
     → (ok ≡ true) × (permits ≡ false)
-six false fits holds permits over e = absurd (omega arith)
-six true false holds permits over e = absurd (omega arith)
-six true true true permits over e = absurd (omega arith)
-six true true false false over e = (refl, refl)
-six true true false true true e = absurd (omega arith)
-six true true false true false e = absurd (omega arith)
+six false fits ring holds permits over e = absurd (omega arith)
+six true false ring holds permits over e = absurd (omega arith)
+six true true false holds permits over e = absurd (omega arith)
+six true true true true permits over e = absurd (omega arith)
+six true true true false false over e = (refl, refl)
+six true true true false true true e = absurd (omega arith)
+six true true true false true false e = absurd (omega arith)
 
 module _ (st : Station) (class size hops : ℕ) where
   abbrev answer : Client
@@ -56,7 +58,7 @@ module _ (st : Station) (class size hops : ℕ) where
   module _ (e : answer .number ≡ 6) where
     rows-six : (test (stationOk st) ≡ true) × (permitsAll (st .settings) (st .flow .credits) (needsOf (wayFor st class)) ≡ false)
     rows-six =
-        six (test (stationOk st)) (test (frameOk (boundsOf (st .settings)) (givenFrame class size hops 0))) (stageHolds (st .flow))
+        six (test (stationOk st)) (test (frameOk (boundsOf (st .settings)) (givenFrame class size hops 0))) (test (inRing (st .settings .site .stations) hops)) (stageHolds (st .flow))
         (permitsAll (st .settings) (st .flow .credits) (needsOf (wayFor st class))) (eqb (markOf (wayFor st class)) 1 && overFor st size hops)
         (sym (in-order (offerClientFaults st class size hops) refl) ∙ sym number-is ∙ e)
 

@@ -7,7 +7,7 @@ use Rattle.decide.specs.Test.{test}
 use Rattle.decide.specs.Refusal.{Fault, fault, firstOf, refusedOr}
 use Rattle.advert.specs.declared.Advert.{Advert}
 use Rattle.advert.specs.Frame.{whole, advertIn}
-use Rattle.heard.specs.Frame.{ringletFault, ttlFault, addressFault}
+use Rattle.heard.specs.Frame.{ringletFault, ttlFault, ringFault, addressFault}
 use Rattle.fair.specs.Advertise.{heardOf, toldOf}
 use Rattle.station.specs.declared.Station.{Station}
 use Rattle.station.specs.declared.Done.{Done}
@@ -18,9 +18,9 @@ use Rattle.station.specs.Calls.{rangeFault}
 -- ---- hear
 
 -- what a frame says can be refused for: its ringlet bit against the lent station's own (2), whatever else is in that station; the station's range (1);
--- the frame's ttl (3); its address (11)
+-- the frame's ttl (3); its hops against the number of stations (13); its address (11)
 abbrev pub listenFaults : Station → Advert → List Fault
-listenFaults st a = ringletFault (st .settings) a ∷ rangeFault st ∷ ttlFault a ∷ addressFault (st .settings) a ∷ []
+listenFaults st a = ringletFault (st .settings) a ∷ rangeFault st ∷ ttlFault a ∷ ringFault (st .settings) a ∷ addressFault (st .settings) a ∷ []
 
 -- A rate of 65,535 clears downstream congestion, others set it.
 abbrev pub changedOf : Station → Advert → Station

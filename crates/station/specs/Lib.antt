@@ -8,3 +8,4 @@ pub mod Show
 pub mod History
 pub mod Steady
 pub mod Narrow
+pub mod Hops

@@ -4,6 +4,7 @@ use Prim.Native.Nat.{ℕ, min}
 use mathlib.Core.Bool.{Bool, not}
 use mathlib.Core.List.{List, _∷_}
 use Rattle.decide.specs.Test.{test}
+use Rattle.decide.specs.Hops.{inRing}
 use Rattle.decide.specs.Refusal.{Fault, fault, firstOf, refusedOr}
 use Rattle.queue.specs.declared.Frame.{Frame}
 use Rattle.queue.specs.Frame.{frameOk}
@@ -33,6 +34,10 @@ givenFrame class size hops mark = record { size = size; hops = hops; class = cla
 abbrev pub frameFault : Station → Frame → Fault
 frameFault st x = fault 3 (not (test (frameOk (boundsOf (st .settings)) x)))
 
+-- 13: a transit frame or a client frame whose hops reach the number of stations or more
+abbrev pub hopsFault : Station → Frame → Fault
+hopsFault st x = fault 13 (not (test (inRing (st .settings .site .stations) (x .hops))))
+
 -- the same frame with each number cut to 32 bits at most
 abbrev pub cutOf : ℕ → ℕ
 cutOf x = min x 4294967295
@@ -42,9 +47,9 @@ cutFrame class size hops mark = record { size = cutOf size; hops = cutOf hops; c
 
 -- ---- into a queue
 
--- 1, 3, and 4: a frame's size exceeds the queue's space
+-- 1, 3, 13, and 4: a frame's size exceeds the queue's space
 abbrev pub offerFaults : Station → Line → Frame → List Fault
-offerFaults st l x = rangeFault st ∷ frameFault st x ∷ enterFaults (st .settings) (st .flow) l x
+offerFaults st l x = rangeFault st ∷ frameFault st x ∷ hopsFault st x ∷ enterFaults (st .settings) (st .flow) l x
 
 -- what the queue says
 abbrev pub broughtOf : Station → Entered → Done
@@ -72,11 +77,12 @@ overFor st size hops = test (over (st .fair) size hops)
 abbrev pub wayFor : Station → ℕ → Way
 wayFor st class = wayOf (st .settings) (st .flow .credits) class
 
--- 1, 3, and 5: the stage already holds a frame; 6: a needed shaper doesn't permit; 7: the congested fair rate would be passed. A client gives no mark.
+-- 1, 3, 13, and 5: the stage already holds a frame; 6: a needed shaper doesn't permit; 7: the congested fair rate would be passed. A client gives no mark.
 abbrev pub offerClientFaults : Station → ℕ → ℕ → ℕ → List Fault
 offerClientFaults st class size hops =
     rangeFault st
     ∷ frameFault st (givenFrame class size hops 0)
+    ∷ hopsFault st (givenFrame class size hops 0)
     ∷ clientFaults (st .settings) (st .flow) (wayFor st class) (overFor st size hops)
 
 -- what the stage says

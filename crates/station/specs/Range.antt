@@ -8,7 +8,7 @@ use Rattle.station.specs.declared.Station.{Station}
 
 -- A lent station is in range if its settings, frames, slots and bytes held (the sizes' sum, at most the capacity) are, credits are 0 to hiLimit, own and
 -- received rates at most 65,534, other rates at most 2,147,483,647, allowed rates at most unreservedRate and a received ttl 193 to 255; of a smoothed
--- rate this binds the rate shown (document 02, A4).
+-- rate this binds the rate shown (document 02, A4). No frame and no received ttl has hops that reach the number of stations or more (A5).
 unfoldable pub stationOk : Station → Test
 stationOk st = settingsOk (st .settings) ∧? flowOk (st .settings) (st .flow) ∧? fairOk (st .settings) (st .fair)
 

@@ -35,6 +35,9 @@ impl Station {
         if !frame_ok(self.settings, frame) {
             return self.turned_down(3);
         }
+        if !decide::in_ring(self.settings.site.stations, frame.hops) {
+            return self.turned_down(13);
+        }
         self.client(frame)
     }
 
@@ -64,6 +67,9 @@ impl Station {
         if !frame_ok(self.settings, frame) {
             return self.refused(3);
         }
+        if !decide::in_ring(self.settings.site.stations, frame.hops) {
+            return self.refused(13);
+        }
         let flow = self.flow;
         let out = flow.transit(self.settings, frame);
         self.brought(out)
@@ -76,7 +82,7 @@ impl Station {
         self.offer_control_known(self.in_range(), size)
     }
 
-    // Takes a control frame, where it is known whether the station is in range.
+    // Takes a control frame, where it is known whether the station is in range. Its one hop is within every ring, so 13 is not looked for.
     pub fn offer_control_known(self, good: bool, size: u64) -> Done
         requires { ⌜ good ≡ test (stationOk self) ⌝ }
         ensures { λ r. ⌜ r ≡ offerControlOf self size ⌝ }
@@ -107,7 +113,7 @@ impl Station {
         }
     }
 
-    // The answer where the stage was asked to take a frame in range: what it said, and the station with it.
+    // The answer where the stage was asked to take a frame in range and within the ring: what it said, and the station with it.
     fn client(self, frame: Frame) -> Client
         ensures { λ r. ⌜ r ≡ clientFor self frame ⌝ }
     {

@@ -67,6 +67,9 @@ impl Station {
         if !heard::ttl_ok(said.ttl as u32) {
             return self.refused(3);
         }
+        if !heard::ttl_in_ring(self.settings.site.stations, said.ttl as u32) {
+            return self.refused(13);
+        }
         if heard::is_own_address(self.settings, said) {
             return self.refused(11);
         }

@@ -54,7 +54,7 @@ fn charged(s: Shaper, size: u32) -> Shaper {
 }
 
 // A fresh station: every shaper 100 300 50, queues of 256 bytes, low threshold 128, weight 2, unit 4, 10 ticks, unreservedRate 10,000, default
-// coefficients.
+// coefficients, 63 stations.
 fn started() -> Station {
     let bucket = Bucket {
         lo: 100,
@@ -86,7 +86,7 @@ fn started() -> Station {
         shapers: shapers,
         queues: queues,
         fairness: fairness,
-        site: Site {},
+        site: Site { stations: 63 },
     })
 }
 

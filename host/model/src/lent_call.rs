@@ -35,8 +35,9 @@ fn check_slices(call: &Call, station: &[u8], other: &[u8]) -> Result<(), Refusal
     }
 }
 
-/// "Where several apply the order is 2, 1, 3, 11, 10, 9, 4, 5, 6, 7, 8": slices first,
-/// then the station's range, then all that the model's calls decide.
+/// "Where several apply the order is 2, 1, 3, 11, 10, 9, 4, 5, 6, 7, 8", with "13, right after 3
+/// and before 11": slices first, then the station's range, then all that the model's calls
+/// decide.
 fn carry_out(call: &Call, station: &[u8], other: &[u8]) -> Result<After, Refusal> {
     check_slices(call, station, other)?;
     let mut model = layout::read(station)?;

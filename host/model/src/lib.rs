@@ -11,6 +11,7 @@ pub mod cases;
 pub mod command;
 pub mod compare;
 pub mod entry_script;
+pub mod hops;
 pub mod host;
 pub mod lent;
 pub mod lent_call;

@@ -332,9 +332,10 @@ pub fn start(random: &mut Random, summary: &Summary) -> u64 {
     }
 }
 
-/// A length that isn't `right`, often nearly.
+/// A length that isn't `right`, often off by a byte or a word.
 pub fn wrong_length(random: &mut Random, right: usize) -> usize {
-    let near = [0, 1, right - 1, right + 1, right / 2, 2 * right];
+    let by = random.pick(&[1, 4]);
+    let near = [0, 1, right - by, right + by, right / 2, 2 * right];
     let length = match random.below(2) {
         0 => random.pick(&near),
         _ => random.below(3 * right),

@@ -67,7 +67,23 @@ fn bad_size(random: &mut Random, station: &Station) -> u64 {
     random.pick(&[0, 15, mtu + 1, good | 1 << 16, good | 1 << 32, any])
 }
 
-/// Class, size and hops, one of them spoiled now and then.
+/// Hops that the ring has, often its first, its last or the one before.
+fn hops(random: &mut Random, station: &Station) -> u64 {
+    let most = station.settings.stations - 1;
+    match random.one_in(6) {
+        true => most.max(2) - 1,
+        false => random.often_extreme(1, i128::from(most)) as u64,
+    }
+}
+
+/// As many hops as stations or one more, or any up to 64, the first that no ring accepts.
+fn far_hops(random: &mut Random, station: &Station) -> u64 {
+    let stations = station.settings.stations;
+    let any = random.between(i128::from(stations), 64) as u64;
+    random.pick(&[stations, stations, stations + 1, 63, any])
+}
+
+/// Class, size and hops. Now and then the ring hasn't such hops, or one of them is spoiled.
 fn frame(random: &mut Random, station: &Station, habit: &Habit) -> [u64; 3] {
     let class = match habit.class {
         Some(class) if !random.one_in(12) => class,
@@ -76,7 +92,10 @@ fn frame(random: &mut Random, station: &Station, habit: &Habit) -> [u64; 3] {
     let mut frame = [
         class,
         size(random, station, habit.small),
-        random.often_extreme(1, 63) as u64,
+        match random.one_in(16) {
+            true => far_hops(random, station),
+            false => hops(random, station),
+        },
     ];
     if random.one_in(25) {
         match random.below(3) {
@@ -91,7 +110,7 @@ fn frame(random: &mut Random, station: &Station, habit: &Habit) -> [u64; 3] {
 /// A client frame in range, of this class.
 pub fn client(random: &mut Random, station: &Station, class: u64) -> Call {
     let size = size(random, station, false);
-    Call::Client([class, size, random.often_extreme(1, 63) as u64])
+    Call::Client([class, size, hops(random, station)])
 }
 
 fn transit(random: &mut Random, station: &Station, habit: &Habit) -> Call {
@@ -130,8 +149,8 @@ fn heard(random: &mut Random, station: &Station) -> Vec<u8> {
     }
     let ttl = match random.below(12) {
         0 => random.pick(&[0, 192, 63, 128]),
-        1 | 2 => random.pick(&[193, 194]),
-        _ => random.often_extreme(193, 255) as u8,
+        1 | 2 => (256 - far_hops(random, station)) as u8,
+        _ => (256 - hops(random, station)) as u8,
     };
     let unseen = random.word();
     let mut frame = vec![ttl, ringlet << 7 | 0x20 | unseen as u8 & 0x4f];

@@ -1,11 +1,11 @@
 //! Stations to try: plain settings, random settings and settings just out of range.
 
 use crate::random::Random;
-use crate::station::settings::{self, LP_COEFS, WORDS};
+use crate::station::settings::{self, LEAST_STATIONS, LP_COEFS, MOST_STATIONS, WORDS};
 use crate::station::Station;
 
 /// Small limits and queues: mtu 64, every shaper 100, 300, 50; queues of 256 bytes, low
-/// threshold 128; weight 2, unit 4, 10 ticks, unreservedRate 10,000; 4, 64, 64.
+/// threshold 128; weight 2, unit 4, 10 ticks, unreservedRate 10,000; 4, 64, 64; a ring of 63.
 pub const PLAIN: [u32; WORDS] = [
     0x0200,
     0x5e00_0001,
@@ -37,6 +37,7 @@ pub const PLAIN: [u32; WORDS] = [
     4,
     64,
     64,
+    63,
 ];
 
 /// The plain settings with some words replaced.
@@ -122,10 +123,19 @@ pub fn settings(random: &mut Random) -> [u32; WORDS] {
     words[27] = random.pick(&[1, 2, 4, 8, 16]);
     words[28] = random.pick(&LP_COEFS) as u32;
     words[29] = random.pick(&LP_COEFS) as u32;
+    words[30] = stations(random);
     if random.one_in(4) {
         eager(random, &mut words);
     }
     words
+}
+
+/// A ring size: either end, a few stations, or any.
+fn stations(random: &mut Random) -> u32 {
+    let [least, most] = [LEAST_STATIONS, MOST_STATIONS].map(|end| end as u32);
+    let few = between(random, least, 8);
+    let any = between(random, least, most);
+    random.pick(&[least, few, few, any, any, any, any, most])
 }
 
 /// Little is unreserved, soon congested, and counters last: the smoothed rate may come
@@ -170,6 +180,7 @@ pub fn ends(words: &[u32; WORDS], at: usize) -> Vec<[u32; 2]> {
         26 => vec![[1, 0], [2_147_483_647, 2_147_483_648]],
         27 => vec![[16, 32], [1, 0], [2, 3]],
         28 | 29 => vec![[16, 8], [512, 1_024], [64, 65]],
+        30 => vec![[2, 1], [63, 64], [2, 0], [63, u32::MAX]],
         _ => vec![[0, u32::MAX]],
     }
 }

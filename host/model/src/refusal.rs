@@ -25,6 +25,9 @@ pub enum Refusal {
     Settings,
     /// "a fairness frame bears this station's own address"
     OwnAddress,
+    /// "A fairness frame, a transit frame or a client frame whose hops reach the number of
+    /// stations or more"
+    Hops,
 }
 
 impl Refusal {
@@ -41,6 +44,7 @@ impl Refusal {
             Refusal::Events => 9,
             Refusal::Settings => 10,
             Refusal::OwnAddress => 11,
+            Refusal::Hops => 13,
         }
     }
 

@@ -21,6 +21,10 @@ pub type Reachable = &'static [(&'static str, &'static [&'static str])];
 //   |   rpr_path; "summary (its settings too)": rpr_join, rpr_settle; "starting credit":
 //   |   rpr_settle; "coded choice": rpr_tick, rpr_offer_client, rpr_offer_transit,
 //   |   rpr_choose, rpr_path.
+// 13 | rpr_offer_client, rpr_offer_transit, rpr_read_frame: "A fairness frame, a transit frame
+//   |   or a client frame whose hops reach the number of stations or more". A control frame has
+//   |   1 hop: not rpr_offer_control. rpr_choose and rpr_path "keep their own count". `hops` has
+//   |   what must come up.
 // 11 | rpr_read_frame: "a fairness frame bears this station's own address".
 // 10 | rpr_join: "joined summaries have different settings".
 // 9 | rpr_summarize, rpr_join: "over 1,000,000 events".
@@ -44,12 +48,12 @@ pub const OF_RINGS: Reachable = &[("rpr_choose", &["1", "3", "8"]), ("rpr_path",
 pub const OF_STATIONS: Reachable = &[
     ("rpr_start", &["2", "1"]),
     ("rpr_tick", &["2", "1", "3"]),
-    ("rpr_offer_client", &["2", "1", "3", "5", "6", "7"]),
-    ("rpr_offer_transit", &["2", "1", "3", "4"]),
+    ("rpr_offer_client", &["2", "1", "3", "13", "5", "6", "7"]),
+    ("rpr_offer_transit", &["2", "1", "3", "13", "4"]),
     ("rpr_offer_control", &["2", "1", "3", "4"]),
     ("rpr_select", &["2", "1"]),
     ("rpr_age", &["2", "1"]),
-    ("rpr_read_frame", &["2", "1", "3", "11"]),
+    ("rpr_read_frame", &["2", "1", "3", "13", "11"]),
     ("rpr_write_frame", &["2", "1"]),
     ("rpr_show", &["2", "1"]),
 ];

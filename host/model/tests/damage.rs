@@ -52,19 +52,23 @@ fn a_station_out_of_range_is_1_for_each_call() {
     }
 }
 
-/// "the order is 2, 1, 3, 11"
+/// "the order is 2, 1, 3, 11", with "13, right after 3 and before 11"
 #[test]
 fn one_comes_before_the_later_ones() {
-    let own = vec![200, 0xa0, 2, 0, 0x5e, 0, 0, 1, 0, 0, 0, 5];
-    let far = vec![192, 0xa0, 0, 0, 0, 0, 0, 9, 0, 0, 0, 5];
+    let own = |ttl: u8| vec![ttl, 0xa0, 2, 0, 0x5e, 0, 0, 1, 0, 0, 0, 5];
+    let far = |ttl: u8| vec![ttl, 0xa0, 0, 0, 0, 0, 0, 9, 0, 0, 0, 5];
     let calls = [
         (Call::Tick([2, 0, 0]), 3),
         (Call::Client([3, 20, 1]), 3),
         (Call::Client([0, 20, 1]), 6 | 1 << 32),
         (Call::Transit([0, 20, 1, 1]), 3),
         (Call::Control(15), 3),
-        (Call::Hear(far), 3),
-        (Call::Hear(own), 11),
+        (Call::Hear(far(192)), 3),
+        (Call::Client([2, 20, 63]), 13),
+        (Call::Transit([1, 20, 63, 1]), 13),
+        (Call::Hear(far(193)), 13),
+        (Call::Hear(own(193)), 13),
+        (Call::Hear(own(194)), 11),
     ];
     for (call, later) in calls {
         assert_eq!(refused(&call, &plain()), later, "{call}");
@@ -75,7 +79,7 @@ fn one_comes_before_the_later_ones() {
 #[test]
 fn two_comes_before_one() {
     for call in calls() {
-        for length in [0, 1_785, 1_787] {
+        for length in [0, 1_786, 1_789, 1_791] {
             let mut bytes = bad();
             bytes.resize(length, 0);
             assert_eq!(refused(&call, &bytes), 2, "{call}");

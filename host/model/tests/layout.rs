@@ -25,13 +25,14 @@ fn words<const N: usize>(bytes: &[u8], at: usize) -> [u64; N] {
 #[test]
 fn a_fresh_station() {
     let bytes = write(&plain());
-    assert_eq!(bytes.len(), 1_786);
+    assert_eq!(bytes.len(), 1_790);
     assert_eq!(words(&bytes, 0), [100; 5]);
     assert!(bytes[20..1_578].iter().all(|byte| *byte == 0));
     assert_eq!(words(&bytes, 1_578), [0; 12]);
     assert_eq!(words(&bytes, 1_626), [10_000, 10_000, 10_000, 1_250]);
     assert_eq!(words(&bytes, 1_642), [0, 0, 255, 0, 0, 0]);
     assert_eq!(words(&bytes, 1_666), make_station::PLAIN.map(u64::from));
+    assert_eq!(bytes[1_786..], [63, 0, 0, 0]);
 }
 
 /// "0 to 13 | size"; "14 to 19 | hops"; "20 and 21 | class"; "22 | the mark".
@@ -139,7 +140,7 @@ fn each_byte_has_one_part() {
         assert_eq!(part.at, at, "{}", part.name);
         at += part.length;
     }
-    assert_eq!((at, parts.len()), (STATION_LENGTH, 66));
+    assert_eq!((at, parts.len()), (STATION_LENGTH, 67));
     let place = |name: &str| parts.iter().find(|part| part.name == name).unwrap().at;
     assert_eq!(place("control slots"), 20);
     assert_eq!(place("secondary count"), 1_573);
@@ -148,7 +149,10 @@ fn each_byte_has_one_part() {
     for (at, name) in NAMES[13..].iter().enumerate() {
         assert_eq!(place(name), fairness_place(at).start, "{name}");
     }
+    assert_eq!(place("downstreamCongested"), layout::DOWNSTREAM);
+    assert_eq!(place("receivedTtl"), layout::RECEIVED_TTL);
     assert_eq!(place("addressHigh"), layout::SETTINGS);
+    assert_eq!(place("stations"), 1_786);
     let mut names: Vec<&str> = parts.iter().map(|part| &part.name[..]).collect();
     names.sort_unstable();
     names.dedup();
@@ -157,7 +161,7 @@ fn each_byte_has_one_part() {
 
 #[test]
 fn another_length_is_2() {
-    for length in [0, 1, 1_770, 1_785, 1_787, 3_572] {
+    for length in [0, 1, 1_770, 1_786, 1_789, 1_791, 3_580] {
         assert_eq!(read(&vec![0; length]), Err(Refusal::Bytes));
     }
     assert_eq!(read(&[0; STATION_LENGTH]), Err(Refusal::Setting));

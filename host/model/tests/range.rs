@@ -14,11 +14,11 @@ fn busy() -> Vec<u8> {
     let mut station: Station = make_station::station(&settings);
     for size in [16, 50, 100] {
         assert_eq!(calls::offer_control(&mut station, size), 0);
-        assert_eq!(calls::offer_transit(&mut station, 0, size, 63, 0), 0);
+        assert_eq!(calls::offer_transit(&mut station, 0, size, 62, 0), 0);
         assert_eq!(calls::offer_transit(&mut station, 1, size, 1, 1), 0);
     }
     calls::tick(&mut station, 1, 1, 1);
-    assert_eq!(calls::offer_client(&mut station, 1, 100, 63), 0);
+    assert_eq!(calls::offer_client(&mut station, 1, 100, 62), 0);
     write(&station)
 }
 
@@ -45,7 +45,8 @@ fn a_busy_station_is_in_range() {
 }
 
 /// "credits are 0 to hiLimit, own and received rates at most 65,534, other rates at most
-/// 2,147,483,647, allowed rates at most unreservedRate and a received ttl 193 to 255".
+/// 2,147,483,647, allowed rates at most unreservedRate and a received ttl 193 to 255". From the
+/// last of 63 stations it is 194.
 #[test]
 fn each_number_of_the_state() {
     const MOST: u64 = 2_147_483_647;
@@ -53,7 +54,7 @@ fn each_number_of_the_state() {
     ends.extend([(0, MOST); 4]);
     ends.extend([(0, 64 * (MOST + 1) - 1); 4]);
     ends.extend([(0, MOST), (0, 10_000), (0, 10_000), (0, 65_534)]);
-    ends.extend([(0, 1), (0, 1), (193, 255), (0, 65_535)]);
+    ends.extend([(0, 1), (0, 1), (194, 255), (0, 65_535)]);
     ends.extend([(0, 0xffff_ffff), (0, 65_534)]);
     let bytes = busy();
     let bounds = bounds(&bytes);
@@ -66,14 +67,18 @@ fn each_number_of_the_state() {
         };
         assert_eq!(with(least), none(), "{} {least}", bound.name);
         assert_eq!(with(most), none(), "{} {most}", bound.name);
+        let side = |side: &str| match least {
+            0 => bound.name.to_string(),
+            _ => format!("{} {side}", bound.name),
+        };
         if least > 0 {
-            assert_eq!(with(least - 1), [bound.name]);
+            assert_eq!(with(least - 1), [side("below")]);
         }
         let bits = 8 * bound.place.len();
         let largest = u64::MAX >> (64 - bits);
         for past in [most + 1, largest, 1 << (bits - 1)] {
             if past > most && past <= largest {
-                assert_eq!(with(past), [bound.name], "{past}");
+                assert_eq!(with(past), [side("above")], "{past}");
             }
         }
     }
@@ -134,23 +139,24 @@ fn an_lp_coef_that_a_stored_number_no_longer_fits() {
 }
 
 /// Size, hops, class, mark and the bits beyond. "frame size 16 to mtu; hops 1 to 63;
-/// class A, B or C; only B and C may be marked fairness eligible."
+/// class A, B or C; only B and C may be marked fairness eligible." A ring of 63 has 62 hops.
 const GOOD: [[u64; 5]; 8] = [
-    [16, 63, 1, 0, 0],
-    [100, 63, 1, 0, 0],
+    [16, 62, 1, 0, 0],
+    [100, 62, 1, 0, 0],
     [50, 1, 1, 0, 0],
-    [50, 63, 2, 0, 0],
+    [50, 62, 2, 0, 0],
     [50, 2, 0, 0, 0],
     [50, 2, 1, 1, 0],
     [50, 2, 2, 1, 0],
     [50, 2, 2, 0, 0],
 ];
-const BAD: [([u64; 5], &str); 11] = [
-    ([15, 63, 1, 0, 0], "size"),
-    ([0, 63, 1, 0, 0], "size"),
-    ([101, 63, 1, 0, 0], "size"),
-    ([0x3fff, 63, 1, 0, 0], "size"),
-    ([50, 0, 1, 0, 0], "hops"),
+const BAD: [([u64; 5], &str); 12] = [
+    ([15, 62, 1, 0, 0], "size"),
+    ([0, 62, 1, 0, 0], "size"),
+    ([101, 62, 1, 0, 0], "size"),
+    ([0x3fff, 62, 1, 0, 0], "size"),
+    ([50, 0, 1, 0, 0], "hops below"),
+    ([50, 63, 1, 0, 0], "hops above"),
     ([50, 2, 0, 1, 0], "mark"),
     ([50, 2, 3, 0, 0], "class"),
     ([50, 2, 3, 1, 0], "class"),
@@ -283,7 +289,7 @@ fn a_full_queue() {
 #[test]
 fn settings_that_the_state_no_longer_fits() {
     let bytes = busy();
-    let cases: [(usize, u64, &str); 7] = [
+    let cases: [(usize, u64, &str); 8] = [
         (3, 100, "control size"),
         (19, 166, "control capacity"),
         (20, 166, "primary capacity"),
@@ -291,6 +297,7 @@ fn settings_that_the_state_no_longer_fits() {
         (26, 10_000, "allowedRate"),
         (8, 150, "creditA"),
         (14, 150, "creditC"),
+        (30, 63, "stage hops above"),
     ];
     for (at, least, fault) in cases {
         let place = 1_666 + 4 * at;
@@ -328,6 +335,7 @@ fn setting_ends(at: usize) -> (u64, u64) {
         25 => (1, 10_000),
         26 => (10_000, 2_147_483_647),
         27 => (1, 16),
+        30 => (2, 63),
         _ => (16, 512),
     }
 }
@@ -336,7 +344,8 @@ fn setting_ends(at: usize) -> (u64, u64) {
 #[test]
 fn settings_out_of_range() {
     let bytes = wide();
-    for (at, name) in NAMES.iter().enumerate().filter(|(at, _)| *at < 26) {
+    let ranged = |at: &usize| *at < 26 || *at == 30;
+    for (at, name) in NAMES.iter().enumerate().filter(|(at, _)| ranged(at)) {
         let (least, most) = setting_ends(at);
         assert_eq!(faults(&changed(&bytes, at, least)), none(), "{name}");
         assert_eq!(faults(&changed(&bytes, at, most)), none(), "{name}");
@@ -382,8 +391,8 @@ fn changed(bytes: &[u8], at: usize, value: u64) -> Vec<u8> {
 #[test]
 fn every_fault_has_a_name_of_its_own() {
     let mut names = every_fault();
-    assert_eq!(names.len(), 47 + 22 + 30 + 5);
+    assert_eq!(names.len(), 49 + 23 + 33 + 6);
     names.sort_unstable();
     names.dedup();
-    assert_eq!(names.len(), 104);
+    assert_eq!(names.len(), 111);
 }

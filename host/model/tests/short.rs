@@ -196,8 +196,9 @@ fn only_6_has_more_than_its_number() {
         Refusal::Events,
         Refusal::Settings,
         Refusal::OwnAddress,
+        Refusal::Hops,
     ];
-    let numbers = [1, 2, 3, 4, 5, 7, 8, 9, 10, 11];
+    let numbers = [1, 2, 3, 4, 5, 7, 8, 9, 10, 11, 13];
     assert_eq!(others.map(Refusal::answer), numbers);
     assert_eq!(others.map(|refusal| u64::from(refusal.number())), numbers);
     assert_eq!(Refusal::Shaper(65_537).number(), 6);

@@ -39,14 +39,14 @@ fn client_a() {
         SHORT
     );
     let mut lent = full(&[]);
-    assert_eq!(calls::offer_client(&mut lent, 0, 64, 63), 0);
+    assert_eq!(calls::offer_client(&mut lent, 0, 64, 62), 0);
     assert_eq!(lent.reading()[..5], [100, 236, 300, 300, 300]);
     assert_eq!(lent.reading()[11..13], [1, 64]);
     assert_eq!(
         refused(&lent, |lent| calls::offer_client(lent, 0, 64, 1)),
         5
     );
-    assert_eq!(calls::select(&mut lent), frame(4, 0, 63, 0, 64));
+    assert_eq!(calls::select(&mut lent), frame(4, 0, 62, 0, 64));
     assert_eq!(lent.reading()[13..17], [0; 4]);
 }
 
@@ -132,7 +132,7 @@ fn queues_of_128_frames() {
     let mut lent = station(&large);
     for at in 0..128 {
         assert_eq!(
-            calls::offer_transit(&mut lent, 0, 16 + at % 40, 1 + at % 63, 0),
+            calls::offer_transit(&mut lent, 0, 16 + at % 40, 1 + at % 62, 0),
             0
         );
         assert_eq!(calls::offer_control(&mut lent, 16), 0);
@@ -144,9 +144,9 @@ fn queues_of_128_frames() {
     assert_eq!(refused(&lent, |lent| calls::offer_control(lent, 16)), 4);
     assert!(lent.primary.bytes() < 9_000 - 64);
     for at in 0..300 {
-        let sent = frame(2, 0, 1 + at % 128 % 63, 0, 16 + at % 128 % 40);
+        let sent = frame(2, 0, 1 + at % 128 % 62, 0, 16 + at % 128 % 40);
         assert_eq!(calls::select(&mut lent), sent);
-        let (size, hops) = (16 + at % 128 % 40, 1 + at % 128 % 63);
+        let (size, hops) = (16 + at % 128 % 40, 1 + at % 128 % 62);
         assert_eq!(calls::offer_transit(&mut lent, 0, size, hops, 0), 0);
         assert_eq!(lent.primary.frames(), 128);
     }

@@ -160,7 +160,7 @@ fn downstream_congestion_on_and_off() {
     hear(&mut lent, 255, 65_534);
     calls::age(&mut lent);
     assert_eq!(lent.allowed_rate_congested, 10_000);
-    hear(&mut lent, 193, 0);
+    hear(&mut lent, 194, 0);
     calls::age(&mut lent);
     assert_eq!(lent.allowed_rate_congested, 0);
     hear(&mut lent, 200, 65_535);
@@ -189,19 +189,19 @@ fn the_congested_fair_rate() {
     assert_eq!(offer(41, 4), 7);
     assert_eq!(offer(41, 3), 1 << 32);
     // A frame within B's own share isn't eligible, one in excess is.
-    assert_eq!(calls::offer_client(&mut lent.clone(), 1, 64, 63), 0);
+    assert_eq!(calls::offer_client(&mut lent.clone(), 1, 64, 62), 0);
     let mut drained = lent.clone();
     drained.b.credit = 100;
-    assert_eq!(calls::offer_client(&mut drained, 1, 64, 63), 7);
-    assert_eq!(calls::offer_client(&mut lent.clone(), 0, 64, 63), 0);
+    assert_eq!(calls::offer_client(&mut drained, 1, 64, 62), 7);
+    assert_eq!(calls::offer_client(&mut lent.clone(), 0, 64, 62), 0);
     // "the order is [...] 5, 6, 7": a shaper that doesn't permit counts first.
     drained.d.credit = 100;
-    assert_eq!(calls::offer_client(&mut drained, 1, 64, 63), 6 | 1 << 32);
+    assert_eq!(calls::offer_client(&mut drained, 1, 64, 62), 6 | 1 << 32);
     let before = lent.clone();
-    assert_eq!(calls::offer_client(&mut lent, 2, 64, 63), 7);
+    assert_eq!(calls::offer_client(&mut lent, 2, 64, 62), 7);
     assert_eq!(lent, before);
     hear(&mut lent, 253, 65_535);
-    assert_eq!(calls::offer_client(&mut lent, 2, 64, 63), 1 << 32);
+    assert_eq!(calls::offer_client(&mut lent, 2, 64, 62), 1 << 32);
 }
 
 /// "also to the Congested twin if downstream congested and hops > hopsToCongestion"
@@ -222,7 +222,7 @@ fn the_congested_counters() {
         assert_eq!([0, 1, 2, 3].map(grown), [20, 20, twin, twin]);
     }
     let before = lent.counters;
-    calls::offer_transit(&mut lent, 1, 20, 63, 0);
+    calls::offer_transit(&mut lent, 1, 20, 62, 0);
     assert_ne!(calls::select(&mut lent), 0);
     assert_eq!(lent.counters, before);
 }
@@ -237,12 +237,13 @@ fn advertising() {
     // Only downstream: "the received rate, its address, ttl less 1"
     hear(&mut lent, 200, 77);
     assert_eq!(told(&lent), fairness(199, 0xa0, OTHER, 77));
-    hear(&mut lent, 194, 0);
-    assert_eq!(told(&lent), fairness(193, 0xa0, OTHER, 0));
-    // "but FULL_RATE if its ttl was 193"
-    hear(&mut lent, 193, 77);
+    hear(&mut lent, 195, 0);
+    assert_eq!(told(&lent), fairness(194, 0xa0, OTHER, 0));
+    // "FULL_RATE, where it said ttl 193, when the received hops are the number of stations less
+    // 1": 62 of 63.
+    hear(&mut lent, 194, 77);
     assert_eq!(told(&lent), full);
-    hear(&mut lent, 193, 65_535);
+    hear(&mut lent, 194, 65_535);
     assert_eq!(told(&lent), full);
     // "own rate when only locally congested"
     congest(&mut lent);
@@ -252,19 +253,19 @@ fn advertising() {
     assert_eq!(told(&lent), own);
     // "or both and own ≤ received; else the received rate"
     for rate in [125, 126, 65_534] {
-        for ttl in [193, 200, 255] {
+        for ttl in [194, 200, 255] {
             hear(&mut lent, ttl, rate);
             assert_eq!(told(&lent), own);
         }
     }
     hear(&mut lent, 255, 124);
     assert_eq!(told(&lent), fairness(254, 0xa0, OTHER, 124));
-    hear(&mut lent, 193, 124);
+    hear(&mut lent, 194, 124);
     assert_eq!(told(&lent), full);
 }
 
 /// "Another length, type, header kind or a ringlet bit equal to the station's own: 2.
-/// ttl 193 to 255, else 3."
+/// ttl 193 to 255, else 3." From 63 hops away it is 13 on a ring of 63.
 #[test]
 fn frames_that_are_refused() {
     let lent = station(&[]);
@@ -287,7 +288,8 @@ fn frames_that_are_refused() {
         assert_eq!(refused(&lent, &fairness(ttl, 0x20, OWN, 5)), 2);
     }
     for rate in [0, 5, 65_534, 65_535] {
-        assert_eq!(refused(&lent, &fairness(193, 0xa0, OWN, rate)), 11);
+        assert_eq!(refused(&lent, &fairness(193, 0xa0, OWN, rate)), 13);
+        assert_eq!(refused(&lent, &fairness(194, 0xa0, OWN, rate)), 11);
     }
 }
 

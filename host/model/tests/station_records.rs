@@ -44,7 +44,7 @@ fn call(random: &mut Random, station: &mut Station) -> [Option<Event>; 5] {
     let mtu = i128::from(station.settings.mtu as u32);
     let size = random.often_extreme(16, mtu) as u64;
     let class = random.pick(&[Class::A, Class::B, Class::C]).code();
-    let hops = 1 + random.below(63) as u64;
+    let hops = random.between(1, i128::from(station.settings.stations) - 1) as u64;
     let sent = match random.below(6) {
         0 | 1 => {
             calls::offer_client(station, class, size, hops);

@@ -13,7 +13,15 @@ use std::collections::BTreeSet;
 const FILE: &str = include_str!("../cases-station.txt");
 const STARTS: &str = include_str!("../cases-start.txt");
 const PLAIN: &str = "start 0x200 1 0 64 100 300 50 100 300 50 100 300 50 100 300 50 100 300 50 \
-                     256 256 256 128 2 4 10 10000 4 64 64";
+                     256 256 256 128 2 4 10 10000 4 64 64 63";
+
+/// How the lives begin of a steady source and of hops within the ring, in the order of the day.
+const STEADY: &str = "# A steady source of 100 bytes";
+const SIX: &str = "# A ring of six. A station 3 hops away";
+const EDGES: &str = "# Hops on a ring of six";
+const ORDER: &str = "# 13 comes before 4, 5, 6 and 7";
+const HEARD: &str = "# Fairness frames on a ring of six";
+const TWO: &str = "# A ring of two";
 
 fn printed(script: &str) -> Vec<String> {
     let mut run = Script::default();
@@ -34,16 +42,16 @@ fn the_day_reaches_every_refusal_of_every_call() {
     let refusals: [(&str, &[u8]); 9] = [
         ("start", &[1, 2]),
         ("tick", &[3]),
-        ("client", &[3, 5, 7]),
-        ("transit", &[3, 4]),
+        ("client", &[3, 5, 7, 13]),
+        ("transit", &[3, 4, 13]),
         ("control", &[3, 4]),
-        ("hear", &[2, 3, 11]),
+        ("hear", &[2, 3, 11, 13]),
         ("tell", &[2]),
         ("show", &[2]),
         ("age", &[]),
     ];
     for (call, numbers) in refusals {
-        for number in 1..=11 {
+        for number in 1..=13 {
             let line = format!("{call} refused {number}");
             assert_eq!(
                 reached.contains(&line[..]),
@@ -125,12 +133,32 @@ fn the_day_moves_every_word_of_a_reading() {
     assert_eq!(both.len(), 4);
 }
 
+/// The lines of the day from this comment to that one, or to its end.
+fn lives(from: &str, to: &str) -> Vec<String> {
+    let place = |comment: &str| FILE.find(comment).unwrap();
+    let end = if to.is_empty() { FILE.len() } else { place(to) };
+    printed(&FILE[place(from)..end])
+}
+
+/// What these calls answer in the lives from this comment to that one: 0 where one was carried
+/// out, else its refusal.
+fn answers(call: &str, from: &str, to: &str) -> Vec<u8> {
+    let lines = lives(from, to);
+    let answers = lines.iter().filter_map(|line| line.strip_prefix(call));
+    let number = |answer: &str| match answer.strip_prefix(" refused ") {
+        Some(number) => number.split(' ').next().unwrap().parse().unwrap(),
+        None => 0,
+    };
+    answers.map(number).collect()
+}
+
 /// The steady source of 100 comes to stand at 100, from below and from above; then once more
 /// while the station is congested, when localFairRate and own rate are the rate shown.
 #[test]
-fn the_day_ends_with_a_steady_source() {
-    let readings = readings(&printed(FILE));
-    let (free, congested) = readings[readings.len() - 18..].split_at(9);
+fn the_day_has_a_steady_source() {
+    let readings = readings(&lives(STEADY, SIX));
+    assert_eq!(readings.len(), 18);
+    let (free, congested) = readings.split_at(9);
     let rates = [37, 37, 38, 99, 100, 100, 101, 100, 100];
     for (at, rate) in rates.into_iter().enumerate() {
         let expected = [rate, rate, rate, rate, 100_000, 100_000, 65_534, 65_534, 0];
@@ -138,6 +166,61 @@ fn the_day_ends_with_a_steady_source() {
         let expected = [rate, 0, 0, 0, rate, rate, 100_000, rate, 1];
         assert_eq!(congested[at][17..26], expected);
     }
+}
+
+/// "A faulty card told a ring of six that congestion stood forty hops away": it is refused and
+/// changes nothing. What was known before, 3 hops away, is still told on, binds the frames that
+/// go farther, and counts them.
+#[test]
+fn the_day_has_a_night_on_a_ring_of_six() {
+    let lines = lives(SIX, EDGES);
+    let readings = readings(&lines);
+    assert_eq!(readings[1], readings[0]);
+    assert_eq!(readings[1][26..], [1, 253, 0x0200, 0x5e00_0002, 5]);
+    assert_eq!(readings[2][13..17], [81, 40, 40, 20]);
+    let refused = lines.iter().filter(|line| line.contains("refused"));
+    let refusals = ["hear refused 13"; 2]
+        .into_iter()
+        .chain(["client refused 7"; 2]);
+    assert!(refused.eq(refusals));
+    assert!(lines.contains(&"tell fca002005e00000200000005".to_string()));
+}
+
+/// The last hop and one more, in each call that names hops, on rings of six and of two.
+#[test]
+fn the_day_comes_to_the_last_hop() {
+    let edges = |call: &str| answers(call, EDGES, ORDER);
+    let client = [0, 13, 0, 13, 0, 13, 13, 13, 3, 3, 3, 3, 3, 3];
+    assert_eq!(edges("client"), client);
+    let transit = [0, 13, 0, 13, 0, 13, 13, 3, 3, 3, 3, 3, 3];
+    assert_eq!(edges("transit"), transit);
+    assert_eq!(edges("control"), [0, 3]);
+    assert_eq!(answers("transit", ORDER, HEARD), [0, 13, 4]);
+    let client = [13, 6, 0, 13, 5, 13, 7, 0];
+    assert_eq!(answers("client", ORDER, HEARD), client);
+    let heard = [0, 0, 13, 13, 3, 13, 13, 3, 13, 13, 11, 11, 2, 2, 2, 2, 0];
+    let both_ways = [0, 0, 0, 13];
+    assert_eq!(
+        answers("hear", HEARD, TWO),
+        [&heard[..], &both_ways].concat()
+    );
+    assert_eq!(answers("hear", TWO, ""), [0, 13, 13, 13, 11, 0]);
+    assert_eq!(answers("client", TWO, ""), [0, 13, 13, 0]);
+    assert_eq!(answers("transit", TWO, ""), [0, 13]);
+    assert_eq!(answers("control", TWO, ""), [0]);
+}
+
+/// What is told there: at the last hop FULL_RATE, or the own rate where it comes first.
+#[test]
+fn the_day_tells_at_the_last_hop() {
+    let full = "ffa002005e0000010000ffff";
+    let own = "ffa002005e00000100000004";
+    let on = "fba002005e00000200000003";
+    let expected = ["fba002005e00000200000064", full, full, full];
+    let both_ways = [own, own, full, on, on];
+    let lines = lives(HEARD, "");
+    let told = lines.iter().filter_map(|line| line.strip_prefix("tell "));
+    assert!(told.eq([&expected[..], &both_ways, &[full; 2]].concat()));
 }
 
 #[test]

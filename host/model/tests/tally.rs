@@ -18,11 +18,11 @@ fn reached(carried_out: usize) -> Tally {
 
 #[test]
 fn half_of_the_calls_and_every_pair() {
-    assert_eq!(reached(31).calls(), 62);
-    assert_eq!(reached(31).faults(), Vec::<String>::new());
-    assert_eq!(reached(30).faults(), ["only 30 of 61 calls carried out"]);
+    assert_eq!(reached(34).calls(), 68);
+    assert_eq!(reached(34).faults(), Vec::<String>::new());
+    assert_eq!(reached(33).faults(), ["only 33 of 67 calls carried out"]);
     let faults = Tally::new(OF_STATIONS).faults();
-    assert_eq!(faults.len(), 31);
+    assert_eq!(faults.len(), 34);
     assert_eq!(faults[0], "rpr_start: refusal 2 never reached");
 }
 
@@ -31,9 +31,11 @@ fn a_pair_that_is_not_in_the_table() {
     let mut tally = reached(40);
     tally.count("rpr_age", 3, false);
     tally.count("rpr_offer_client", 4, false);
+    tally.count("rpr_offer_control", 13, false);
     let faults = [
         "rpr_age: 3 isn't possible",
         "rpr_offer_client: 4 isn't possible",
+        "rpr_offer_control: 13 isn't possible",
     ];
     assert_eq!(tally.faults(), faults);
 }
@@ -43,7 +45,7 @@ fn a_pair_that_is_not_in_the_table() {
 fn the_table() {
     let all = [OF_RECORDS, OF_RINGS, OF_STATIONS].concat();
     assert_eq!(all.len(), 15);
-    for number in 1..=11 {
+    for number in (1..=11).chain([13]) {
         let given = |pairs: &(&str, &[&str])| pairs.1.contains(&&number.to_string()[..]);
         assert!(all.iter().any(given), "{number}");
     }

@@ -1,11 +1,12 @@
 //! The rest of a station made to fit one word of its settings, so that this word alone
 //! may be out of range.
 
+use super::slots;
 use crate::station::layout::{
     put_word, setting, slot_at, word, Slot, HEAD, HELD, QUEUES, SETTINGS, STAGE,
 };
 use crate::station::queue::SLOTS;
-use crate::station::range::bounds;
+use crate::station::range::{bounds, most_hops};
 
 /// The bytes of a station, one word of which stays as it is.
 struct Fitting<'a> {
@@ -62,13 +63,22 @@ impl Fitting<'_> {
         }
     }
 
+    /// Lowers the hops of frames to the most that the ring has.
+    fn hops(&mut self) {
+        let most = most_hops(setting(self.bytes, 30));
+        for place in slots() {
+            let slot = Slot::of_word(word(self.bytes, place));
+            let hops = slot.hops.min(most);
+            put_word(self.bytes, place, Slot { hops, ..slot }.word());
+        }
+    }
+
     /// Lowers credits to hiLimit, allowed rates to unreservedRate, and stored numbers to
-    /// what lpCoef lets them be.
+    /// what lpCoef lets them be; raises the received ttl to the ring's least.
     fn state(&mut self) {
         for bound in bounds(self.bytes) {
-            if bound.number(self.bytes) > bound.most {
-                bound.put(self.bytes, bound.most);
-            }
+            let number = bound.number(self.bytes);
+            bound.put(self.bytes, number.clamp(bound.least, bound.most));
         }
     }
 }
@@ -77,5 +87,6 @@ pub fn fit(bytes: &mut [u8], kept: usize) {
     let mut fitting = Fitting { bytes, kept };
     fitting.shapers();
     fitting.queues();
+    fitting.hops();
     fitting.state();
 }

@@ -8,10 +8,10 @@ use crate::make_station;
 use crate::random::Random;
 use crate::station::layout::{
     self, fairness_place, number, parts, put_number, put_word, setting, slot_at, word, Slot,
-    ALLOWED, CREDITS, HELD, QUEUES, SETTINGS, STAGE, STORED,
+    ALLOWED, CREDITS, DOWNSTREAM, HELD, QUEUES, RECEIVED_TTL, SETTINGS, STAGE, STORED,
 };
 use crate::station::queue::SLOTS;
-use crate::station::range::{self, bounds, BOUNDS};
+use crate::station::range::{self, bounds, most_hops, BOUNDS};
 use crate::station::settings::{LP_COEFS, WORDS};
 use std::ops::Range;
 
@@ -30,13 +30,18 @@ pub enum Step {
     Bit(usize, usize),
     /// A frame of a queue, or with 3 that of the stage.
     Frame(usize, usize),
+    /// One of them, by where it stands, with one hop more than the ring has.
+    Far(usize, usize),
+    /// Downstream congested or not, and a received ttl.
+    Ttl(usize, usize),
     /// Slots, bytes held, head, count and capacity of a queue.
     Queue(usize, usize),
 }
 
 const BOUND_STEPS: usize = 6;
 const REST_STEPS: usize = 4;
-const FRAME_STEPS: usize = 15;
+const FRAME_STEPS: usize = 16;
+const TTL_STEPS: usize = 5;
 
 /// Bits that a number cut on its way in would lose, as far as it has them.
 const HIGHER: [usize; 8] = [8, 16, 24, 31, 32, 40, 48, 63];
@@ -67,6 +72,11 @@ pub fn every_step() -> Vec<Step> {
     }
     for holder in 0..=QUEUES.len() {
         push(Step::Frame, holder, FRAME_STEPS);
+        let places = if holder == 3 { 1 } else { queue::PLACES };
+        push(Step::Far, holder, places);
+    }
+    for congested in [0, 1] {
+        push(Step::Ttl, congested, TTL_STEPS);
     }
     for queue in 0..QUEUES.len() {
         push(Step::Queue, queue, queue::STEPS);
@@ -88,14 +98,17 @@ pub fn take(random: &mut Random, bytes: &mut [u8], step: Step) {
             put_number(held, number(held) ^ 1 << HIGHER[which]);
         }
         Step::Frame(3, which) => {
-            let slot = match word(bytes, STAGE) {
-                0 => frame(random, bytes),
-                word => Slot::of_word(word),
-            };
-            let changed = change_frame(random, slot, which, setting(bytes, 3));
+            let slot = staged(random, bytes);
+            let changed = change_frame(random, slot, which, bytes);
             put_word(bytes, STAGE, changed.word());
         }
         Step::Frame(queue, which) => queue::change_held(random, bytes, QUEUES[queue], which),
+        Step::Far(3, _) => {
+            let slot = staged(random, bytes);
+            put_word(bytes, STAGE, too_far(slot, bytes).word());
+        }
+        Step::Far(queue, place) => queue::far(random, bytes, queue, place),
+        Step::Ttl(congested, which) => change_ttl(bytes, congested, which),
         Step::Queue(queue, which) => queue::change(random, bytes, queue, which),
     }
 }
@@ -123,6 +136,15 @@ fn change_bound(random: &mut Random, bytes: &mut [u8], at: usize, which: usize) 
     bound.put(bytes, value);
 }
 
+/// The least ttl of the ring and one less, then the ends that every ring had before, and one
+/// past the most.
+fn change_ttl(bytes: &mut [u8], congested: usize, which: usize) {
+    let least = 256 - most_hops(setting(bytes, 30));
+    let ttl = [least, least - 1, 193, 192, 256][which];
+    put_word(bytes, DOWNSTREAM, congested as u64);
+    put_word(bytes, RECEIVED_TTL, ttl);
+}
+
 /// A multiple of lpCoef, one more, one less than the next, or anything between.
 fn change_rest(random: &mut Random, bytes: &mut [u8], at: usize, which: usize) {
     let lp_coef = setting(bytes, 28).max(1);
@@ -143,10 +165,15 @@ fn setting_ends(bytes: &[u8], at: usize) -> Vec<[u32; 2]> {
     let words = std::array::from_fn(|at| setting(bytes, at) as u32);
     let mut ends = make_station::ends(&words, at);
     let fitting = match at {
-        3 => vec![largest_frame(bytes)],
+        3 => vec![largest(bytes, |frame| frame.size)],
         5 | 8 | 11 | 14 | 17 => vec![word(bytes, CREDITS + 4 * (at / 3 - 1))],
         19..=21 => vec![word(bytes, QUEUES[at - 19] + HELD)],
         26 => ALLOWED.map(|at| word(bytes, at)).to_vec(),
+        30 => {
+            let heard = 256_u64.saturating_sub(word(bytes, RECEIVED_TTL));
+            let farthest = largest(bytes, |frame| frame.hops);
+            vec![farthest.max(1) + 1, heard.max(1) + 1]
+        }
         _ => Vec::new(),
     };
     ends.extend(
@@ -169,13 +196,30 @@ fn least_lp_coef(bytes: &[u8]) -> u32 {
     LP_COEFS.into_iter().find(fits).unwrap_or(1_024) as u32
 }
 
-fn largest_frame(bytes: &[u8]) -> u64 {
-    let size = |at: usize| Slot::of_word(word(bytes, at)).size;
-    let slots = |queue: usize| (0..SLOTS).map(move |slot| size(slot_at(queue, slot)));
-    QUEUES
-        .into_iter()
-        .flat_map(slots)
-        .fold(size(STAGE), u64::max)
+/// Where each slot stands, and the stage's word.
+fn slots() -> impl Iterator<Item = usize> {
+    let of_queue = |queue| (0..SLOTS).map(move |slot| slot_at(queue, slot));
+    QUEUES.into_iter().flat_map(of_queue).chain([STAGE])
+}
+
+/// The largest of these fields of all frames.
+fn largest(bytes: &[u8], field: impl Fn(Slot) -> u64) -> u64 {
+    let fields = slots().map(|at| field(Slot::of_word(word(bytes, at))));
+    fields.fold(0, u64::max)
+}
+
+/// The stage's frame, or one that comes there.
+fn staged(random: &mut Random, bytes: &[u8]) -> Slot {
+    match word(bytes, STAGE) {
+        0 => frame(random, bytes),
+        word => Slot::of_word(word),
+    }
+}
+
+/// The frame with one hop more than the ring has, as far as a slot holds them.
+fn too_far(slot: Slot, bytes: &[u8]) -> Slot {
+    let hops = (most_hops(setting(bytes, 30)) + 1).min(63);
+    Slot { hops, ..slot }
 }
 
 /// A frame in range, wherever its class belongs.
@@ -184,7 +228,7 @@ fn frame(random: &mut Random, bytes: &[u8]) -> Slot {
     let class = random.below(3) as u64;
     Slot {
         size: random.often_extreme(16, mtu) as u64,
-        hops: random.often_extreme(1, 63) as u64,
+        hops: random.often_extreme(1, i128::from(most_hops(setting(bytes, 30)))) as u64,
         class,
         mark: if class == 0 {
             0
@@ -196,15 +240,13 @@ fn frame(random: &mut Random, bytes: &[u8]) -> Slot {
 }
 
 /// A field at an end of its range or past it.
-fn change_frame(random: &mut Random, slot: Slot, which: usize, mtu: u64) -> Slot {
+fn change_frame(random: &mut Random, slot: Slot, which: usize, bytes: &[u8]) -> Slot {
+    let mtu = setting(bytes, 3);
     let sized = |size: u64| Slot {
         size: size & 0x3fff,
         ..slot
     };
-    let far = |hops: usize| Slot {
-        hops: hops as u64,
-        ..slot
-    };
+    let far = |hops: u64| Slot { hops, ..slot };
     let coded = |class, mark| Slot {
         class,
         mark,
@@ -217,8 +259,8 @@ fn change_frame(random: &mut Random, slot: Slot, which: usize, mtu: u64) -> Slot
         3 => sized(mtu.wrapping_add(1)),
         4 => far(0),
         5 => far(1),
-        6 => far(63),
-        7 => far(1 + random.below(63)),
+        6 => far(most_hops(setting(bytes, 30))),
+        7 => far(1 + random.below(63) as u64),
         8 => coded(0, 0),
         9 => coded(0, 1),
         10 => coded(1, 1),
@@ -228,10 +270,12 @@ fn change_frame(random: &mut Random, slot: Slot, which: usize, mtu: u64) -> Slot
             rest: 1 << random.below(9),
             ..slot
         },
-        _ => Slot {
+        14 => Slot {
             mark: 1 - slot.mark,
             ..slot
         },
+        // The most hops that a slot holds, more than any ring has.
+        _ => far(63),
     }
 }
 

@@ -1,6 +1,6 @@
 //! Damage to a queue: its frames, empty slots, bytes held, head, count and capacity.
 
-use super::{change_frame, fit, frame};
+use super::{change_frame, fit, frame, too_far};
 use crate::random::Random;
 use crate::station::layout::{
     put_word, setting, slot_at, word, Slot, COUNT, HEAD, HELD, QUEUES, SETTINGS,
@@ -9,6 +9,9 @@ use crate::station::queue::SLOTS;
 
 /// How many changes `change` knows.
 pub const STEPS: usize = 22;
+
+/// How many places `far` knows.
+pub const PLACES: usize = 5;
 
 /// The largest capacity.
 const MOST_HELD: u64 = 1_048_576;
@@ -27,7 +30,7 @@ pub fn change_held(random: &mut Random, bytes: &mut [u8], at: usize, which: usiz
     let (head, count) = ends_of(bytes, at);
     let place = slot_at(at, head + random.below(count));
     let slot = Slot::of_word(word(bytes, place));
-    let changed = change_frame(random, slot, which, setting(bytes, 3));
+    let changed = change_frame(random, slot, which, bytes);
     put_word(bytes, place, changed.word());
     let held = word(bytes, at + HELD) + changed.size;
     put_word(bytes, at + HELD, held.wrapping_sub(slot.size));
@@ -49,22 +52,53 @@ fn refill(random: &mut Random, bytes: &mut [u8], at: usize, count: usize) -> u64
     sum
 }
 
+/// Sizes, as even as can be, that make the queue's frames hold so much.
+fn spread(bytes: &mut [u8], at: usize, held: u64) {
+    let (head, count) = ends_of(bytes, at);
+    let frames = count as u64;
+    for behind in 0..count {
+        let place = slot_at(at, head + behind);
+        let size = held / frames + u64::from((behind as u64) < held % frames);
+        let slot = Slot::of_word(word(bytes, place));
+        put_word(bytes, place, Slot { size, ..slot }.word());
+    }
+    put_word(bytes, at + HELD, held);
+}
+
+/// One frame gets a hop more than the ring has: the first, one in the middle, the last, the
+/// last of 128, the one in slot 127. Where the queue has too few frames small ones come in
+/// their place, and space for them.
+pub fn far(random: &mut Random, bytes: &mut [u8], queue: usize, place: usize) {
+    let at = QUEUES[queue];
+    let needed = if place < 3 { 3 } else { SLOTS };
+    if ends_of(bytes, at).1 < needed {
+        let held = 16 * needed as u64;
+        refill(random, bytes, at, needed);
+        spread(bytes, at, held);
+        let capacity = setting(bytes, 19 + queue).max(held);
+        put_word(bytes, SETTINGS + 4 * (19 + queue), capacity);
+    }
+    let (head, count) = ends_of(bytes, at);
+    let behind = match place {
+        0 => 0,
+        1 => 1 + random.below(count - 2),
+        4 => SLOTS - 1 - head,
+        _ => count - 1,
+    };
+    let place = slot_at(at, head + behind);
+    let slot = too_far(Slot::of_word(word(bytes, place)), bytes);
+    put_word(bytes, place, slot.word());
+}
+
 /// The largest capacity, with so many bytes held.
 fn brim(random: &mut Random, bytes: &mut [u8], queue: usize, held: u64) {
     let at = QUEUES[queue];
     put_word(bytes, SETTINGS + 4 * 3, 9_216);
     fit::fit(bytes, 3);
     put_word(bytes, SETTINGS + 4 * (19 + queue), MOST_HELD);
-    let count = random.between(114, SLOTS as i128) as u64;
-    refill(random, bytes, at, count as usize);
-    let (head, _) = ends_of(bytes, at);
-    for behind in 0..count {
-        let place = slot_at(at, head + behind as usize);
-        let size = held / count + u64::from(behind < held % count);
-        let slot = Slot::of_word(word(bytes, place));
-        put_word(bytes, place, Slot { size, ..slot }.word());
-    }
-    put_word(bytes, at + HELD, held);
+    let count = random.between(114, SLOTS as i128) as usize;
+    refill(random, bytes, at, count);
+    spread(bytes, at, held);
 }
 
 /// All slots moved on, the head with them: the same queue elsewhere.

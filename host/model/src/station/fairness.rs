@@ -1,5 +1,6 @@
 //! The fairness frame, and what a station advertises.
 
+use super::frames::within_ring;
 use super::settings::Address;
 use super::Station;
 use crate::refusal::Refusal;
@@ -25,6 +26,11 @@ impl Received {
         address: [0; 6],
         rate: 0,
     };
+
+    /// "hopsToCongestion = 256 − ttl."
+    pub fn hops(self) -> u64 {
+        256 - self.ttl
+    }
 }
 
 /// "ttl; base (bit 7 ringlet, bits 5 to 4 frame type, 2 = fairness); address 6; header
@@ -68,9 +74,11 @@ fn read(own_ringlet: u64, bytes: &[u8]) -> Result<Received, Refusal> {
 
 impl Station {
     /// "A rate of 65,535 clears downstream congestion, others set it." "11 | a fairness
-    /// frame bears this station's own address".
+    /// frame bears this station's own address"; "13, right after 3 and before 11", "a
+    /// FULL_RATE frame too".
     pub fn read_frame(&mut self, bytes: &[u8]) -> Result<(), Refusal> {
         let frame = read(self.settings.ringlet, bytes)?;
+        within_ring(frame.hops(), self.settings.stations)?;
         if frame.address == self.settings.address {
             return Err(Refusal::OwnAddress);
         }
@@ -93,13 +101,14 @@ impl Station {
 
     /// "Advertise 65,535 (FULL_RATE) when not congested either way; own rate when only
     /// locally congested, or both and own ≤ received; else the received rate, its
-    /// address, ttl less 1, but FULL_RATE if its ttl was 193."
+    /// address, ttl less 1"; "FULL_RATE, where it said ttl 193, when the received hops are
+    /// the number of stations less 1."
     pub fn advertised(&self) -> Received {
         match (self.locally_congested, self.downstream_congested) {
             (false, false) => self.own_frame(FULL_RATE),
             (true, false) => self.own_frame(self.own_rate),
             (true, true) if self.own_rate <= self.received.rate => self.own_frame(self.own_rate),
-            _ if self.received.ttl == 193 => self.own_frame(FULL_RATE),
+            _ if self.received.hops() == self.settings.stations - 1 => self.own_frame(FULL_RATE),
             _ => Received {
                 ttl: self.received.ttl - 1,
                 ..self.received

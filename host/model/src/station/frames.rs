@@ -1,5 +1,6 @@
 //! Frames and their ranges.
 
+use super::settings::Settings;
 use crate::refusal::Refusal;
 
 #[derive(Clone, Copy, Debug, PartialEq, Eq)]
@@ -46,17 +47,26 @@ pub fn yes(code: u64) -> Result<bool, Refusal> {
     }
 }
 
+/// "A fairness frame, a transit frame or a client frame whose hops reach the number of
+/// stations or more is turned down".
+pub fn within_ring(hops: u64, stations: u64) -> Result<(), Refusal> {
+    match hops < stations {
+        true => Ok(()),
+        false => Err(Refusal::Hops),
+    }
+}
+
 impl Frame {
     /// "frame size 16 to mtu; hops 1 to 63; class A, B or C; only B and C may be marked
-    /// fairness eligible."
-    pub fn checked(self, mtu: u64) -> Result<Frame, Refusal> {
-        let good = (16..=mtu).contains(&self.size)
+    /// fairness eligible." "new number 13, right after 3": the ring comes behind all of these.
+    pub fn checked(self, settings: &Settings) -> Result<Frame, Refusal> {
+        let good = (16..=settings.mtu).contains(&self.size)
             && (1..=63).contains(&self.hops)
             && !(self.class == Class::A && self.eligible);
-        if good {
-            Ok(self)
-        } else {
-            Err(Refusal::Range)
+        if !good {
+            return Err(Refusal::Range);
         }
+        within_ring(self.hops, settings.stations)?;
+        Ok(self)
     }
 }

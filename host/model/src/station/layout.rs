@@ -13,7 +13,7 @@ use super::{range, reading, settings, Station};
 use crate::refusal::Refusal;
 use std::ops::Range;
 
-pub const STATION_LENGTH: usize = 1_786;
+pub const STATION_LENGTH: usize = 1_790;
 
 /// "0 | 20 | the credits of M, A, B, C, D, 4 bytes each"
 pub const CREDITS: usize = 0;
@@ -23,7 +23,7 @@ pub const QUEUES: [usize; 3] = [20, 538, 1_056];
 pub const STAGE: usize = 1_574;
 /// "1578 | 88 | the fairness state: four parts"
 pub const FAIRNESS: usize = 1_578;
-/// "1666 | 120 | the settings: the 30 words that a host gives to `rpr_start`"
+/// "1666 | 124 | the settings: the 31 words that a host gives to `rpr_start`"
 pub const SETTINGS: usize = 1_666;
 
 /// Within a queue: "512 | 4 | bytes held: the sum of the sizes"
@@ -42,6 +42,10 @@ pub const FAIRNESS_NUMBERS: usize = 18;
 pub const STORED: Range<usize> = 4..8;
 /// "52 | 4 | allowedRate"; "56 | 4 | allowedRateCongested"
 pub const ALLOWED: [usize; 2] = [FAIRNESS + 52, FAIRNESS + 56];
+/// "68 | 4 | downstream congested: 1 or 0"
+pub const DOWNSTREAM: usize = FAIRNESS + 68;
+/// "72 | 4 | received ttl"
+pub const RECEIVED_TTL: usize = FAIRNESS + 72;
 
 /// Where a number of the fairness state stands.
 pub fn fairness_place(number: usize) -> Range<usize> {

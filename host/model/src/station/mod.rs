@@ -102,9 +102,8 @@ impl Station {
         self.settings.c.amount.min(self.allowed_rate / ticks)
     }
 
-    /// "downstream congested and hops > hopsToCongestion"; "hopsToCongestion = 256 −
-    /// ttl".
+    /// "downstream congested and hops > hopsToCongestion".
     pub fn passes_congestion(&self, hops: u64) -> bool {
-        self.downstream_congested && hops > 256 - self.received.ttl
+        self.downstream_congested && hops > self.received.hops()
     }
 }

@@ -7,7 +7,7 @@ use crate::refusal::Refusal;
 impl Station {
     /// "Transit A goes to the primary queue, B and C to the secondary."
     pub fn offer_transit(&mut self, frame: Frame) -> Result<(), Refusal> {
-        let frame = frame.checked(self.settings.mtu)?;
+        let frame = frame.checked(&self.settings)?;
         match frame.class {
             Class::A => self.primary.put(frame),
             Class::B | Class::C => self.secondary.put(frame),
@@ -22,7 +22,7 @@ impl Station {
             hops: 1,
             eligible: false,
         };
-        self.control.put(frame.checked(self.settings.mtu)?)
+        self.control.put(frame.checked(&self.settings)?)
     }
 
     /// "a client gives no mark. The stage holds one client frame." The mark that the
@@ -35,7 +35,7 @@ impl Station {
             hops,
             eligible,
         };
-        let frame = frame.checked(self.settings.mtu)?;
+        let frame = frame.checked(&self.settings)?;
         if self.stage.is_some() {
             return Err(Refusal::Stage);
         }

@@ -4,15 +4,17 @@
 //! sum, at most the capacity) are, credits are 0 to hiLimit, own and received rates at
 //! most 65,534, other rates at most 2,147,483,647, allowed rates at most unreservedRate
 //! and a received ttl 193 to 255"; "A lent station's range binds the rate shown, not s
-//! itself." Codes are in range where they stand for something: a class A, B or C, yes or
-//! no 1 or 0, an address of six bytes.
+//! itself."; "a lent station holding such hops", in a frame or by a received ttl, congested
+//! downstream or not, "is 1." Codes are in range where they stand for something: a class A, B
+//! or C, yes or no 1 or 0, an address of six bytes.
 
 use super::layout::{
     self, number, put_number, setting, slot_at, word, Slot, COUNT, CREDITS, FAIRNESS_IN_READING,
     FAIRNESS_NUMBERS, HEAD, HELD, QUEUES, QUEUE_NAMES, STAGE, STATION_LENGTH, STORED,
 };
 use super::queue::SLOTS;
-use super::{reading, settings, MOST_RATE};
+use super::settings::{self, LEAST_STATIONS, MOST_STATIONS};
+use super::{reading, MOST_RATE};
 use std::ops::Range;
 
 /// A number of the state that has a range, and the range, which may depend on settings.
@@ -33,15 +35,32 @@ impl Bound {
         put_number(&mut bytes[self.place.clone()], number);
     }
 
-    fn holds(&self, bytes: &[u8]) -> bool {
-        (self.least..=self.most).contains(&self.number(bytes))
+    /// Every name that `fault` may give: its own, or where it has a least number that of a
+    /// side; none where all that its bytes can hold is in range.
+    fn faults(&self) -> Vec<String> {
+        let largest = u64::MAX >> (64 - 8 * self.place.len());
+        match self.least {
+            0 if self.most == largest => Vec::new(),
+            0 => vec![self.name.to_string()],
+            _ => SIDES.map(|side| format!("{} {side}", self.name)).to_vec(),
+        }
     }
 
-    /// Its bytes can hold a number that is too large.
-    fn may_break(&self) -> bool {
-        self.most < u64::MAX >> (64 - 8 * self.place.len())
+    /// What is wrong with the number that stands there.
+    fn fault(&self, bytes: &[u8]) -> Option<String> {
+        let number = self.number(bytes);
+        if (self.least..=self.most).contains(&number) {
+            return None;
+        }
+        let faults = self.faults();
+        match number < self.least {
+            true => faults.first().cloned(),
+            false => faults.last().cloned(),
+        }
     }
 }
+
+const SIDES: [&str; 2] = ["below", "above"];
 
 /// The five credits and the 18 numbers of the fairness state.
 pub const BOUNDS: usize = 5 + FAIRNESS_NUMBERS;
@@ -52,8 +71,18 @@ pub fn most_stored(lp_coef: u64) -> u64 {
     (lp_coef * (MOST_RATE + 1)).saturating_sub(1)
 }
 
+/// "hops 1 to 63", and not such as "reach the number of stations or more". A number of
+/// stations that is out of range itself binds no hops.
+pub fn most_hops(stations: u64) -> u64 {
+    match (LEAST_STATIONS..=MOST_STATIONS).contains(&stations) {
+        true => stations - 1,
+        false => 63,
+    }
+}
+
 /// The ranges of the fairness state's numbers, in their order.
-fn fairness_ranges(unreserved: u64, lp_coef: u64) -> [(u64, u64); FAIRNESS_NUMBERS] {
+fn fairness_ranges(bytes: &[u8]) -> [(u64, u64); FAIRNESS_NUMBERS] {
+    let [unreserved, lp_coef, stations] = [26, 28, 30].map(|at| setting(bytes, at));
     let rate = (0, MOST_RATE);
     let mut ranges = [rate; FAIRNESS_NUMBERS];
     ranges[STORED].fill((0, most_stored(lp_coef)));
@@ -66,8 +95,8 @@ fn fairness_ranges(unreserved: u64, lp_coef: u64) -> [(u64, u64); FAIRNESS_NUMBE
     // "Yes or no: 1 or 0."
     ranges[12] = (0, 1);
     ranges[13] = (0, 1);
-    // "a received ttl 193 to 255"
-    ranges[14] = (193, 255);
+    // "a received ttl 193 to 255", from no farther than the most hops.
+    ranges[14] = (256 - most_hops(stations), 255);
     // An address has its high 16 and its low 32 bits.
     ranges[15] = (0, 65_535);
     ranges[16] = (0, 0xffff_ffff);
@@ -84,15 +113,12 @@ pub fn place(at: usize) -> Range<usize> {
 }
 
 pub fn bounds(bytes: &[u8]) -> [Bound; BOUNDS] {
-    let ranges = fairness_ranges(setting(bytes, 26), setting(bytes, 28));
+    let ranges = fairness_ranges(bytes);
     std::array::from_fn(|at| {
         let (name, (least, most)) = match at {
             // "credits are 0 to hiLimit"
             0..=4 => (reading::NAMES[at], (0, setting(bytes, 5 + 3 * at))),
-            _ => (
-                reading::NAMES[FAIRNESS_IN_READING + at - 5],
-                ranges[at - 5],
-            ),
+            _ => (reading::NAMES[FAIRNESS_IN_READING + at - 5], ranges[at - 5]),
         };
         Bound {
             name,
@@ -103,14 +129,23 @@ pub fn bounds(bytes: &[u8]) -> [Bound; BOUNDS] {
     })
 }
 
-const FRAME_FAULTS: [&str; 5] = ["size", "hops", "class", "mark", "high bits"];
+const FRAME_FAULTS: [&str; 6] = [
+    "size",
+    "hops below",
+    "hops above",
+    "class",
+    "mark",
+    "high bits",
+];
 
 /// "frame size 16 to mtu; hops 1 to 63; class A, B or C; only B and C may be marked
-/// fairness eligible." And "23 to 31 | 0".
-fn frame_faults(slot: Slot, mtu: u64) -> [bool; 5] {
+/// fairness eligible." And "23 to 31 | 0". The settings are those of these bytes.
+fn frame_faults(slot: Slot, bytes: &[u8]) -> [bool; 6] {
+    let [mtu, stations] = [3, 30].map(|at| setting(bytes, at));
     [
         !(16..=mtu).contains(&slot.size),
-        !(1..=63).contains(&slot.hops),
+        slot.hops < 1,
+        slot.hops > most_hops(stations),
         slot.class > 2,
         slot.class == 0 && slot.mark != 0,
         slot.rest != 0,
@@ -131,13 +166,12 @@ fn queue_faults(bytes: &[u8], at: usize, capacity: u64) -> Vec<&'static str> {
             .map(|wrong| wrong.1)
             .collect();
     }
-    let mtu = setting(bytes, 3);
     let slot = |behind: usize| word(bytes, slot_at(at, head + behind));
-    let (mut sum, mut frames_wrong) = (0, [false; 5]);
+    let (mut sum, mut frames_wrong) = (0, [false; 6]);
     for behind in 0..count {
         let slot = Slot::of_word(slot(behind));
         sum += slot.size;
-        let wrong = frame_faults(slot, mtu);
+        let wrong = frame_faults(slot, bytes);
         frames_wrong = std::array::from_fn(|at| frames_wrong[at] || wrong[at]);
     }
     // "A slot that holds no frame is 0."
@@ -154,13 +188,10 @@ fn queue_faults(bytes: &[u8], at: usize, capacity: u64) -> Vec<&'static str> {
         .collect()
 }
 
-/// What is out of range in these 1,786 bytes, by name.
+/// What is out of range in these 1,790 bytes, by name.
 pub fn faults(bytes: &[u8]) -> Vec<String> {
     let mut faults = settings::faults(&std::array::from_fn(|at| setting(bytes, at)));
-    let wrong = bounds(bytes)
-        .into_iter()
-        .filter(|bound| !bound.holds(bytes));
-    faults.extend(wrong.map(|bound| bound.name.to_string()));
+    faults.extend(bounds(bytes).iter().filter_map(|bound| bound.fault(bytes)));
     for (queue, at) in QUEUES.into_iter().enumerate() {
         let wrong = queue_faults(bytes, at, setting(bytes, 19 + queue));
         let name = QUEUE_NAMES[queue];
@@ -168,7 +199,7 @@ pub fn faults(bytes: &[u8]) -> Vec<String> {
     }
     let stage = word(bytes, STAGE);
     if stage != 0 {
-        let wrong = frame_faults(Slot::of_word(stage), setting(bytes, 3));
+        let wrong = frame_faults(Slot::of_word(stage), bytes);
         let named = FRAME_FAULTS.iter().zip(wrong).filter(|(_, wrong)| *wrong);
         faults.extend(named.map(|(name, _)| format!("stage {name}")));
     }
@@ -179,8 +210,7 @@ pub fn faults(bytes: &[u8]) -> Vec<String> {
 pub fn every_fault() -> Vec<String> {
     let mut names = settings::every_fault();
     let bounds = bounds(&[0; STATION_LENGTH]);
-    let ranged = bounds.iter().filter(|bound| bound.may_break());
-    names.extend(ranged.map(|bound| bound.name.to_string()));
+    names.extend(bounds.iter().flat_map(Bound::faults));
     for queue in QUEUE_NAMES {
         let both = FRAME_FAULTS.iter().chain(&QUEUE_FAULTS);
         names.extend(both.map(|fault| format!("{queue} {fault}")));
@@ -189,7 +219,7 @@ pub fn every_fault() -> Vec<String> {
     names
 }
 
-/// Whether 1,786 bytes hold a station in range.
+/// Whether 1,790 bytes hold a station in range.
 pub fn in_range(bytes: &[u8]) -> bool {
     faults(bytes).is_empty()
 }

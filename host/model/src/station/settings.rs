@@ -2,8 +2,8 @@
 
 use crate::refusal::Refusal;
 
-/// "Settings: 30 words of 4 bytes"
-pub const WORDS: usize = 30;
+/// "Settings: 30 words of 4 bytes"; "Requests append words": "30 (A5) | number of stations"
+pub const WORDS: usize = 31;
 pub const SETTINGS_LENGTH: usize = 4 * WORDS;
 
 pub const NAMES: [&str; WORDS] = [
@@ -37,6 +37,7 @@ pub const NAMES: [&str; WORDS] = [
     "ageCoef",
     "lpCoef",
     "rampUp",
+    "stations",
 ];
 
 #[derive(Clone, Copy, Debug, PartialEq, Eq)]
@@ -67,6 +68,7 @@ pub struct Settings {
     pub age_coef: u64,
     pub lp_coef: u64,
     pub ramp_up: u64,
+    pub stations: u64,
 }
 
 /// Six bytes, the first the highest.
@@ -101,8 +103,14 @@ fn ranges(words: &[u64; WORDS]) -> [(u64, u64); WORDS] {
     ranges[24] = (1, 1_024);
     ranges[25] = (1, 10_000);
     ranges[26] = (1, 2_147_483_647);
+    // "A station's settings gain the number of stations, 2 to 63."
+    ranges[30] = (LEAST_STATIONS, MOST_STATIONS);
     ranges
 }
+
+/// "the number of stations, 2 to 63"
+pub const LEAST_STATIONS: u64 = 2;
+pub const MOST_STATIONS: u64 = 63;
 
 /// "lpCoef and rampUp 16, 32, 64, 128, 256 or 512"
 pub const LP_COEFS: [u64; 6] = [16, 32, 64, 128, 256, 512];
@@ -191,6 +199,7 @@ fn from_words(words: &[u64; WORDS]) -> Settings {
         age_coef: words[27],
         lp_coef: words[28],
         ramp_up: words[29],
+        stations: words[30],
     }
 }
 
@@ -224,6 +233,7 @@ impl Settings {
             self.age_coef,
             self.lp_coef,
             self.ramp_up,
+            self.stations,
         ]);
         words
     }

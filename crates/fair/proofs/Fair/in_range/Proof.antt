@@ -26,7 +26,7 @@ returns c = let decided = c .before in
     let smoothed = decided .before in
     let f = smoothed .before .before .args .self in
     let s = smoothed .before .before .args .settings in
-    rw (c .in-range4 .ensures, decided .in-range3 .ensures, smoothed .in-range2 .ensures, smoothed .before .in-range .ensures) (chain (fourOk (f .counters)) (storedOk (s .fairness .lp) (f .smoothed) ∷ decidedOk s (f .decided) ∷ receivedOk (f .received) ∷ []))
+    rw (c .in-range4 .ensures, decided .in-range3 .ensures, smoothed .in-range2 .ensures, smoothed .before .in-range .ensures) (chain (fourOk (f .counters)) (storedOk (s .fairness .lp) (f .smoothed) ∷ decidedOk s (f .decided) ∷ receivedOk (s .site .stations) (f .received) ∷ []))
 
 pub in-range-spec : {M : Type 1} → statement M
 in-range-spec = tie.close (tie.spec in-range-requires in-range-requires-2 in-range-requires-3 in-range-requires-4 returns)

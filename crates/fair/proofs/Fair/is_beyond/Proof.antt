@@ -6,15 +6,12 @@ use borrow.Author.Needs.{needs}
 use Rattle.fair.proofs.Fair.is_beyond.Statement.{statement}
 use Rattle.fair.proofs.Fair.is_beyond.Tie as tie
 
-cast-less : tie.Need-cast-less
-cast-less c = search needs
-
-less-requires : tie.Need-less-requires
-less-requires c κs = search needs
+hops-of-requires : tie.Need-hops-of-requires
+hops-of-requires c κs = search needs
 
 returns : tie.Need-returns
 unfolding test
-returns c = rw (c .less .ensures) refl
+returns c = rw (c .hops-of .ensures) refl
 
 pub is-beyond-spec : {M : Type 1} → statement M
-is-beyond-spec = tie.close (tie.spec cast-less less-requires returns)
+is-beyond-spec = tie.close (tie.spec hops-of-requires returns)

@@ -1,4 +1,4 @@
--- `settings::Site::in_range` meets its contract. No setting is there to be out of range.
+-- `settings::Site::in_range` meets its contract. The code is the test, comparison for comparison.
 -- Assumes nothing.
 use mathlib.Core.Path.{refl}
 use Rattle.decide.specs.Test.{test}

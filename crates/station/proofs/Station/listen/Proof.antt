@@ -2,9 +2,10 @@
 -- Assumes nothing.
 use mathlib.Core.Path.{sym, _∙_}
 use Rattle.decide.specs.Test.{left, taken}
-use Rattle.heard.specs.Range.{ttlOk}
+use Rattle.decide.specs.Hops.{inRing}
+use Rattle.heard.specs.Range.{ttlOk, hopsOf}
 use Rattle.station.specs.Range.{stationOk}
-use Rattle.station.proofs.Hear.{listen-own, listen-lost, listen-far, listen-self, listen-done}
+use Rattle.station.proofs.Hear.{listen-own, listen-lost, listen-far, listen-beyond, listen-self, listen-done}
 use borrow.Author.Needs.{needs}
 use Rattle.station.proofs.Station.listen.Statement.{statement}
 use Rattle.station.proofs.Station.listen.Tie as tie
@@ -42,16 +43,33 @@ returns-3 c = let x = c .before .before .before .before .before .before .before 
     let st = x .self in
     c .refused3 .ensures ∙ sym (listen-far st (x .said) (sym (c .before .before .before .before .before .before .is-own-ringlet .ensures) ∙ c .before .before .before .before .before .if1 .left) (left (stationOk st) (c .before .before .before .before .before .before .before .pre) (c .before .before .before .before .if2 .left)) (taken (ttlOk (x .said .ttl)) (c .before .before .ttl-ok .ensures) (c .before .if3 .taken)))
 
-is-own-address-requires : tie.Need-is-own-address-requires
-is-own-address-requires c κs = search needs
+cast-ttl-in-ring : tie.Need-cast-ttl-in-ring
+cast-ttl-in-ring c = search needs
+
+ttl-in-ring-requires : tie.Need-ttl-in-ring-requires
+ttl-in-ring-requires c κs = search needs
 
 refused-requires-4 : tie.Need-refused-requires-4
 refused-requires-4 c κs = search needs
 
 returns-4 : tie.Need-returns-4
-returns-4 c = let x = c .before .before .before .before .before .before .before .before .before .args in
+returns-4 c = let near = c .before .before .before .before in
+    let x = near .before .before .before .before .before .before .args in
     let st = x .self in
-    c .refused4 .ensures ∙ sym (listen-self st (x .said) (sym (c .before .before .before .before .before .before .before .before .is-own-ringlet .ensures) ∙ c .before .before .before .before .before .before .before .if1 .left) (left (stationOk st) (c .before .before .before .before .before .before .before .before .before .pre) (c .before .before .before .before .before .before .if2 .left)) (left (ttlOk (x .said .ttl)) (c .before .before .before .before .ttl-ok .ensures) (c .before .before .before .if3 .left)) (sym (c .before .before .is-own-address .ensures) ∙ c .before .if4 .taken))
+    c .refused4 .ensures ∙ sym (listen-beyond st (x .said) (sym (near .before .before .before .before .before .is-own-ringlet .ensures) ∙ near .before .before .before .before .if1 .left) (left (stationOk st) (near .before .before .before .before .before .before .pre) (near .before .before .before .if2 .left)) (left (ttlOk (x .said .ttl)) (near .before .ttl-ok .ensures) (near .if3 .left)) (taken (inRing (st .settings .site .stations) (hopsOf (x .said .ttl))) (c .before .before .ttl-in-ring .ensures) (c .before .if4 .taken)))
+
+is-own-address-requires : tie.Need-is-own-address-requires
+is-own-address-requires c κs = search needs
+
+refused-requires-5 : tie.Need-refused-requires-5
+refused-requires-5 c κs = search needs
+
+returns-5 : tie.Need-returns-5
+returns-5 c = let within = c .before .before .before in
+    let near = within .before .before .before in
+    let x = near .before .before .before .before .before .before .args in
+    let st = x .self in
+    c .refused5 .ensures ∙ sym (listen-self st (x .said) (sym (near .before .before .before .before .before .is-own-ringlet .ensures) ∙ near .before .before .before .before .if1 .left) (left (stationOk st) (near .before .before .before .before .before .before .pre) (near .before .before .before .if2 .left)) (left (ttlOk (x .said .ttl)) (near .before .ttl-ok .ensures) (near .if3 .left)) (left (inRing (st .settings .site .stations) (hopsOf (x .said .ttl))) (within .before .ttl-in-ring .ensures) (within .if4 .left)) (sym (c .before .before .is-own-address .ensures) ∙ c .before .if5 .taken))
 
 changed-requires : tie.Need-changed-requires
 changed-requires c κs = search needs
@@ -59,11 +77,14 @@ changed-requires c κs = search needs
 done-requires : tie.Need-done-requires
 done-requires c κs = search needs
 
-returns-5 : tie.Need-returns-5
-returns-5 c = let x = c .before .before .before .before .before .before .before .before .before .before .args in
+returns-6 : tie.Need-returns-6
+returns-6 c = let other = c .before .before in
+    let within = other .before .before in
+    let near = within .before .before .before in
+    let x = near .before .before .before .before .before .before .args in
     let st = x .self in
     c .done .ensures
-    ∙ rw (c .before .changed .ensures) (sym (listen-done st (x .said) (sym (c .before .before .before .before .before .before .before .before .before .is-own-ringlet .ensures) ∙ c .before .before .before .before .before .before .before .before .if1 .left) (left (stationOk st) (c .before .before .before .before .before .before .before .before .before .before .pre) (c .before .before .before .before .before .before .before .if2 .left)) (left (ttlOk (x .said .ttl)) (c .before .before .before .before .before .ttl-ok .ensures) (c .before .before .before .before .if3 .left)) (sym (c .before .before .before .is-own-address .ensures) ∙ c .before .before .if4 .left)))
+    ∙ rw (c .before .changed .ensures) (sym (listen-done st (x .said) (sym (near .before .before .before .before .before .is-own-ringlet .ensures) ∙ near .before .before .before .before .if1 .left) (left (stationOk st) (near .before .before .before .before .before .before .pre) (near .before .before .before .if2 .left)) (left (ttlOk (x .said .ttl)) (near .before .ttl-ok .ensures) (near .if3 .left)) (left (inRing (st .settings .site .stations) (hopsOf (x .said .ttl))) (within .before .ttl-in-ring .ensures) (within .if4 .left)) (sym (other .before .is-own-address .ensures) ∙ other .if5 .left)))
 
 pub listen-spec : {M : Type 1} → statement M
 listen-spec =
@@ -78,9 +99,13 @@ listen-spec =
     ttl-ok-requires
     refused-requires-3
     returns-3
-    is-own-address-requires
+    cast-ttl-in-ring
+    ttl-in-ring-requires
     refused-requires-4
     returns-4
+    is-own-address-requires
+    refused-requires-5
+    returns-5
     changed-requires
     done-requires
-    returns-5)
+    returns-6)

@@ -3,11 +3,12 @@
 use mathlib.Core.Bool.{true, false}
 use mathlib.Core.Path.{_≡_, sym, ap, _∙_}
 use Rattle.decide.specs.Test.{test, left, taken}
+use Rattle.decide.specs.Hops.{inRing}
 use Rattle.queue.specs.Frame.{frameOk}
 use Rattle.flow.specs.Parts.{boundsOf}
 use Rattle.station.specs.Range.{stationOk}
 use Rattle.station.specs.Offers.{clientFor}
-use Rattle.station.proofs.Offers.{cut-tested, cut-given, client-lost, client-coded, client-staged}
+use Rattle.station.proofs.Offers.{cut-tested, cut-given, cut-ringed, client-lost, client-coded, client-beyond, client-staged}
 use borrow.Author.Needs.{needs}
 use Rattle.station.proofs.Station.offer_client_known.Statement.{statement}
 use Rattle.station.proofs.Station.offer_client_known.Tie as tie
@@ -43,16 +44,33 @@ returns-2 c = let q = c .before .before .before in
     let st = x .self in
     c .turned-down2 .ensures ∙ sym (client-coded st (x .class) (x .size) (x .hops) (in-range q) (cut-tested st (in-range q) (x .class) (x .size) (x .hops) 0 (q .frame-of .result) (q .frame-of .ensures) false (taken (frameOk (boundsOf (st .settings)) (q .frame-of .result)) (c .before .before .frame-ok .ensures) (c .before .if2 .taken))))
 
+in-ring-requires : tie.Need-in-ring-requires
+in-ring-requires c κs = search needs
+
+turned-down-requires-3 : tie.Need-turned-down-requires-3
+turned-down-requires-3 c κs = search needs
+
+returns-3 : tie.Need-returns-3
+returns-3 c = let p = c .before .before .before in
+    let q = p .before .before in
+    let x = q .before .before .args in
+    let st = x .self in
+    c .turned-down3 .ensures
+    ∙ sym (client-beyond st (x .class) (x .size) (x .hops) (in-range q) (cut-tested st (in-range q) (x .class) (x .size) (x .hops) 0 (q .frame-of .result) (q .frame-of .ensures) true (frame-in-range p))
+    (cut-ringed st (in-range q) (x .class) (x .size) (x .hops) 0 (q .frame-of .result) (q .frame-of .ensures) (frame-in-range p) false (taken (inRing (st .settings .site .stations) (q .frame-of .result .hops)) (c .before .before .in-ring .ensures) (c .before .if3 .taken))))
+
 client-requires : tie.Need-client-requires
 client-requires c κs = search needs
 
-returns-3 : tie.Need-returns-3
-returns-3 c = let q = c .before .before .before in
+returns-4 : tie.Need-returns-4
+returns-4 c = let p = c .before .before .before in
+    let q = p .before .before in
     let x = q .before .before .args in
     let st = x .self in
     c .client .ensures
-    ∙ ap (clientFor st) (cut-given st (in-range q) (x .class) (x .size) (x .hops) 0 (q .frame-of .result) (q .frame-of .ensures) (frame-in-range (c .before)))
-    ∙ sym (client-staged st (x .class) (x .size) (x .hops) (in-range q) (cut-tested st (in-range q) (x .class) (x .size) (x .hops) 0 (q .frame-of .result) (q .frame-of .ensures) true (frame-in-range (c .before))))
+    ∙ ap (clientFor st) (cut-given st (in-range q) (x .class) (x .size) (x .hops) 0 (q .frame-of .result) (q .frame-of .ensures) (frame-in-range p))
+    ∙ sym (client-staged st (x .class) (x .size) (x .hops) (in-range q) (cut-tested st (in-range q) (x .class) (x .size) (x .hops) 0 (q .frame-of .result) (q .frame-of .ensures) true (frame-in-range p))
+    (cut-ringed st (in-range q) (x .class) (x .size) (x .hops) 0 (q .frame-of .result) (q .frame-of .ensures) (frame-in-range p) true (left (inRing (st .settings .site .stations) (q .frame-of .result .hops)) (c .before .before .in-ring .ensures) (c .before .if3 .left))))
 
 pub offer-client-known-spec : {M : Type 1} → statement M
 offer-client-known-spec =
@@ -64,5 +82,8 @@ offer-client-known-spec =
     frame-ok-requires
     turned-down-requires-2
     returns-2
+    in-ring-requires
+    turned-down-requires-3
+    returns-3
     client-requires
-    returns-3)
+    returns-4)

@@ -8,7 +8,7 @@ use Rattle.flow.specs.Parts.{boundsOf}
 use Rattle.flow.specs.declared.Line.the-variants.{Control}
 use Rattle.flow.specs.Offer.{controlFrame}
 use Rattle.station.specs.Range.{stationOk}
-use Rattle.station.proofs.Offers.{cut-tested, cut-given, cut-offered, offer-lost, offer-coded, offer-brought}
+use Rattle.station.proofs.Offers.{cut-tested, cut-given, cut-offered, control-ringed, offer-lost, offer-coded, offer-brought}
 use borrow.Author.Needs.{needs}
 use Rattle.station.proofs.Station.offer_control_known.Statement.{statement}
 use Rattle.station.proofs.Station.offer_control_known.Tie as tie
@@ -48,7 +48,7 @@ control-requires : tie.Need-control-requires
 control-requires c κs = let q = c .before .before .before in
     let x = q .before .before .args in
     let st = x .self in
-    rw (cut-given st (in-range q) 0 (x .size) 1 0 (q .frame-of .result) (q .frame-of .ensures) (frame-in-range (c .before))) (cut-offered st (in-range q) 0 (x .size) 1 0 (q .frame-of .result) (q .frame-of .ensures) (frame-in-range (c .before)))
+    rw (cut-given st (in-range q) 0 (x .size) 1 0 (q .frame-of .result) (q .frame-of .ensures) (frame-in-range (c .before))) (cut-offered st (in-range q) 0 (x .size) 1 0 (q .frame-of .result) (q .frame-of .ensures) (frame-in-range (c .before)) (control-ringed st (in-range q) (x .size)))
 
 brought-requires : tie.Need-brought-requires
 brought-requires c κs = search needs
@@ -59,7 +59,7 @@ returns-3 c = let q = c .before .before .before .before .before in
     let st = x .self in
     c .brought .ensures
     ∙ rw (c .before .control .ensures, cut-given st (in-range q) 0 (x .size) 1 0 (q .frame-of .result) (q .frame-of .ensures) (frame-in-range (c .before .before .before)))
-    (sym (offer-brought st Control (controlFrame (x .size)) (in-range q) (cut-tested st (in-range q) 0 (x .size) 1 0 (q .frame-of .result) (q .frame-of .ensures) true (frame-in-range (c .before .before .before)))))
+    (sym (offer-brought st Control (controlFrame (x .size)) (in-range q) (cut-tested st (in-range q) 0 (x .size) 1 0 (q .frame-of .result) (q .frame-of .ensures) true (frame-in-range (c .before .before .before))) (control-ringed st (in-range q) (x .size))))
 
 pub offer-control-known-spec : {M : Type 1} → statement M
 offer-control-known-spec =

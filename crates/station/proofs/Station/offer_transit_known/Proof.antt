@@ -3,12 +3,13 @@
 use mathlib.Core.Bool.{true, false}
 use mathlib.Core.Path.{_≡_, sym, _∙_}
 use Rattle.decide.specs.Test.{test, left, taken}
+use Rattle.decide.specs.Hops.{inRing}
 use Rattle.queue.specs.Frame.{frameOk}
 use Rattle.flow.specs.Parts.{boundsOf}
 use Rattle.flow.specs.Offer.{queueFor}
 use Rattle.station.specs.Range.{stationOk}
 use Rattle.station.specs.Offers.{givenFrame}
-use Rattle.station.proofs.Offers.{cut-tested, cut-given, cut-offered, offer-lost, offer-coded, offer-brought}
+use Rattle.station.proofs.Offers.{cut-tested, cut-given, cut-ringed, cut-offered, offer-lost, offer-coded, offer-beyond, offer-brought}
 use borrow.Author.Needs.{needs}
 use Rattle.station.proofs.Station.offer_transit_known.Statement.{statement}
 use Rattle.station.proofs.Station.offer_transit_known.Tie as tie
@@ -44,22 +45,47 @@ returns-2 c = let q = c .before .before .before in
     let st = x .self in
     c .refused2 .ensures ∙ sym (offer-coded st (queueFor (st .settings) (x .class)) (givenFrame (x .class) (x .size) (x .hops) (x .eligible)) (in-range q) (cut-tested st (in-range q) (x .class) (x .size) (x .hops) (x .eligible) (q .frame-of .result) (q .frame-of .ensures) false (taken (frameOk (boundsOf (st .settings)) (q .frame-of .result)) (c .before .before .frame-ok .ensures) (c .before .if2 .taken))))
 
-transit-requires : tie.Need-transit-requires
-transit-requires c κs = let q = c .before .before .before in
+-- its hops are within the ring,
+hops-in-ring : (c : tie.Else3) → test (inRing (c .before .before .before .before .before .before .args .self .settings .site .stations) (c .before .before .before .before .before .before .args .hops)) ≡ true
+hops-in-ring c = let p = c .before .before in
+    let q = p .before .before in
     let x = q .before .before .args in
     let st = x .self in
-    rw (cut-given st (in-range q) (x .class) (x .size) (x .hops) (x .eligible) (q .frame-of .result) (q .frame-of .ensures) (frame-in-range (c .before))) (cut-offered st (in-range q) (x .class) (x .size) (x .hops) (x .eligible) (q .frame-of .result) (q .frame-of .ensures) (frame-in-range (c .before)))
+    cut-ringed st (in-range q) (x .class) (x .size) (x .hops) (x .eligible) (q .frame-of .result) (q .frame-of .ensures) (frame-in-range p) true (left (inRing (st .settings .site .stations) (q .frame-of .result .hops)) (c .before .in-ring .ensures) (c .if3 .left))
+
+in-ring-requires : tie.Need-in-ring-requires
+in-ring-requires c κs = search needs
+
+refused-requires-3 : tie.Need-refused-requires-3
+refused-requires-3 c κs = search needs
+
+returns-3 : tie.Need-returns-3
+returns-3 c = let p = c .before .before .before in
+    let q = p .before .before in
+    let x = q .before .before .args in
+    let st = x .self in
+    c .refused3 .ensures
+    ∙ sym (offer-beyond st (queueFor (st .settings) (x .class)) (givenFrame (x .class) (x .size) (x .hops) (x .eligible)) (in-range q) (cut-tested st (in-range q) (x .class) (x .size) (x .hops) (x .eligible) (q .frame-of .result) (q .frame-of .ensures) true (frame-in-range p))
+    (cut-ringed st (in-range q) (x .class) (x .size) (x .hops) (x .eligible) (q .frame-of .result) (q .frame-of .ensures) (frame-in-range p) false (taken (inRing (st .settings .site .stations) (q .frame-of .result .hops)) (c .before .before .in-ring .ensures) (c .before .if3 .taken))))
+
+transit-requires : tie.Need-transit-requires
+transit-requires c κs = let p = c .before .before .before in
+    let q = p .before .before in
+    let x = q .before .before .args in
+    let st = x .self in
+    rw (cut-given st (in-range q) (x .class) (x .size) (x .hops) (x .eligible) (q .frame-of .result) (q .frame-of .ensures) (frame-in-range p)) (cut-offered st (in-range q) (x .class) (x .size) (x .hops) (x .eligible) (q .frame-of .result) (q .frame-of .ensures) (frame-in-range p) (hops-in-ring (c .before)))
 
 brought-requires : tie.Need-brought-requires
 brought-requires c κs = search needs
 
-returns-3 : tie.Need-returns-3
-returns-3 c = let q = c .before .before .before .before .before in
+returns-4 : tie.Need-returns-4
+returns-4 c = let p = c .before .before .before .before .before in
+    let q = p .before .before in
     let x = q .before .before .args in
     let st = x .self in
     c .brought .ensures
-    ∙ rw (c .before .transit .ensures, cut-given st (in-range q) (x .class) (x .size) (x .hops) (x .eligible) (q .frame-of .result) (q .frame-of .ensures) (frame-in-range (c .before .before .before)))
-    (sym (offer-brought st (queueFor (st .settings) (x .class)) (givenFrame (x .class) (x .size) (x .hops) (x .eligible)) (in-range q) (cut-tested st (in-range q) (x .class) (x .size) (x .hops) (x .eligible) (q .frame-of .result) (q .frame-of .ensures) true (frame-in-range (c .before .before .before)))))
+    ∙ rw (c .before .transit .ensures, cut-given st (in-range q) (x .class) (x .size) (x .hops) (x .eligible) (q .frame-of .result) (q .frame-of .ensures) (frame-in-range p))
+    (sym (offer-brought st (queueFor (st .settings) (x .class)) (givenFrame (x .class) (x .size) (x .hops) (x .eligible)) (in-range q) (cut-tested st (in-range q) (x .class) (x .size) (x .hops) (x .eligible) (q .frame-of .result) (q .frame-of .ensures) true (frame-in-range p)) (hops-in-ring (c .before .before .before))))
 
 pub offer-transit-known-spec : {M : Type 1} → statement M
 offer-transit-known-spec =
@@ -71,6 +97,9 @@ offer-transit-known-spec =
     frame-ok-requires
     refused-requires-2
     returns-2
+    in-ring-requires
+    refused-requires-3
+    returns-3
     transit-requires
     brought-requires
-    returns-3)
+    returns-4)

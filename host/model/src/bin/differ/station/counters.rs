@@ -7,7 +7,7 @@ use model::make_station;
 use model::report::Outcome;
 use model::station::aging::Rates;
 use model::station::range::most_stored;
-use model::station::settings::LP_COEFS;
+use model::station::settings::{LP_COEFS, WORDS};
 use model::station::{layout, Station, MOST_RATE};
 use model::station_call::Call;
 
@@ -17,12 +17,12 @@ const RECEIVED: u16 = 16_449;
 
 /// Settings of the largest frames, with room and credit for them, the largest weight and
 /// unit and the slowest coefficients.
-fn largest() -> [u32; 30] {
+fn largest() -> [u32; WORDS] {
     let mut words = make_station::words(&[(3, 9_216), (19, 9_216), (20, 9_216), (21, 18_432)]);
     for at in [4, 7, 10, 13, 16] {
         words[at..at + 3].copy_from_slice(&[65_536, 1_048_576, 65_535]);
     }
-    words[23..].copy_from_slice(&[255, 1_024, 1, MOST_RATE as u32, 16, 512, 512]);
+    words[23..30].copy_from_slice(&[255, 1_024, 1, MOST_RATE as u32, 16, 512, 512]);
     words
 }
 

@@ -1,5 +1,6 @@
 //! Damaged stations: where they come from, and what must have come up among them.
 
+use model::hops;
 use model::make_damage::{self, Step};
 use model::random::Random;
 use model::station::layout::{self, Part};
@@ -17,7 +18,7 @@ const FIXED: [&str; 2] = [" bytes", " count"];
 const FREE: [&str; 2] = ["addressLow", "receivedAddressLow"];
 
 /// Refusals that 1 comes before.
-const LATER: [u8; 6] = [3, 11, 4, 5, 6, 7];
+const LATER: [u8; 7] = [3, 13, 11, 4, 5, 6, 7];
 /// Reasons for 2, which comes before 1.
 const SLICES: [&str; 6] = ["length", "type", "header kind", "ringlet", "tell", "show"];
 
@@ -88,6 +89,7 @@ impl Harm {
         }
         if let [fault] = &faults[..] {
             self.seen.insert(alone_wrong(fault));
+            self.seen.extend(hops::alone(bytes, fault));
         }
         let other = |part: &&Part| {
             let place = part.at..part.at + part.length;
@@ -126,6 +128,7 @@ impl Harm {
                 all.push(alone_changed(&part.name, false));
             }
         }
+        all.extend(hops::every_alone());
         all.extend(LATER.map(|later| format!("1 before {later}")));
         all.extend(SLICES.map(|reason| format!("2 before 1: {reason}")));
         all.retain(|sight| !self.seen.contains(sight));

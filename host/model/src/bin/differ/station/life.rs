@@ -13,6 +13,7 @@ use model::station::Station;
 use model::station_call::Call;
 use model::text;
 
+#[derive(Clone)]
 pub struct Life {
     pub memory: Vec<u8>,
     pub model: Station,

@@ -3,6 +3,7 @@
 
 mod counters;
 mod difference;
+mod every_ring;
 mod harm;
 mod library;
 mod life;
@@ -15,6 +16,7 @@ use self::difference::part_by_part;
 use self::harm::Harm;
 use self::life::Life;
 use self::sights::Sights;
+use model::hops::Hops;
 use model::lent::Lent;
 use model::lent_call;
 use model::make::wrong_length;
@@ -34,6 +36,7 @@ struct Trial {
     tally: Tally,
     sights: Sights,
     shortfalls: Shortfalls,
+    hops: Hops,
     harm: Harm,
 }
 
@@ -44,6 +47,7 @@ impl Trial {
             tally: Tally::new(tally::OF_STATIONS),
             sights: Sights::default(),
             shortfalls: Shortfalls::default(),
+            hops: Hops::default(),
             harm: Harm::new(),
         }
     }
@@ -99,6 +103,7 @@ impl Trial {
         let answer = life.make(&mut self.random, call)?;
         self.tally.count(call.function(), answer, false);
         self.shortfalls.look(&life.model, call, answer);
+        self.hops.look(&life.model, call, answer);
         if life.started {
             self.sights.look(&life.model, call, answer);
         }
@@ -162,8 +167,9 @@ impl Trial {
                 .map_err(|what| format!("{call}: {what}"))?;
             self.tally.count(call.function(), answer, false);
             self.shortfalls.look(model, &call, answer);
-            if read.is_err() {
-                self.harm.look_at_order(&call, bytes, &life.model, answer);
+            match &read {
+                Ok(station) => self.hops.look(station, &call, answer),
+                Err(_) => self.harm.look_at_order(&call, bytes, &life.model, answer),
             }
         }
         Ok(())
@@ -205,6 +211,7 @@ impl Trial {
             return Err("a station has another length than the layout says".to_string());
         }
         println!("{} calls until counters stop", counters::stopping()?);
+        println!("{} calls on every ring", every_ring::every_ring()?);
         let steady = steady::walks(self.random.word())?;
         println!("{steady}");
         scenes::play(self)?;
@@ -219,6 +226,7 @@ impl Trial {
         let mut missing = self.sights.missing();
         missing.extend(steady.missing());
         missing.extend(self.shortfalls.missing());
+        missing.extend(self.hops.missing());
         missing.extend(self.harm.missing());
         Ok(missing)
     }
@@ -228,6 +236,6 @@ impl Trial {
 pub fn run(seed: u64, calls: u64) -> (Tally, Outcome<Vec<String>>) {
     let mut trial = Trial::new(seed);
     let outcome = trial.rounds(calls);
-    println!("{}\n{}", trial.harm, trial.shortfalls);
+    println!("{}\n{}\n{}", trial.harm, trial.shortfalls, trial.hops);
     (trial.tally, outcome)
 }

@@ -23,7 +23,7 @@ const RATES: [&str; 8] = [
     "own rate told of both",
     "received rate told of both",
     "received rate told on",
-    "received ttl 193 told as full",
+    "received rate told as full at the last hop",
     "fair rate over unreservedRate",
     "addRateCongested counted",
     "fwRateCongested counted",
@@ -60,12 +60,12 @@ impl Sights {
     fn look_at_rates(&mut self, station: &Station) {
         let (local, downstream) = (station.locally_congested, station.downstream_congested);
         let own_first = station.own_rate <= station.received.rate;
-        let last = station.received.ttl == 193;
+        let last = station.received.hops() == station.settings.stations - 1;
         self.see(RATES[0], local && !downstream);
         self.see(RATES[1], local && downstream && own_first);
         self.see(RATES[2], local && downstream && !own_first && !last);
         self.see(RATES[3], !local && downstream && !last);
-        self.see(RATES[4], downstream && last);
+        self.see(RATES[4], downstream && last && !(local && own_first));
         let unreserved = station.settings.unreserved_rate;
         self.see(RATES[5], station.local_fair_rate > unreserved);
         self.see(RATES[6], station.counters.add_congested > 0);
