@@ -67,19 +67,9 @@ static void control_frames(void) {
 /* Every fault that 3 names goes before 13, and 2 before both. */
 static void before_it(void) {
     start_with_credit(6);
-    client("class 3", 3, 64, 6, RPR_RANGE);
-    client("size 15", C, 15, 6, RPR_RANGE);
-    client("size 65", C, 65, 6, RPR_RANGE);
-    client("0 hops", C, 64, 0, RPR_RANGE);
-    client("64 hops", C, 64, 64, RPR_RANGE);
+    wrong_clients(6);
     client("6 and 2 to the 32 hops", C, 64, 4294967302u, RPR_RANGE);
-    transit("class 3", 3, 64, 6, 0, RPR_RANGE);
-    transit("size 15", B, 15, 6, 0, RPR_RANGE);
-    transit("size 65", B, 65, 6, 0, RPR_RANGE);
-    transit("0 hops", B, 64, 0, 0, RPR_RANGE);
-    transit("64 hops", B, 64, 64, 0, RPR_RANGE);
-    transit("A marked", A, 64, 6, 1, RPR_RANGE);
-    transit("mark 2", B, 64, 6, 2, RPR_RANGE);
+    wrong_transits(6);
     hear("ttl 192", GOOD(192, 13), RPR_RANGE);
     hear("11 bytes", (const uint8_t[]){250, 0xa0, 2, 0, 0x5e, 0, 0, 2, 0, 0, 0}, 11, RPR_BYTES);
     hear("the own ringlet's bit", BYTES(250, 0x20, 2, 0, 0x5e, 0, 0, 2, 0, 0, 0, 13), RPR_BYTES);

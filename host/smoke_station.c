@@ -126,26 +126,16 @@ static void ticks(void) {
 
 /* ---- client frames ---- */
 
-/* Frames outside their range, also while the stage is full. */
-static void wrong_clients(void) {
-    client("class 3", 3, 64, 9, RPR_RANGE);
-    client("size 15", A, 15, 9, RPR_RANGE);
-    client("size 65", A, 65, 9, RPR_RANGE);
-    client("size 65,600", A, 65600, 9, RPR_RANGE);
-    client("0 hops", A, 64, 0, RPR_RANGE);
-    client("64 hops", A, 64, 64, RPR_RANGE);
-}
-
 static void clients(void) {
     start(&plain);
-    wrong_clients();
+    wrong_clients(9);
     client("A at loLimit", A, 64, 9, SHORT(1));
     client("B at loLimit", B, 64, 9, SHORT(1));
     client("C at loLimit", C, 64, 9, SHORT(1));
     tick(1, 1, 1, 0); /* 161, 172, 183, 194 */
     client("A", A, 64, 9, 0);
     client("a full stage", B, 64, 9, RPR_STAGE_FULL);
-    wrong_clients();
+    wrong_clients(9);
     expect("the stage", show().stage.frames, 1);
     expect("the stage", show().stage.bytes, 64);
     selects("A", RPR_FROM_STAGE, A, 9, 0, 64);
@@ -243,13 +233,7 @@ static void taken_apart(void) {
 /* Primary 101, control 100, secondary 130 bytes. */
 static void queues(void) {
     start(&plain);
-    transit("class 3", 3, 64, 1, 0, RPR_RANGE);
-    transit("size 15", B, 15, 1, 0, RPR_RANGE);
-    transit("size 65", B, 65, 1, 0, RPR_RANGE);
-    transit("0 hops", B, 64, 0, 0, RPR_RANGE);
-    transit("64 hops", B, 64, 64, 0, RPR_RANGE);
-    transit("A marked", A, 64, 1, 1, RPR_RANGE);
-    transit("mark 2", B, 64, 1, 2, RPR_RANGE);
+    wrong_transits(1);
     transit("primary", A, 50, 3, 0, 0);
     transit("52 in 51", A, 52, 4, 0, RPR_NO_ROOM);
     transit("51 in 51", A, 51, 4, 0, 0);

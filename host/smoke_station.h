@@ -42,6 +42,26 @@ static inline void transit(const char *what, uint64_t class, uint64_t size, uint
     answered(what, rpr_offer_transit(LENT(STATION), class, size, hops, mark), STATION, want);
 }
 
+/* Client and passing frames outside their range: 3, whatever the hops of those in which only something else is wrong. */
+static inline void wrong_clients(uint64_t hops) {
+    client("class 3", 3, 64, hops, RPR_RANGE);
+    client("size 15", A, 15, hops, RPR_RANGE);
+    client("size 65", A, 65, hops, RPR_RANGE);
+    client("size 65,600", A, 65600, hops, RPR_RANGE);
+    client("0 hops", A, 64, 0, RPR_RANGE);
+    client("64 hops", A, 64, 64, RPR_RANGE);
+}
+
+static inline void wrong_transits(uint64_t hops) {
+    transit("class 3", 3, 64, hops, 0, RPR_RANGE);
+    transit("size 15", B, 15, hops, 0, RPR_RANGE);
+    transit("size 65", B, 65, hops, 0, RPR_RANGE);
+    transit("0 hops", B, 64, 0, 0, RPR_RANGE);
+    transit("64 hops", B, 64, 64, 0, RPR_RANGE);
+    transit("A marked", A, 64, hops, 1, RPR_RANGE);
+    transit("mark 2", B, 64, hops, 2, RPR_RANGE);
+}
+
 static inline void control(const char *what, uint64_t size, uint64_t want) {
     answered(what, rpr_offer_control(LENT(STATION), size), STATION, want);
 }

@@ -22,6 +22,21 @@ pub enum Call {
 }
 
 impl Call {
+    /// One of each call, with arguments in range on every ring.
+    pub fn one_of_each() -> Vec<Call> {
+        vec![
+            Call::Tick([1, 0, 1]),
+            Call::Client([2, 20, 1]),
+            Call::Transit([1, 20, 1, 1]),
+            Call::Control(20),
+            Call::Select,
+            Call::Age,
+            Call::Hear(vec![255, 0xa0, 0, 0, 0, 0, 0, 9, 0, 0, 0, 5]),
+            Call::Tell(12),
+            Call::Show(124),
+        ]
+    }
+
     pub fn function(&self) -> &'static str {
         match self {
             Call::Tick(_) => "rpr_tick",

@@ -22,20 +22,6 @@ fn bad() -> Vec<u8> {
     bytes
 }
 
-fn calls() -> Vec<Call> {
-    vec![
-        Call::Tick([1, 0, 1]),
-        Call::Client([2, 20, 1]),
-        Call::Transit([1, 20, 1, 1]),
-        Call::Control(20),
-        Call::Select,
-        Call::Age,
-        Call::Hear(vec![200, 0xa0, 0, 0, 0, 0, 0, 9, 0, 0, 0, 5]),
-        Call::Tell(12),
-        Call::Show(124),
-    ]
-}
-
 /// The answer of a call that must leave everything as it was.
 fn refused(call: &Call, station: &[u8]) -> u64 {
     let other = call.other_slice(7);
@@ -46,7 +32,7 @@ fn refused(call: &Call, station: &[u8]) -> u64 {
 
 #[test]
 fn a_station_out_of_range_is_1_for_each_call() {
-    for call in calls() {
+    for call in Call::one_of_each() {
         assert_eq!(refused(&call, &bad()), 1, "{call}");
         assert_ne!(apply(&call, &plain(), &call.other_slice(7)).answer, 1);
     }
@@ -78,7 +64,7 @@ fn one_comes_before_the_later_ones() {
 
 #[test]
 fn two_comes_before_one() {
-    for call in calls() {
+    for call in Call::one_of_each() {
         for length in [0, 1_786, 1_789, 1_791] {
             let mut bytes = bad();
             bytes.resize(length, 0);
@@ -121,7 +107,7 @@ fn the_ringlet_of_a_station_out_of_range() {
 #[test]
 fn carried_out_the_bytes_are_the_new_ones() {
     let mut model = make_station::station(&[]);
-    for call in calls() {
+    for call in Call::one_of_each() {
         let other = call.other_slice(7);
         let before = write(&model);
         let (answer, other_after) = call.apply(&mut model, &other);
@@ -184,12 +170,12 @@ fn each_stored_number_alone_out_of_range() {
             take(&mut random, &mut bytes, Step::Bound(9 + at, 2));
             let largest = read(&bytes).unwrap().stored.list()[at];
             assert_eq!(largest, lp_coef * 2_147_483_648 - 1);
-            for call in calls() {
+            for call in Call::one_of_each() {
                 assert_ne!(apply(&call, &bytes, &call.other_slice(7)).answer, 1);
             }
             take(&mut random, &mut bytes, Step::Bound(9 + at, 3));
             assert_eq!(faults(&bytes), [NAMES[17 + at]]);
-            for call in calls() {
+            for call in Call::one_of_each() {
                 assert_eq!(refused(&call, &bytes), 1, "{call}");
             }
         }

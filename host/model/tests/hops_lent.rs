@@ -36,21 +36,14 @@ fn with(bytes: &[u8], at: usize, value: u64) -> Vec<u8> {
     bytes
 }
 
-/// Every call refuses the bytes with 1 and leaves them.
+/// Every call refuses the bytes with 1 and leaves them, also where the call itself has hops beyond
+/// the ring.
 fn refused(bytes: &[u8]) {
-    for call in [
-        Call::Tick([1, 0, 1]),
-        Call::Client([2, 20, 1]),
+    let beyond = [
         Call::Client([2, 20, 63]),
-        Call::Transit([1, 20, 1, 1]),
-        Call::Control(20),
-        Call::Select,
-        Call::Age,
-        Call::Hear(vec![255, 0xa0, 0, 0, 0, 0, 0, 9, 0, 0, 0, 5]),
         Call::Hear(vec![193, 0xa0, 0, 0, 0, 0, 0, 9, 0, 0, 0, 5]),
-        Call::Tell(12),
-        Call::Show(124),
-    ] {
+    ];
+    for call in Call::one_of_each().into_iter().chain(beyond) {
         let other = call.other_slice(7);
         let after = apply(&call, bytes, &other);
         assert_eq!(after.answer, 1, "{call}");

@@ -7,7 +7,7 @@ use Rattle.decide.specs.Hops.{inRing}
 use Rattle.queue.specs.Frame.{frameOk}
 use Rattle.flow.specs.Parts.{boundsOf}
 use Rattle.station.specs.Range.{stationOk}
-use Rattle.station.specs.Offers.{clientFor}
+use Rattle.station.specs.Offers.{givenFrame, clientFor}
 use Rattle.station.proofs.Offers.{cut-tested, cut-given, cut-ringed, client-lost, client-coded, client-beyond, client-staged}
 use borrow.Author.Needs.{needs}
 use Rattle.station.proofs.Station.offer_client_known.Statement.{statement}
@@ -20,6 +20,12 @@ in-range c = left (stationOk (c .before .before .args .self)) (c .before .before
 -- and so is the frame
 frame-in-range : (c : tie.Else2) → test (frameOk (boundsOf (c .before .before .before .before .args .self .settings)) (c .before .before .frame-of .result)) ≡ true
 frame-in-range c = left (frameOk (boundsOf (c .before .before .before .before .args .self .settings)) (c .before .before .frame-of .result)) (c .before .frame-ok .ensures) (c .if2 .left)
+
+-- as it was given
+given-in-range : (c : tie.Else2) → let x = c .before .before .before .before .args in test (frameOk (boundsOf (x .self .settings)) (givenFrame (x .class) (x .size) (x .hops) 0)) ≡ true
+given-in-range c = let q = c .before .before in
+    let x = q .before .before .args in
+    cut-tested (x .self) (in-range q) (x .class) (x .size) (x .hops) 0 (q .frame-of .result) (q .frame-of .ensures) true (frame-in-range c)
 
 turned-down-requires : tie.Need-turned-down-requires
 turned-down-requires c κs = search needs
@@ -56,7 +62,7 @@ returns-3 c = let p = c .before .before .before in
     let x = q .before .before .args in
     let st = x .self in
     c .turned-down3 .ensures
-    ∙ sym (client-beyond st (x .class) (x .size) (x .hops) (in-range q) (cut-tested st (in-range q) (x .class) (x .size) (x .hops) 0 (q .frame-of .result) (q .frame-of .ensures) true (frame-in-range p))
+    ∙ sym (client-beyond st (x .class) (x .size) (x .hops) (in-range q) (given-in-range p)
     (cut-ringed st (in-range q) (x .class) (x .size) (x .hops) 0 (q .frame-of .result) (q .frame-of .ensures) (frame-in-range p) false (taken (inRing (st .settings .site .stations) (q .frame-of .result .hops)) (c .before .before .in-ring .ensures) (c .before .if3 .taken))))
 
 client-requires : tie.Need-client-requires
@@ -69,7 +75,7 @@ returns-4 c = let p = c .before .before .before in
     let st = x .self in
     c .client .ensures
     ∙ ap (clientFor st) (cut-given st (in-range q) (x .class) (x .size) (x .hops) 0 (q .frame-of .result) (q .frame-of .ensures) (frame-in-range p))
-    ∙ sym (client-staged st (x .class) (x .size) (x .hops) (in-range q) (cut-tested st (in-range q) (x .class) (x .size) (x .hops) 0 (q .frame-of .result) (q .frame-of .ensures) true (frame-in-range p))
+    ∙ sym (client-staged st (x .class) (x .size) (x .hops) (in-range q) (given-in-range p)
     (cut-ringed st (in-range q) (x .class) (x .size) (x .hops) 0 (q .frame-of .result) (q .frame-of .ensures) (frame-in-range p) true (left (inRing (st .settings .site .stations) (q .frame-of .result .hops)) (c .before .before .in-ring .ensures) (c .before .if3 .left))))
 
 pub offer-client-known-spec : {M : Type 1} → statement M

@@ -22,6 +22,12 @@ in-range c = left (stationOk (c .before .before .args .self)) (c .before .before
 frame-in-range : (c : tie.Else2) → test (frameOk (boundsOf (c .before .before .before .before .args .self .settings)) (c .before .before .frame-of .result)) ≡ true
 frame-in-range c = left (frameOk (boundsOf (c .before .before .before .before .args .self .settings)) (c .before .before .frame-of .result)) (c .before .frame-ok .ensures) (c .if2 .left)
 
+-- as it was given
+given-in-range : (c : tie.Else2) → let x = c .before .before .before .before .args in test (frameOk (boundsOf (x .self .settings)) (givenFrame (x .class) (x .size) (x .hops) (x .eligible))) ≡ true
+given-in-range c = let q = c .before .before in
+    let x = q .before .before .args in
+    cut-tested (x .self) (in-range q) (x .class) (x .size) (x .hops) (x .eligible) (q .frame-of .result) (q .frame-of .ensures) true (frame-in-range c)
+
 refused-requires : tie.Need-refused-requires
 refused-requires c κs = search needs
 
@@ -65,7 +71,7 @@ returns-3 c = let p = c .before .before .before in
     let x = q .before .before .args in
     let st = x .self in
     c .refused3 .ensures
-    ∙ sym (offer-beyond st (queueFor (st .settings) (x .class)) (givenFrame (x .class) (x .size) (x .hops) (x .eligible)) (in-range q) (cut-tested st (in-range q) (x .class) (x .size) (x .hops) (x .eligible) (q .frame-of .result) (q .frame-of .ensures) true (frame-in-range p))
+    ∙ sym (offer-beyond st (queueFor (st .settings) (x .class)) (givenFrame (x .class) (x .size) (x .hops) (x .eligible)) (in-range q) (given-in-range p)
     (cut-ringed st (in-range q) (x .class) (x .size) (x .hops) (x .eligible) (q .frame-of .result) (q .frame-of .ensures) (frame-in-range p) false (taken (inRing (st .settings .site .stations) (q .frame-of .result .hops)) (c .before .before .in-ring .ensures) (c .before .if3 .taken))))
 
 transit-requires : tie.Need-transit-requires
@@ -85,7 +91,7 @@ returns-4 c = let p = c .before .before .before .before .before in
     let st = x .self in
     c .brought .ensures
     ∙ rw (c .before .transit .ensures, cut-given st (in-range q) (x .class) (x .size) (x .hops) (x .eligible) (q .frame-of .result) (q .frame-of .ensures) (frame-in-range p))
-    (sym (offer-brought st (queueFor (st .settings) (x .class)) (givenFrame (x .class) (x .size) (x .hops) (x .eligible)) (in-range q) (cut-tested st (in-range q) (x .class) (x .size) (x .hops) (x .eligible) (q .frame-of .result) (q .frame-of .ensures) true (frame-in-range p)) (hops-in-ring (c .before .before .before))))
+    (sym (offer-brought st (queueFor (st .settings) (x .class)) (givenFrame (x .class) (x .size) (x .hops) (x .eligible)) (in-range q) (given-in-range p) (hops-in-ring (c .before .before .before))))
 
 pub offer-transit-known-spec : {M : Type 1} → statement M
 offer-transit-known-spec =
