@@ -3,11 +3,12 @@
 # make install     puts the command rpr, the library, its header, the man pages and an example under PREFIX (/usr/local), the library in LIBDIR (PREFIX/lib), all within DESTDIR; CC, CPPFLAGS, CFLAGS and LDFLAGS are heard
 # make uninstall   takes them away again
 # make bench       ns per call of the library and ns per event of the commands, beside plain C that does the same work; fails where one is above its bound
+# make picture     draws docs/methods.svg anew, both methods over the same congested minute, from the library's answers
 # make expect      writes anew what the programs are expected to print, by the independent model
 # make soak        the differential tests, with another SEED (1) and as many CALLS (1000000) as you like
 # make fuzz        random and damaged calls on the library for SECONDS (60) seconds, led by the branches that it takes; what it finds stays in fuzz/, for later runs
 # make clean       removes what was built, and leaves fuzz/
-.PHONY: list demo test install uninstall bench expect soak fuzz clean
+.PHONY: list demo test install uninstall bench picture expect soak fuzz clean
 PREFIX ?= /usr/local
 LIBDIR ?= $(PREFIX)/lib
 DESTDIR ?=
@@ -32,6 +33,9 @@ uninstall:
 
 bench:
 	tools/bench
+
+picture:
+	tools/picture --write
 
 expect:
 	tools/expect --write

@@ -12,14 +12,12 @@ enum { STATIONS = 16, REPEATS = 300, N = RPR_STATION_LENGTH };
 static uint8_t stations[STATIONS][N], theirs[STATIONS][N];
 static uint8_t room[RPR_READING_LENGTH], their_room[RPR_READING_LENGTH], settings[RPR_SETTINGS_LENGTH];
 
-/* The stations that are measured: fresh with credit; with one frame in each transit queue; and with 120 frames in each and
- * congestion downstream. */
-static uint8_t empty[N], few[N], full[N];
+/* The stations that are measured, of either method: fresh with credit; with one frame in each transit queue; and with 120
+ * frames in each and congestion downstream. */
+enum state { EMPTY, FEW, FULL, STATES };
 
-static const struct {
-    const char *name;
-    const uint8_t *image;
-} states[] = {{"empty station", empty}, {"2 frames held", few}, {"240 frames held", full}};
+static const char *const states[STATES] = {"empty station", "2 frames held", "240 frames held"};
+static uint8_t images[RPR_CONSERVATIVE + 1][STATES][N];
 
 static const uint8_t heard[RPR_FRAME_LENGTH] = {250, 0xa0, 2, 0, 0, 0, 0, 9, 0, 0, 3, 232};
 
@@ -53,20 +51,22 @@ BATCH(show, side->show(s, N, room, RPR_READING_LENGTH))
 static const struct {
     const char *name;
     batch *run;
+    enum rpr_method method;
 } measured[] = {
-    {"rpr_start", start},
-    {"rpr_tick", tick},
-    {"rpr_offer_client, class A", client_a},
-    {"rpr_offer_client, class B", client_b},
-    {"rpr_offer_client, class C", client_c},
-    {"rpr_offer_transit, class A", transit_a},
-    {"rpr_offer_transit, class C", transit_c},
-    {"rpr_offer_control", control},
-    {"rpr_select", choice},
-    {"rpr_age", age},
-    {"rpr_read_frame", read_frame},
-    {"rpr_write_frame", write_frame},
-    {"rpr_show", show},
+    {"rpr_start", start, RPR_AGGRESSIVE},
+    {"rpr_tick", tick, RPR_AGGRESSIVE},
+    {"rpr_offer_client, class A", client_a, RPR_AGGRESSIVE},
+    {"rpr_offer_client, class B", client_b, RPR_AGGRESSIVE},
+    {"rpr_offer_client, class C", client_c, RPR_AGGRESSIVE},
+    {"rpr_offer_transit, class A", transit_a, RPR_AGGRESSIVE},
+    {"rpr_offer_transit, class C", transit_c, RPR_AGGRESSIVE},
+    {"rpr_offer_control", control, RPR_AGGRESSIVE},
+    {"rpr_select", choice, RPR_AGGRESSIVE},
+    {"rpr_age", age, RPR_AGGRESSIVE},
+    {"rpr_age, conservative", age, RPR_CONSERVATIVE},
+    {"rpr_read_frame", read_frame, RPR_AGGRESSIVE},
+    {"rpr_write_frame", write_frame, RPR_AGGRESSIVE},
+    {"rpr_show", show, RPR_AGGRESSIVE},
 };
 
 static void restore(const uint8_t *image) {
@@ -110,13 +110,27 @@ static double run_batches(const struct calls *side, const void *of, uint64_t *an
     return ns;
 }
 
-static void set_up(void) {
+/* Adds 40,000 bytes, by which an interval shows an lpAddRate of 40,000 / lpCoef. */
+static uint64_t add(uint8_t *station) {
+    uint64_t refused = 0;
+    for (int i = 0; i < 40; i++) {
+        refused |= rpr_refusal_of(rpr_offer_client(station, N, RPR_CLASS_C, 1000, 30));
+        refused |= rpr_refusal_of(rpr_select(station, N));
+    }
+    return refused;
+}
+
+/* With a round trip of one interval, and an interval behind it in which it entered at an lpAddRate above rampDn, the conservative
+ * station with 240 frames steps down at the next. The settings that were set up last are those of rpr_start. */
+static void set_up(enum rpr_method method, uint8_t (*image)[N]) {
     static const struct rpr_shaper shaper = {.lo_limit = 2000, .hi_limit = 1000000, .amount = 5000};
     struct rpr_settings s = {.own_address_high = 0x0200, .own_address_low = 0x5e000001, .own_ringlet = 0, .mtu = 1500,
                              .m = shaper, .a = shaper, .b = shaper, .c = shaper, .d = shaper,
                              .control_queue = 1000000, .primary_queue = 1000000, .secondary_queue = 1000000, .low_threshold = 50000,
                              .weight = 2, .rate_unit = 4, .ticks_per_interval = 10, .unreserved_rate = 2000000000,
-                             .age_coef = RPR_DEFAULT_AGE_COEF, .lp_coef = RPR_DEFAULT_LP_COEF, .ramp_up = RPR_DEFAULT_RAMP_UP, .stations = 63};
+                             .age_coef = RPR_DEFAULT_AGE_COEF, .lp_coef = RPR_DEFAULT_LP_COEF, .ramp_up = RPR_DEFAULT_RAMP_UP, .stations = 63,
+                             .method = method, .round_trip = 1, .ramp_dn = 64};
+    uint8_t *empty = image[EMPTY], *few = image[FEW], *full = image[FULL];
     uint64_t refused = 0;
     memcpy(settings, &s, sizeof s);
     refused |= rpr_start(settings, sizeof settings, empty, N);
@@ -125,23 +139,26 @@ static void set_up(void) {
     refused |= rpr_offer_transit(few, N, RPR_CLASS_A, 1000, 3, 0);
     refused |= rpr_offer_transit(few, N, RPR_CLASS_C, 1000, 3, 1);
     memcpy(full, empty, N);
+    if (method == RPR_CONSERVATIVE) refused |= add(full);
     for (unsigned i = 0; i < 120; i++) {
         refused |= rpr_offer_transit(full, N, RPR_CLASS_A, 16 + 37 * i % 1400, 1 + i % 62, 0);
         refused |= rpr_offer_transit(full, N, RPR_CLASS_B + i % 2, 16 + 41 * i % 1400, 1 + i % 62, 1);
     }
     refused |= rpr_read_frame(full, N, heard, sizeof heard);
+    if (method == RPR_CONSERVATIVE) refused |= rpr_age(full, N);
     if (refused != 0 || rpr_station_length() != N) give_up("the stations to measure are refused");
 }
 
 void bench_station(void) {
-    set_up();
-    for (size_t k = 0; k < sizeof states / sizeof states[0]; k++) {
-        bench_heading("the station's calls, ns per call", states[k].name);
+    set_up(RPR_CONSERVATIVE, images[RPR_CONSERVATIVE]);
+    set_up(RPR_AGGRESSIVE, images[RPR_AGGRESSIVE]);
+    for (size_t k = 0; k < STATES; k++) {
+        bench_heading("the station's calls, ns per call", states[k]);
         for (size_t i = 0; i < sizeof measured / sizeof measured[0]; i++) {
-            const struct batch_on on = {measured[i].run, states[k].image};
+            const struct batch_on on = {measured[i].run, images[measured[i].method][k]};
             compare(&library, &on, measured[i].name);
             compare(&same, &on, measured[i].name);
-            bench_row(&(struct row){measured[i].name, states[k].name, measured[i].run == start ? BOUND_START : BOUND_STATION, REPEATS * STATIONS, 1, run_batches, &on, NULL});
+            bench_row(&(struct row){measured[i].name, states[k], measured[i].run == start ? BOUND_START : BOUND_STATION, REPEATS * STATIONS, 1, run_batches, &on, NULL});
         }
     }
 }

@@ -1,26 +1,24 @@
 /*
  * Stations with one thing changed, the library beside plain C: each byte set to each value, at each place each number at which
- * some range ends, the ends of the stored numbers' range, which goes by lpCoef, and the most hops and one more in each place that
- * has hops, by the number of stations. Every call answers and leaves the same on both sides; a refused call leaves every byte as
- * it was.
+ * some range ends, the ends of the stored numbers' range, which goes by lpCoef, the most hops and one more in each place that
+ * has hops, by the number of stations, and what the methods' ranges and steps go by, at and around each edge. Every call answers
+ * and leaves the same on both sides; a refused call leaves every byte as it was.
  */
+#include "edges.h"
+
 #include <stdio.h>
 #include <stdlib.h>
 #include <string.h>
 
-#include "calls.h"
-#include "plain_layout.h"
-
-enum { N = RPR_STATION_LENGTH, CALLS = 12 };
-
-/* Numbers at which a range of document 01 ends; their neighbours are tried too. */
-static const uint32_t fixed[] = {0,   1,   2,    16,   63,    64,    128,   192,     193,       255,        256,       512,
-                                 513, 1024, 9216, 10000, 16384, 65534, 65535, 1048576, 2147483647, 4194304, 4294967295};
+/* Numbers at which a range of documents 01 and 02 ends; their neighbours are tried too. */
+static const uint32_t fixed[] = {0,   1,    2,    16,   63,    64,    128,   192,   193,     255,        256,     512,
+                                 513, 1000, 1024, 9216, 10000, 16384, 65534, 65535, 1048576, 2147483647, 4194304, 4294967295};
 
 /* Frames that a station hears from a neighbour: one on each ringlet, of which one is its own. */
 static const uint8_t heard[2][RPR_FRAME_LENGTH] = {{252, 0x20, 0, 0, 0, 0, 0, 9, 0, 0, 0, 50}, {252, 0xa0, 0, 0, 0, 0, 0, 9, 0, 0, 0, 50}};
 
-static unsigned long tried, good, lacking, beyond;
+unsigned long tried, good;
+static unsigned long lacking, beyond;
 
 static uint64_t ask(const struct calls *side, int call, uint8_t *s, uint8_t *room) {
     switch (call) {
@@ -32,7 +30,7 @@ static uint64_t ask(const struct calls *side, int call, uint8_t *s, uint8_t *roo
         case 5: return side->offer_transit(s, N, RPR_CLASS_B, 16, 3, 1);
         case 6: return side->offer_control(s, N, 64);
         case 7: return side->select(s, N);
-        case 8: return side->age(s, N);
+        case AGES: return side->age(s, N);
         case 9: return side->read_frame(s, N, heard[0], RPR_FRAME_LENGTH);
         case 10: return side->read_frame(s, N, heard[1], RPR_FRAME_LENGTH);
         case 11: return side->offer_client(s, N, RPR_CLASS_B, 40, 3);
@@ -40,8 +38,7 @@ static uint64_t ask(const struct calls *side, int call, uint8_t *s, uint8_t *roo
     }
 }
 
-/* Both sides on the same bytes. The answer. */
-static uint64_t compare(const uint8_t *station, int call, size_t place) {
+uint64_t compare(const uint8_t *station, int call, size_t place) {
     uint8_t ours[N], theirs[N], room[2][RPR_READING_LENGTH];
     memcpy(ours, station, N);
     memcpy(theirs, station, N);
@@ -95,12 +92,11 @@ static void each_end(uint8_t *station, const uint32_t *words) {
     }
 }
 
-/* A station of which it is known whether it is in range. Every call, and the one for the range says so. */
-static void try_known(const uint8_t *station, size_t place, int in_range) {
+void try_known(const uint8_t *station, size_t place, int in_range) {
     tried++;
     if ((compare(station, 0, place) == 0) != in_range) {
-        printf("changed at %zu, lpCoef %u, %u stations: %s\n", place, setting(station, LP_COEF), setting(station, STATIONS),
-               in_range ? "in range, and refused" : "out of range, and not refused");
+        printf("changed at %zu, lpCoef %u, %u stations, method %u: %s\n", place, setting(station, LP_COEF), setting(station, STATIONS),
+               setting(station, METHOD), in_range ? "in range, and refused" : "out of range, and not refused");
         exit(1);
     }
     good += (unsigned)in_range;
@@ -116,7 +112,7 @@ static void each_stored(const uint8_t *station) {
             const uint64_t numbers[] = {end - lp_coef - 1, end - lp_coef, end - 1, end, 2 * end, UINT64_C(1) << 63, UINT64_MAX};
             uint8_t changed[N];
             memcpy(changed, station, N);
-            put(changed + SETTINGS + 4 * LP_COEF, lp_coef);
+            change(changed, LP_COEF, lp_coef);
             set_fair(changed, at % RATES, at < RATES ? 0 : MOST_RATE);
             for (size_t i = 0; i < sizeof numbers / sizeof numbers[0]; i++) {
                 set_stored(changed, at % RATES, numbers[i]);
@@ -141,12 +137,11 @@ static void hold(uint8_t *station, unsigned queue, uint32_t hops, uint8_t head, 
     station[queue + COUNT] = count;
 }
 
-/* A station of a ring of so many, in range or not, with all credit, whose queues and stage are full of frames with so many hops. */
-static void fill_up(uint8_t *station, uint32_t stations, uint32_t hops) {
+void fill_up(uint8_t *station, uint32_t stations, uint32_t hops) {
     uint32_t settings[SETTINGS_WORDS];
     memcpy(settings, sample_settings[1], sizeof settings);
     if (rpr_start(settings, sizeof settings, station, N) != 0) puts("a station to fill is refused"), exit(1);
-    put(station + SETTINGS + 4 * STATIONS, stations);
+    change(station, STATIONS, stations);
     for (unsigned i = 0; i < SHAPERS; i++) put(station + CREDITS + 4 * i, setting(station, HI_LIMIT + 3 * i));
     for (unsigned q = 0; q < QUEUES; q++) hold(station, queues[q], hops, (uint8_t)(50 * q), SLOTS);
     put(station + STAGE, 16 + hops * ONE_HOP + (6 << 20)); /* of class C and marked */
@@ -187,26 +182,25 @@ static void each_ttl(uint8_t *station, uint32_t stations) {
         }
 }
 
-/* A start in a ring of so many, by both sides. */
-static void try_start(uint32_t stations, int is_ring) {
-    uint32_t settings[SETTINGS_WORDS];
+void try_setting(const uint8_t *station, unsigned at, int in_range) {
+    const uint8_t *settings = station + SETTINGS;
     uint8_t ours[N], theirs[N];
-    memcpy(settings, sample_settings[1], sizeof settings);
-    settings[STATIONS] = stations;
     memset(ours, 0x5a, N);
     memset(theirs, 0x5a, N);
-    uint64_t answer = rpr_start(settings, sizeof settings, ours, N), other = plain_start(settings, sizeof settings, theirs, N);
-    if (answer == other && answer == (is_ring ? 0 : RPR_SETTING) && memcmp(ours, theirs, N) == 0) return;
-    printf("start, %u stations: answer %#llx, plain C %#llx\n", stations, (unsigned long long)answer, (unsigned long long)other);
-    exit(1);
+    uint64_t answer = rpr_start(settings, SETTINGS_LENGTH, ours, N), other = plain_start(settings, SETTINGS_LENGTH, theirs, N);
+    if (answer != other || answer != (in_range ? 0 : RPR_SETTING) || memcmp(ours, theirs, N) != 0) {
+        printf("start, word %u is %u: answer %#llx, plain C %#llx\n", at, word(settings, at), (unsigned long long)answer,
+               (unsigned long long)other);
+        exit(1);
+    }
+    try_known(station, SETTINGS + 4 * at, in_range);
 }
 
 /* A ring of so many, which may be none: a start; frames of one hop; and none, so that what is offered is taken or goes beyond the ring. */
 static void try_ring(uint8_t *station, uint32_t stations) {
     int is_ring = stations >= LEAST_STATIONS && stations <= MOST_STATIONS;
-    try_start(stations, is_ring);
     fill_up(station, stations, 1);
-    try_known(station, SETTINGS + 4 * STATIONS, is_ring);
+    try_setting(station, STATIONS, is_ring);
     for (unsigned q = 0; q < QUEUES; q++) hold(station, queues[q], 1, 0, 0);
     put(station + STAGE, 0);
     try_known(station, SETTINGS + 4 * STATIONS, is_ring);
@@ -267,6 +261,7 @@ int main(void) {
         each_stored(station);
     }
     each_ring(station);
+    each_method(station);
     printf("%lu stations, %lu of them in range, %lu offers short of credit, %lu frames beyond the ring: ", tried, good, lacking, beyond);
     puts("the library and plain C do the same");
     return lacking > 0 && beyond > 0 ? 0 : 1;

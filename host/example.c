@@ -107,7 +107,10 @@ static uint32_t amount_of_c(const struct host *host) {
 
 /* ---- the station's calls ---- */
 
-/* In a tick the link carries 6,000 bytes. Half of that is not reserved: a rate of 3,000 x 10 ticks x ageCoef 4. */
+/* In a tick the link carries 6,000 bytes. Half of that is not reserved: a rate of 3,000 x 10 ticks x ageCoef 4. The
+ * method follows congestion at once. Where that is too jumpy RPR_CONSERVATIVE goes in steps, a round_trip apart, the
+ * intervals that the ring takes to hear of a rate and follow it: down by the ramp_dn-th part, up by the ramp_up-th part
+ * of what is missing. */
 static void start(struct host *host) {
     host->settings = (struct rpr_settings){
         .own_address_high = 0x0200, .own_address_low = 0x5e000001, .own_ringlet = 0, .mtu = MTU,
@@ -119,7 +122,8 @@ static void start(struct host *host) {
         .control_queue = 6000, .primary_queue = 16000, .secondary_queue = 64000, .low_threshold = 16000,
         .weight = 1, .rate_unit = 4, .ticks_per_interval = 10, .unreserved_rate = 120000,
         .age_coef = RPR_DEFAULT_AGE_COEF, .lp_coef = RPR_DEFAULT_LP_COEF, .ramp_up = RPR_DEFAULT_RAMP_UP,
-        .stations = STATIONS};
+        .stations = STATIONS,
+        .method = RPR_AGGRESSIVE, .round_trip = 10, .ramp_dn = 64};
     must(rpr_station_length() == sizeof host->station, "header and library belong together");
     carried_out("start", rpr_start(&host->settings, sizeof host->settings, host->station, sizeof host->station));
     begin_piece(host, &host->pieces[0]);

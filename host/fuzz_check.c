@@ -224,6 +224,38 @@ static void check_smoothed(const struct request *r, uint64_t answer) {
     }
 }
 
+/* What an interval makes of local congestion, its rate and the time since a change. Aggressive: lpAddRate or unreservedRate, by the queue, and the
+ * time stands. Conservative: it enters at lpAddRate, at most unreservedRate; leaves, once the queue is not over, from nearer to that than rampUp; and
+ * between goes down or up by a part each round trip, and then alone. */
+static int interval_ok(const uint8_t *before, const uint8_t *after) {
+    uint64_t was = fair(before, LOCAL_FAIR_RATE), now = fair(after, LOCAL_FAIR_RATE), most = setting(after, UNRESERVED);
+    uint64_t add_rate = shown(after, ADD_RATE), up = setting(after, RAMP_UP);
+    uint32_t lent = fair(before, SINCE), since = fair(after, SINCE);
+    int over = get(before + SECONDARY + HELD) > setting(before, LOW_THRESHOLD), congested = fair(after, LOCALLY) == 1;
+    if (congested && fair(after, ALLOWED_RATE) != least(now, most)) return 0;
+    if (setting(after, METHOD) == AGGRESSIVE) return congested == over && now == (over ? add_rate : most) && since == lent;
+    if (!fair(before, LOCALLY)) return congested == over && now == (over ? least(add_rate, most) : was) && since == (over ? 0 : lent);
+    if (!over && most - was < up) return !congested && now == most && since == 0;
+    int due = lent + 1 >= setting(after, ROUND_TRIP);
+    uint64_t step = over ? was - was / setting(after, RAMP_DN) : was + (most - was) / up;
+    return congested && now == (due ? step : was) && since == (due ? 0 : lent + 1);
+}
+
+/* Local congestion, its rates and the time since a change hold till the next interval. Of a conservative station no reading shows a
+ * local fair rate above unreservedRate. */
+static void check_method(const struct request *r, uint64_t answer, unsigned number) {
+    if (number != 0 || signatures[r->call].parameters[0].holds != HOLDS_station) return;
+    const uint8_t *before = r->slices[0].bytes, *after = place(0, &r->slices[0]);
+    unsigned from = FAIR + 4 * LOCAL_FAIR_RATE, to = FAIR + 4 * DOWNSTREAM;
+    if (r->call == call_age) {
+        if (!interval_ok(before, after)) fail(r, answer, "the local fair rate goes otherwise than by the method");
+    } else if (memcmp(before + from, after + from, to - from) != 0) {
+        fail(r, answer, "what an interval decides changes between intervals");
+    }
+    if (r->call == call_show && setting(after, METHOD) == CONSERVATIVE && get(place(1, &r->slices[1]) + 84) > setting(after, UNRESERVED))
+        fail(r, answer, "a local fair rate above unreservedRate");
+}
+
 /* The hops of the frame that a call is given: a client's, a passing one's, or 256 less the ttl of a fairness frame. Others are given none. */
 static uint64_t given_hops(const struct request *r) {
     if (r->call == call_offer_client || r->call == call_offer_transit) return r->numbers[3];
@@ -299,6 +331,7 @@ unsigned make(struct request *r) {
     check_pair(r, answer, number);
     check_ring(r, answer, number);
     check_smoothed(r, answer);
+    check_method(r, answer, number);
     check_short(r, answer);
     check_plain(r, answer);
     tally[r->call][number]++;

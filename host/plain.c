@@ -222,6 +222,27 @@ static uint64_t ramped(const uint8_t *station, unsigned rate) {
     return now + part(setting(station, UNRESERVED) - now, setting(station, RAMP_UP));
 }
 
+/* What an interval decides: locally congested or not, the local fair rate, and the intervals since the last change. */
+struct decision {
+    uint64_t locally, rate, since;
+};
+
+static struct decision aggressive(const uint8_t *station, int over) {
+    return (struct decision){(uint64_t)over, over ? shown(station, ADD_RATE) : setting(station, UNRESERVED), fair(station, SINCE)};
+}
+
+static struct decision conservative(const uint8_t *station, int over) {
+    uint32_t rate = fair(station, LOCAL_FAIR_RATE), since = fair(station, SINCE), unreserved = setting(station, UNRESERVED);
+    if (!fair(station, LOCALLY)) {
+        if (over) return (struct decision){1, least(shown(station, ADD_RATE), unreserved), 0};
+        return (struct decision){0, rate, since};
+    }
+    if (!over && unreserved - rate < setting(station, RAMP_UP)) return (struct decision){0, unreserved, 0};
+    if (since + 1 < setting(station, ROUND_TRIP)) return (struct decision){1, rate, since + 1};
+    if (over) return (struct decision){1, rate - part(rate, setting(station, RAMP_DN)), 0};
+    return (struct decision){1, ramped(station, LOCAL_FAIR_RATE), 0};
+}
+
 uint64_t plain_age(void *lent, size_t length) {
     uint8_t *station = lent;
     uint64_t number = refused(station, length);
@@ -229,16 +250,17 @@ uint64_t plain_age(void *lent, size_t length) {
     uint32_t age = setting(station, AGE_COEF);
     uint64_t unreserved = setting(station, UNRESERVED);
     for (unsigned i = 0; i < RATES; i++) set_stored(station, i, stored(station, i) - shown(station, i) + fair(station, i));
-    int locally = get(station + SECONDARY + HELD) > setting(station, LOW_THRESHOLD);
-    uint64_t local = locally ? shown(station, ADD_RATE) : unreserved;
+    int over = get(station + SECONDARY + HELD) > setting(station, LOW_THRESHOLD);
+    struct decision local = setting(station, METHOD) == CONSERVATIVE ? conservative(station, over) : aggressive(station, over);
     uint64_t received = (uint64_t)fair(station, RECEIVED_RATE) * setting(station, WEIGHT) * setting(station, RATE_UNIT);
-    set_fair(station, LOCALLY, (uint64_t)locally);
-    set_fair(station, LOCAL_FAIR_RATE, local);
-    set_fair(station, ALLOWED_RATE, locally ? least(local, unreserved) : ramped(station, ALLOWED_RATE));
+    set_fair(station, LOCALLY, local.locally);
+    set_fair(station, LOCAL_FAIR_RATE, local.rate);
+    set_fair(station, SINCE, local.since);
+    set_fair(station, ALLOWED_RATE, local.locally ? least(local.rate, unreserved) : ramped(station, ALLOWED_RATE));
     set_fair(station, ALLOWED_RATE_CONGESTED,
              fair(station, DOWNSTREAM) ? least(unreserved, received) : ramped(station, ALLOWED_RATE_CONGESTED));
     for (unsigned i = 0; i < RATES; i++) set_fair(station, i, part((uint64_t)fair(station, i) * (age - 1), age));
-    set_fair(station, OWN_RATE, own_rate(station, local));
+    set_fair(station, OWN_RATE, own_rate(station, local.rate));
     return 0;
 }
 
@@ -314,6 +336,7 @@ uint64_t plain_show(const void *lent, size_t length, void *room, size_t room_len
     put(reading + 48, size_of(get(station + STAGE)));
     memcpy(reading + 52, station + FAIR, 4 * RATES);
     for (unsigned i = 0; i < RATES; i++) put(reading + 68 + 4 * i, (uint32_t)shown(station, i));
-    memcpy(reading + 84, station + FAIR + 4 * LOCAL_FAIR_RATE, 4 * (FAIR_WORDS - LOCAL_FAIR_RATE));
+    memcpy(reading + 84, station + FAIR + 4 * LOCAL_FAIR_RATE, 4 * (SINCE - LOCAL_FAIR_RATE));
+    memcpy(reading + 104, station + FAIR + 4 * DOWNSTREAM, 4 * (FAIR_WORDS - DOWNSTREAM));
     return 0;
 }

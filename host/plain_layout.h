@@ -5,13 +5,13 @@
 #include <stdint.h>
 #include <string.h>
 
-/* Where things stand in the 1,790 bytes of a station. */
-enum { CREDITS = 0, CONTROL = 20, PRIMARY = 538, SECONDARY = 1056, STAGE = 1574, FAIR = 1578, SETTINGS = 1666, STATION_LENGTH = 1790 };
+/* Where things stand in the 1,806 bytes of a station. */
+enum { CREDITS = 0, CONTROL = 20, PRIMARY = 538, SECONDARY = 1056, STAGE = 1574, FAIR = 1578, SETTINGS = 1670, STATION_LENGTH = 1806 };
 
 /* A queue: 128 slots of 4 bytes, the bytes held, the first slot's number and the number of frames. */
 enum { SLOTS = 128, HELD = 512, HEAD = 516, COUNT = 517 };
 
-enum { FRAME_LENGTH = 12, READING_LENGTH = 124, SETTINGS_LENGTH = 124 };
+enum { FRAME_LENGTH = 12, READING_LENGTH = 124, SETTINGS_LENGTH = 136 };
 
 /* The shapers, in the order of their credits and settings. */
 enum { M, A, B, C, D, SHAPERS };
@@ -19,16 +19,19 @@ enum { M, A, B, C, D, SHAPERS };
 /* The words of the fairness state. The counters of the four rates come first, and then their stored numbers, two words each. */
 enum {
     ADD_RATE, FW_RATE, ADD_RATE_CONGESTED, FW_RATE_CONGESTED, RATES, STORED = RATES, LOCAL_FAIR_RATE = STORED + 2 * RATES, ALLOWED_RATE,
-    ALLOWED_RATE_CONGESTED, OWN_RATE, LOCALLY, DOWNSTREAM, RECEIVED_TTL, RECEIVED_HIGH, RECEIVED_LOW, RECEIVED_RATE, FAIR_WORDS
+    ALLOWED_RATE_CONGESTED, OWN_RATE, LOCALLY, SINCE, DOWNSTREAM, RECEIVED_TTL, RECEIVED_HIGH, RECEIVED_LOW, RECEIVED_RATE, FAIR_WORDS
 };
 
 /* The words of the settings. */
 enum {
     OWN_HIGH, OWN_LOW, RINGLET, MTU, LO_LIMIT, HI_LIMIT, AMOUNT, CONTROL_BYTES = LO_LIMIT + 3 * SHAPERS, PRIMARY_BYTES,
-    SECONDARY_BYTES, LOW_THRESHOLD, WEIGHT, RATE_UNIT, TICKS, UNRESERVED, AGE_COEF, LP_COEF, RAMP_UP, STATIONS
+    SECONDARY_BYTES, LOW_THRESHOLD, WEIGHT, RATE_UNIT, TICKS, UNRESERVED, AGE_COEF, LP_COEF, RAMP_UP, STATIONS, METHOD,
+    ROUND_TRIP, RAMP_DN
 };
 
 enum { MOST_RATE = 2147483647, FULL_RATE = 65535, LEAST_TTL = 193, MOST_TTL = 255, LEAST_STATIONS = 2, MOST_STATIONS = 63 };
+
+enum { AGGRESSIVE, CONSERVATIVE, MOST_ROUND_TRIP = 1000 };
 
 /* ---- numbers in bytes ---- */
 
@@ -72,7 +75,7 @@ static inline uint32_t last_ttl(const uint8_t *station) { return 256 - (setting(
 
 /* ---- plain_range.c ---- */
 
-/* The 124 bytes of settings are in range. */
+/* The 136 bytes of settings are in range. */
 int plain_settings_ok(const uint8_t *settings);
 
 /* The settings, credits, queues, stage and fairness state of a station are in range. */

@@ -22,7 +22,8 @@ int plain_settings_ok(const uint8_t *s) {
     if (!within(s, SECONDARY_BYTES, 2 * mtu, 1048576) || word(s, LOW_THRESHOLD) > word(s, SECONDARY_BYTES)) return 0;
     if (!within(s, WEIGHT, 1, 255) || !within(s, RATE_UNIT, 1, 1024) || !within(s, TICKS, 1, 10000)) return 0;
     return within(s, UNRESERVED, 1, MOST_RATE) && power_ok(word(s, AGE_COEF), 1, 16) && power_ok(word(s, LP_COEF), 16, 512) &&
-           power_ok(word(s, RAMP_UP), 16, 512) && within(s, STATIONS, LEAST_STATIONS, MOST_STATIONS);
+           power_ok(word(s, RAMP_UP), 16, 512) && within(s, STATIONS, LEAST_STATIONS, MOST_STATIONS) && word(s, METHOD) <= CONSERVATIVE &&
+           within(s, ROUND_TRIP, 1, MOST_ROUND_TRIP) && power_ok(word(s, RAMP_DN), 16, 512);
 }
 
 /* What a frame is held to: its size is at most the mtu, its hops are below the number of stations. */
@@ -78,11 +79,12 @@ static int free_ok(const uint8_t *queue, uint32_t from, uint32_t to) {
 
 static int fair_ok(const uint8_t *station) {
     const uint8_t *f = station + FAIR;
-    uint32_t unreserved = setting(station, UNRESERVED);
+    uint32_t unreserved = setting(station, UNRESERVED), most_local = setting(station, METHOD) == CONSERVATIVE ? unreserved : MOST_RATE;
     uint64_t end = setting(station, LP_COEF) * (UINT64_C(1) + MOST_RATE); /* the first stored number that shows more than MOST_RATE */
     for (unsigned i = 0; i < RATES; i++)
         if (word(f, i) > MOST_RATE || stored(station, i) >= end) return 0;
-    if (word(f, LOCAL_FAIR_RATE) > MOST_RATE || word(f, ALLOWED_RATE) > unreserved || word(f, ALLOWED_RATE_CONGESTED) > unreserved) return 0;
+    if (word(f, LOCAL_FAIR_RATE) > most_local || word(f, SINCE) >= setting(station, ROUND_TRIP)) return 0;
+    if (word(f, ALLOWED_RATE) > unreserved || word(f, ALLOWED_RATE_CONGESTED) > unreserved) return 0;
     if (word(f, OWN_RATE) >= FULL_RATE || word(f, LOCALLY) > 1 || word(f, DOWNSTREAM) > 1) return 0;
     return within(f, RECEIVED_TTL, last_ttl(station), MOST_TTL) && word(f, RECEIVED_HIGH) <= 65535 && word(f, RECEIVED_RATE) < FULL_RATE;
 }

@@ -44,10 +44,10 @@ extern "C" {
 /* ---- version ---- */
 
 /* The version of this interface. The first number grows where a host has to change what it calls or lends: from 2.0 on
- * a station is longer, from 3.0 on it and the settings have a word more, the number of stations, and no frame may have
- * so many hops. What a host of an earlier version lends is refused with 2, and nothing is touched: set `stations` (0 is
- * refused with 1), compile the host anew, and start its stations anew. */
-#define RPR_VERSION "3.0"
+ * a station is longer, from 3.0 on settings name the number of stations, which no frame's hops may reach, from 4.0 on
+ * the method. What a host of an earlier version lends is refused with 2, and nothing is touched: compile it anew with
+ * `stations`, `round_trip`, `ramp_dn` (0 is refused with 1) and `method` (0 is as before); start its stations anew. */
+#define RPR_VERSION "4.0"
 
 /* The version of the library that is linked: 256 times the first number and the second. Nothing is refused. */
 RPR_ANSWERS uint64_t rpr_version(void);
@@ -113,6 +113,9 @@ enum rpr_ring {
     RPR_WRAPPING = 1  /* frames turn to the opposite ringlet: ttl is 63 */
 };
 
+/* How a station finds localFairRate: at once, the only method up to version 3, or in steps (rpr_age). */
+enum rpr_method { RPR_AGGRESSIVE = 0, RPR_CONSERVATIVE = 1 };
+
 /* Where a selected frame came from. */
 enum rpr_origin {
     RPR_FROM_NOTHING = 0, /* nothing is to be sent now */
@@ -127,8 +130,8 @@ enum rpr_origin {
 RPR_HOLDS(sizeof(size_t) == sizeof(uint64_t)); /* the library is for 64-bit machines */
 
 enum {
-    RPR_STATION_LENGTH = 1790,     /* a station; rpr_station_length() answers the same of the library that is linked */
-    RPR_SETTINGS_LENGTH = 124,     /* struct rpr_settings */
+    RPR_STATION_LENGTH = 1806,     /* a station; rpr_station_length() answers the same of the library that is linked */
+    RPR_SETTINGS_LENGTH = 136,     /* struct rpr_settings */
     RPR_READING_LENGTH = 124,      /* struct rpr_reading */
     RPR_FRAME_LENGTH = 12,         /* a fairness frame */
     RPR_SUMMARY_LENGTH = 48,       /* struct rpr_summary */
@@ -148,7 +151,7 @@ struct rpr_shaper {
     uint32_t amount;   /* 0 to 65,535 bytes that each tick adds */
 };
 
-/* The settings of a station: 31 words. Rates are in bytes per age_coef intervals, sizes and queues in bytes. */
+/* The settings of a station: 34 words. Rates are in bytes per age_coef intervals, sizes and queues in bytes. */
 struct rpr_settings {
     uint32_t own_address_high;   /* the first two bytes of the own address: 0 to 65,535 */
     uint32_t own_address_low;    /* the last four */
@@ -170,12 +173,15 @@ struct rpr_settings {
     uint32_t unreserved_rate;    /* 1 to 2,147,483,647: the most that the station is ever allowed */
     uint32_t age_coef;           /* 1, 2, 4, 8 or 16: how slowly counters fade */
     uint32_t lp_coef;            /* 16, 32, 64, 128, 256 or 512: how slowly smoothed rates follow them */
-    uint32_t ramp_up;            /* 16, 32, 64, 128, 256 or 512: how slowly allowed rates rise again */
+    uint32_t ramp_up;            /* 16, 32, 64, 128, 256 or 512: how slowly allowed and local fair rates rise again */
     uint32_t stations;           /* 2 to 63: how many stations the ring has; no frame has so many hops to go, or more */
+    uint32_t method;             /* enum rpr_method; the next two are for RPR_CONSERVATIVE, their ranges for both */
+    uint32_t round_trip;         /* 1 to 1,000 intervals that a step of localFairRate waits after the last change */
+    uint32_t ramp_dn;            /* 16, 32, 64, 128, 256 or 512: how slowly localFairRate falls */
 };
 
 RPR_HOLDS(sizeof(struct rpr_settings) == RPR_SETTINGS_LENGTH);
-RPR_HOLDS(offsetof(struct rpr_settings, control_queue) == 4 * 19 && offsetof(struct rpr_settings, stations) == 4 * 30);
+RPR_HOLDS(offsetof(struct rpr_settings, control_queue) == 4 * 19 && offsetof(struct rpr_settings, ramp_dn) == 4 * 33);
 
 /* ---- a station: start, ticks, frames in, frames out ---- */
 
@@ -217,7 +223,10 @@ RPR_LENT uint64_t rpr_select(void *station, size_t station_length);
 enum { RPR_FULL_RATE = 65535 }; /* the rate in a fairness frame that says: not congested */
 
 /* The aging interval: smooths the rates, looks whether the station is locally congested, sets the allowed rates and the
- * own rate. To be called every ticks_per_interval ticks. Refuses 2, 1. */
+ * own rate. To be called every ticks_per_interval ticks. Refuses 2, 1. RPR_CONSERVATIVE: with the secondary queue over
+ * low_threshold the station enters congestion, localFairRate at lpAddRate, at most unreserved_rate, and lowers it every
+ * round_trip intervals by its ramp_dn-th part; with the queue not over, it raises it as often by the ramp_up-th part of
+ * its distance to unreserved_rate, and leaves congestion, at unreserved_rate, as soon as that is below ramp_up. */
 RPR_LENT uint64_t rpr_age(void *station, size_t station_length);
 
 /* Hears a fairness frame of RPR_FRAME_LENGTH bytes: RPR_FULL_RATE clears downstream congestion, another rate sets it.
@@ -240,27 +249,21 @@ struct rpr_held {
 
 /* Bytes of fairness eligible frames. */
 struct rpr_rates {
-    uint32_t add_rate;           /* that the station added from its stage */
-    uint32_t fw_rate;            /* that it forwarded from its secondary queue */
-    uint32_t add_rate_congested; /* the same of frames that went beyond the congested station */
-    uint32_t fw_rate_congested;
+    uint32_t add_rate, fw_rate;                     /* added from the stage, forwarded from the secondary queue */
+    uint32_t add_rate_congested, fw_rate_congested; /* the same of frames that went beyond the congested station */
 };
 
 /* A reading of a station: 31 words. */
 struct rpr_reading {
-    uint32_t credit_m; /* the shapers' credits: 0 to hi_limit */
-    uint32_t credit_a;
-    uint32_t credit_b;
-    uint32_t credit_c;
-    uint32_t credit_d;
+    uint32_t credit_m, credit_a, credit_b, credit_c, credit_d; /* the shapers' credits: 0 to hi_limit */
     struct rpr_held control, primary, secondary, stage;
     struct rpr_rates counted;        /* addRate .. fwRateCongested: counted as sent, faded at each interval */
     struct rpr_rates smoothed;       /* lpAddRate .. lpFwRateCongested, the rates shown: they reach a steady counter */
-    uint32_t local_fair_rate;        /* lpAddRate if locally congested, else unreserved_rate */
+    uint32_t local_fair_rate;        /* by the method if locally congested, else unreserved_rate */
     uint32_t allowed_rate;           /* what the station may add */
     uint32_t allowed_rate_congested; /* what it may add beyond the congested station */
     uint32_t own_rate;               /* local_fair_rate as a fairness frame bears it: 0 to 65,534 */
-    uint32_t locally_congested;      /* RPR_YES or RPR_NO, as of the last interval */
+    uint32_t locally_congested;      /* RPR_YES or RPR_NO, as of the last interval; RPR_CONSERVATIVE: till it leaves */
     uint32_t downstream_congested;   /* RPR_YES or RPR_NO, as of the last frame heard */
     uint32_t received_ttl;           /* 257 - stations to 255: while congested, the station is 256 less this away */
     uint32_t received_address_high;  /* the first two bytes of that station's address */
@@ -305,10 +308,7 @@ enum { RPR_MOST_EVENTS = 1000000 }; /* the most events of a record, and of a sum
 
 /* A summary of a shaper record: what its events do to any starting credit. */
 struct rpr_summary {
-    uint32_t mtu;
-    uint32_t lo_limit;
-    uint32_t hi_limit;
-    uint32_t events;
+    uint32_t mtu, lo_limit, hi_limit, events;
     uint64_t accrued; /* bytes that ticks brought */
     uint64_t sent;    /* bytes that were sent */
     int64_t ceiling;  /* the most credit that can be left; it may be negative */

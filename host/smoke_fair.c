@@ -1,15 +1,10 @@
 /* Calls what a station has for fairness, as a host would, and says what differs from documents 01 and 02. */
 #include "smoke_station.h"
 
-/* A station that has sent two eligible frames, 60 and 64 bytes. C has 236 - 124 left, D 248 - 124. */
+/* A station that has sent two eligible frames, 60 and 64 bytes. */
 static void busy(void) {
     start(&plain);
-    tick(0, 0, 1, 0);
-    tick(0, 0, 1, 0);
-    client("60", C, 60, 20, MARKED);
-    selects("60", RPR_FROM_STAGE, C, 20, 1, 60);
-    client("64", C, 64, 20, MARKED);
-    selects("64", RPR_FROM_STAGE, C, 20, 1, 64);
+    adds_124();
     rates("counted", show().counted, (struct rpr_rates){124, 0, 0, 0});
 }
 

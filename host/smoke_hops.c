@@ -102,13 +102,7 @@ static void behind_it(void) {
 
 /* ---- a station that is lent ---- */
 
-/* Lends the station as one of a ring of so many: the settings are its last bytes (docs/LAYOUT.md). */
-static void lend_in(uint32_t stations) {
-    uint8_t bytes[RPR_STATION_LENGTH];
-    memcpy(bytes, slices[STATION].memory + GUARD, sizeof bytes);
-    memcpy(bytes + sizeof bytes - sizeof(struct rpr_settings) + offsetof(struct rpr_settings, stations), &stations, sizeof stations);
-    lend(STATION, bytes, sizeof bytes);
-}
+static void lend_in(uint32_t stations) { lend_with(WORD(stations), stations); }
 
 /* A station that holds 5 hops is none of a ring of 5 or 2, and no call takes it for one. In a ring of 63 it is at home. */
 static void holds_five(const char *what) {

@@ -18,7 +18,7 @@ static void fresh(void) {
     want.local_fair_rate = want.allowed_rate = want.allowed_rate_congested = 10000;
     want.own_rate = 3333;
     want.received_ttl = 255;
-    expect("the version", rpr_version(), 256 * 3 + 0);
+    expect("the version", rpr_version(), 256 * 4 + 0);
     expect("the station's length", rpr_station_length(), RPR_STATION_LENGTH);
     start(&plain);
     struct rpr_reading got = show();
@@ -34,13 +34,9 @@ static void fresh(void) {
     expect("the own rate is at most 65,534", show().own_rate, 65534);
 }
 
-/* One word of the settings at a time, outside its range or at its end. */
+/* One word of the settings at a time, outside its range or at its end. Those of the methods are in smoke_method.c. */
 static void settings_words(void) {
-    static const struct {
-        unsigned word;
-        uint32_t value;
-        uint64_t want;
-    } cases[] = {
+    static const struct word_case cases[] = {
         {0, 65535, 0}, {0, 65536, 1}, {1, UINT32_MAX, 0}, {2, 1, 0}, {2, 2, 1}, {3, 63, 1}, {3, 65, 0}, {3, 66, 1},
         {4, 63, 1}, {4, 64, 0}, {4, 299, 0}, {4, 300, 1}, {5, 1048576, 0}, {5, 1048577, 1}, {6, 65535, 0},
         {6, 65536, 1}, {7, 63, 1}, {8, 110, 1}, {9, 65536, 1}, {10, 63, 1}, {11, 120, 1}, {12, 65536, 1},
@@ -51,22 +47,14 @@ static void settings_words(void) {
         {26, 2147483647, 0}, {26, 2147483648, 1}, {27, 0, 1}, {27, 1, 0}, {27, 3, 1}, {27, 16, 0}, {27, 32, 1},
         {28, 0, 1}, {28, 8, 1}, {28, 512, 0}, {28, 1024, 1}, {29, 16, 0}, {29, 24, 1}, {29, 1024, 1},
         {30, 0, 1}, {30, 1, 1}, {30, 2, 0}, {30, 63, 0}, {30, 64, 1}, {30, 256 + 6, 1}};
-    for (size_t i = 0; i < sizeof cases / sizeof cases[0]; i++) {
-        uint32_t words[RPR_SETTINGS_LENGTH / 4];
-        memcpy(words, &plain, sizeof words);
-        words[cases[i].word] = cases[i].value;
-        lend(SETTINGS, words, sizeof words);
-        char what[40];
-        snprintf(what, sizeof what, "word %u is %u", cases[i].word, cases[i].value);
-        answered(what, rpr_start(LENT(SETTINGS), LENT(STATION)), STATION, cases[i].want);
-    }
+    for (size_t i = 0; i < sizeof cases / sizeof cases[0]; i++) start_but(&plain, &cases[i]);
 }
 
 /* ---- every call refuses 2, then 1 ---- */
 
-/* Of version 1 a station has 1,770 bytes, of version 2 it has 1,786, and its settings 30 words. */
+/* Of version 1 a station has 1,770 bytes, of version 2 it has 1,786, and settings 30 words; of version 3, 1,790 and 31. */
 static void lengths(void) {
-    static const size_t others[] = {0, 1, 1770, 1786, RPR_STATION_LENGTH - 1, RPR_STATION_LENGTH + 1};
+    static const size_t others[] = {0, 1, 1770, 1786, 1790, RPR_STATION_LENGTH - 1, RPR_STATION_LENGTH + 1};
     for (size_t i = 0; i < sizeof others / sizeof others[0]; i++) {
         lend(SETTINGS, &plain, sizeof plain);
         lend_filled(STATION, 0, others[i]);
@@ -76,6 +64,8 @@ static void lengths(void) {
     start(&plain);
     lend(SETTINGS, &plain, 4 * 30);
     answered("30 words", rpr_start(LENT(SETTINGS), LENT(STATION)), STATION, RPR_BYTES);
+    lend(SETTINGS, &plain, 4 * 31);
+    answered("31 words", rpr_start(LENT(SETTINGS), LENT(STATION)), STATION, RPR_BYTES);
     lend_filled(SETTINGS, 0, RPR_SETTINGS_LENGTH - 1);
     answered("short settings", rpr_start(LENT(SETTINGS), LENT(STATION)), STATION, RPR_BYTES);
     lend_filled(SETTINGS, 0, RPR_SETTINGS_LENGTH + 1);

@@ -21,12 +21,38 @@ static const struct rpr_settings plain = {
     .m = {100, 300, 50}, .a = {110, 310, 51}, .b = {120, 320, 52}, .c = {130, 330, 53}, .d = {140, 340, 54},
     .control_queue = 100, .primary_queue = 101, .secondary_queue = 130, .low_threshold = 98,
     .weight = 1, .rate_unit = 3, .ticks_per_interval = 10, .unreserved_rate = 10000,
-    .age_coef = 4, .lp_coef = 16, .ramp_up = 64, .stations = 63};
+    .age_coef = 4, .lp_coef = 16, .ramp_up = 64, .stations = 63,
+    .method = RPR_AGGRESSIVE, .round_trip = 3, .ramp_dn = 32};
 
 static inline void start(const struct rpr_settings *settings) {
     lend(SETTINGS, settings, sizeof *settings);
     lend_filled(STATION, 0xee, RPR_STATION_LENGTH);
     answered("start", rpr_start(LENT(SETTINGS), LENT(STATION)), STATION, 0);
+}
+
+/* A word of the settings, its number, and what a start answers. */
+struct word_case {
+    unsigned word;
+    uint32_t value;
+    uint64_t want;
+};
+
+/* A start with these settings but for one word. */
+static inline void start_but(const struct rpr_settings *settings, const struct word_case *one) {
+    uint32_t words[RPR_SETTINGS_LENGTH / 4];
+    char what[40];
+    memcpy(words, settings, sizeof words);
+    words[one->word] = one->value;
+    lend(SETTINGS, words, sizeof words);
+    snprintf(what, sizeof what, "word %u is %u", one->word, one->value);
+    answered(what, rpr_start(LENT(SETTINGS), LENT(STATION)), STATION, one->want);
+}
+
+/* Lends the station with another number of 4 bytes at a place of docs/LAYOUT.md, or in a word of its settings. */
+#define WORD(setting) (RPR_STATION_LENGTH - RPR_SETTINGS_LENGTH + offsetof(struct rpr_settings, setting))
+static inline void lend_with(size_t place, uint32_t number) {
+    memcpy(slices[STATION].memory + GUARD + place, &number, sizeof number);
+    memcpy(slices[STATION].before, slices[STATION].memory, WHOLE);
 }
 
 static inline void tick(uint64_t a_waits, uint64_t b_waits, uint64_t c_waits, uint64_t want) {
@@ -81,6 +107,16 @@ static inline void selects(const char *what, unsigned origin, unsigned class, un
 
 /* Selects, and expects nothing: the station stays as it was. */
 static inline void selects_nothing(const char *what) { answered(what, rpr_select(LENT(STATION)), NONE, 0); }
+
+/* A fresh station adds two eligible frames, 60 and 64 bytes. C has 236 - 124 left, D 248 - 124. */
+static inline void adds_124(void) {
+    tick(0, 0, 1, 0);
+    tick(0, 0, 1, 0);
+    client("60", C, 60, 20, MARKED);
+    selects("60", RPR_FROM_STAGE, C, 20, 1, 60);
+    client("64", C, 64, 20, MARKED);
+    selects("64", RPR_FROM_STAGE, C, 20, 1, 64);
+}
 
 static inline void age(void) { answered("age", rpr_age(LENT(STATION)), STATION, 0); }
 

@@ -94,5 +94,6 @@ module _ (f : Fair) where
             };
         of-smoothed = ok .of-smoothed;
         of-decided = ok .of-decided;
+        since-below = ok .since-below;
         of-received = ok .of-received;
       }

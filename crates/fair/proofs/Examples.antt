@@ -1,22 +1,25 @@
--- One station, its numbers worked out by hand from document 01 and here computed. Assumes nothing.
+-- One station, its numbers worked out by hand from documents 01 and 02 and here computed. Assumes nothing.
 use Prim.Native.Nat.{ℕ}
 use mathlib.Core.Bool.{true, false}
 use mathlib.Core.Path.{_≡_, refl}
 use Rattle.decide.specs.Test.{test}
-use Rattle.rates.specs.Rates.{partOf, smoothedOf, shownOf, shownOk, agedOf, rampedOf, allowanceOf, ownRateOf, countedOf}
+use Rattle.rates.specs.Rates.{partOf, smoothedOf, shownOf, shownOk, agedOf, rampedOf, reducedOf, allowanceOf, ownRateOf, countedOf}
 use Rattle.advert.specs.declared.Advert.{Advert}
 use Rattle.settings.specs.declared.Bucket.{Bucket}
 use Rattle.settings.specs.declared.Settings.{Settings}
 use Rattle.heard.specs.Frame.{receivedOf}
+use Rattle.fair.specs.declared.Adjusted.{Adjusted}
 use Rattle.fair.specs.declared.Fair.{Fair}
 use Rattle.fair.specs.Range.{fairOk}
 use Rattle.fair.specs.Count.{beyond, over, raisedOf, countOf}
-use Rattle.fair.specs.Age.{adjustOf, allowedOf, allowedcOf, ageOf}
+use Rattle.fair.specs.Methods.{aggressiveOf, rowOf, rowGives, adjustOf}
+use Rattle.fair.specs.Age.{allowedOf, allowedcOf, ageOf}
 use Rattle.fair.specs.Advertise.{toldOf, heardOf}
 
--- ringlet 0, address 00-01-00-00-00-02, low threshold 1,000, weight 2, rate unit 4, unreservedRate 1,000,000, default coefficients, so many stations
-abbrev pub settingsOn : ℕ → Settings
-settingsOn stations =
+-- ringlet 0, address 00-01-00-00-00-02, low threshold 1,000, weight 2, rate unit 4, unreservedRate 1,000,000, default coefficients, so many stations; this
+-- method, a round trip of 3 intervals, rampDn 16
+abbrev pub settingsBy : (stations method : ℕ) → Settings
+settingsBy stations method =
     let b : Bucket = record { lo = 2000; hi = 9000; amount = 300 } in
     record {
       address = record { high = 1; low = 2 };
@@ -25,21 +28,40 @@ settingsOn stations =
       shapers = record { m = b; a = b; b = b; c = b; d = b };
       queues = record { control = 100000; primary = 100000; secondary = 200000; threshold = 1000 };
       fairness = record { weight = 2; unit = 4; ticks = 100; unreserved = 1000000; age = 4; lp = 64; ramp = 64 };
-      site = record { stations = stations };
+      site = record { stations = stations; method = method; trip = 3; down = 16 };
     }
+
+-- with the aggressive method
+abbrev pub settingsOn : ℕ → Settings
+settingsOn stations = settingsBy stations 0
 
 -- the largest ring
 abbrev pub settings : Settings
 settings = settingsOn 63
 
--- congested both ways, as told by 00-03-00-00-00-04 with this ttl and rate 125, at this own rate; of lpAddRate 2,400 is stored
-abbrev pub state : (own ttl : ℕ) → Fair
-state own ttl = record {
+-- congested both ways, as told by 00-03-00-00-00-04 with this ttl and rate 125, at this own rate and localFairRate, so many intervals after its change; of
+-- lpAddRate 2,400 is stored
+abbrev pub stateAt : (own ttl local since : ℕ) → Fair
+stateAt own ttl local since = record {
   counters = record { add = 6400; fw = 100; addc = 936; fwc = 2147483600 };
   smoothed = record { add = 2400; fw = 0; addc = 0; fwc = 0 };
-  decided = record { local = 136; allowed = 136; allowedc = 1000; own = own; congested = 1 };
+  decided = record { local = local; allowed = 136; allowedc = 1000; own = own; congested = 1 };
+  since = since;
   received = record { downstream = 1; ttl = ttl; high = 3; low = 4; rate = 125 };
 }
+
+-- at localFairRate 136, which changed 2 intervals ago: the third is a round trip behind it
+abbrev pub state : (own ttl : ℕ) → Fair
+state own ttl = stateAt own ttl 136 2
+
+-- The conservative method, from local congestion, localFairRate and the intervals since its change: with so much stored of lpAddRate and so many bytes in the
+-- secondary queue.
+abbrev pub cautious : (congested local since stored held : ℕ) → Adjusted
+cautious congested local since stored held =
+    adjustOf (settingsBy 63 1) (record { congested = congested; local = local; since = since }) (record { add = stored; fw = 0; addc = 0; fwc = 0 }) held
+
+abbrev pub adjusted : (congested local since : ℕ) → Adjusted
+adjusted congested local since = record { congested = congested; local = local; since = since }
 
 abbrev pub frame : (ttl high low rate : ℕ) → Advert
 frame ttl high low rate = record { ringlet = 1; ttl = ttl; high = high; low = low; rate = rate }
@@ -73,6 +95,39 @@ pub record Examples : Type 0 where
   pub room-congested : ageOf (state 9 250) settings 1000 .decided .congested ≡ 0
   pub room-allowed : ageOf (state 9 250) settings 1000 .decided .allowed ≡ 15758
   pub room-own : ageOf (state 9 250) settings 1000 .decided .own ≡ 65534
+  -- ---- the conservative method: a round trip of 3 intervals, rampDn 16, rampUp 64
+
+  -- entry at lpAddRate, floor(8,763 / 64) = 136, and cut to unreservedRate where it is 2,000,000; without congestion nothing changes
+  pub entry : cautious 0 1000000 2 8763 1001 ≡ adjusted 1 136 0
+  pub entry-cut : cautious 0 1000000 2 128000000 1001 ≡ adjusted 1 1000000 0
+  pub rest : cautious 0 1000000 2 8763 1000 ≡ adjusted 0 1000000 2
+  -- the third interval after a change steps down by floor(136 / 16), the second does not; 15 has no 16th part, and its step of 0 is a change
+  pub lowered : cautious 1 136 2 8763 1001 ≡ adjusted 1 128 0
+  pub not-lowered : cautious 1 136 1 8763 1001 ≡ adjusted 1 136 2
+  pub lowered-by-0 : cautious 1 15 2 8763 1001 ≡ adjusted 1 15 0
+  -- the test is false: up by floor(999,864 / 64), not before a round trip has passed; 63 below unreservedRate it leaves at once, 64 below it does not
+  pub raised : cautious 1 136 2 8763 1000 ≡ adjusted 1 15758 0
+  pub not-raised : cautious 1 136 1 8763 1000 ≡ adjusted 1 136 2
+  pub left : cautious 1 999937 0 8763 1000 ≡ adjusted 0 1000000 0
+  pub not-left : cautious 1 999936 0 8763 1000 ≡ adjusted 1 999936 1
+  pub raised-by-1 : cautious 1 999936 2 8763 1000 ≡ adjusted 1 999937 0
+  -- until it leaves it counts as locally congested: allowedRate is localFairRate, own rate floor(15,758 / 8), and once nobody downstream is congested it tells its own
+  -- rate, where the aggressive method tells FULL_RATE
+  pub still-congested : ageOf (state 9 250) (settingsBy 63 1) 1000 .decided .congested ≡ 1
+  pub still-allowed : ageOf (state 9 250) (settingsBy 63 1) 1000 .decided .allowed ≡ 15758
+  pub still-own : ageOf (state 9 250) (settingsBy 63 1) 1000 .decided .own ≡ 1969
+  pub still-told : toldOf (ageOf (heardOf (state 9 250) (frame 200 5 6 65535)) (settingsBy 63 1) 1000) (settingsBy 63 1) ≡ frame 255 1 2 1969
+  pub room-told : toldOf (ageOf (heardOf (state 9 250) (frame 200 5 6 65535)) settings 1000) settings ≡ frame 255 1 2 65535
+  -- the range: fewer intervals than a round trip since a change, by either method; the conservative localFairRate at most unreservedRate
+  pub since-2 : test (fairOk settings (stateAt 17 250 136 2)) ≡ true
+  pub since-3 : test (fairOk settings (stateAt 17 250 136 3)) ≡ false
+  pub since-2-by : test (fairOk (settingsBy 63 1) (stateAt 17 250 136 2)) ≡ true
+  pub since-3-by : test (fairOk (settingsBy 63 1) (stateAt 17 250 136 3)) ≡ false
+  pub at-unreserved : test (fairOk (settingsBy 63 1) (stateAt 17 250 1000000 2)) ≡ true
+  pub above-unreserved : test (fairOk (settingsBy 63 1) (stateAt 17 250 1000001 2)) ≡ false
+  pub above-aggressive : test (fairOk settings (stateAt 17 250 1000001 2)) ≡ true
+  -- ---- what is told and heard
+
   -- own 125 ≤ received 125; own 126 > received 125, whose frame goes on unless its hops are the stations less 1: 62 of 63, 5 of 6
   pub own-told : toldOf (state 125 250) settings ≡ frame 255 1 2 125
   pub received-told : toldOf (state 126 250) settings ≡ frame 249 3 4 125
@@ -85,7 +140,7 @@ pub record Examples : Type 0 where
   pub set-ttl : heardOf (state 17 250) (frame 200 5 6 65534) .received .ttl ≡ 200
 
 pub examples : Examples
-unfolding test fairOk raisedOf adjustOf allowedOf allowedcOf toldOf receivedOf partOf smoothedOf shownOf agedOf rampedOf allowanceOf ownRateOf countedOf
+unfolding test fairOk raisedOf aggressiveOf rowOf rowGives adjustOf allowedOf allowedcOf toldOf receivedOf partOf smoothedOf shownOf agedOf rampedOf reducedOf allowanceOf ownRateOf countedOf
 examples =
     record {
       ttl-194 = refl;
@@ -109,6 +164,29 @@ examples =
       room-congested = refl;
       room-allowed = refl;
       room-own = refl;
+      entry = refl;
+      entry-cut = refl;
+      rest = refl;
+      lowered = refl;
+      not-lowered = refl;
+      lowered-by-0 = refl;
+      raised = refl;
+      not-raised = refl;
+      left = refl;
+      not-left = refl;
+      raised-by-1 = refl;
+      still-congested = refl;
+      still-allowed = refl;
+      still-own = refl;
+      still-told = refl;
+      room-told = refl;
+      since-2 = refl;
+      since-3 = refl;
+      since-2-by = refl;
+      since-3-by = refl;
+      at-unreserved = refl;
+      above-unreserved = refl;
+      above-aggressive = refl;
       own-told = refl;
       received-told = refl;
       last-told = refl;

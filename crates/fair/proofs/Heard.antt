@@ -35,5 +35,6 @@ heard-in-range s good f ok a l m g h r =
       of-counters = ok .of-counters;
       of-smoothed = ok .of-smoothed;
       of-decided = ok .of-decided;
+      since-below = ok .since-below;
       of-received = received-in-range (s .site .stations) a (good .of-site .stations-least) l m g h r;
     }

@@ -1,6 +1,8 @@
 pub mod Range
 pub mod Count
+pub mod Methods
 pub mod Age
+pub mod Rows
 pub mod Shift
 pub mod Told
 pub mod Heard

@@ -2,6 +2,7 @@
 -- Assumes nothing.
 use Prim.Native.Nat.{ℕ, _≤_}
 use mathlib.Core.Bool.{true}
+use mathlib.Core.Logic.{inr}
 use mathlib.Core.Path.{_≡_}
 use native.Mathlib.Omega.{arith}
 use Rattle.decide.specs.Test.{test, Holds, facts, passes}
@@ -33,22 +34,22 @@ module _ (lpCoef : ℕ) (s : Stored) where
 
 module _ (s : Settings) (d : Decided) where
   decided-facts : Holds (decidedOk s d) → DecidedOk s d
-  decided-facts h =
-      record { own-most = omega arith; local-most = omega arith; allowed-most = omega arith; allowedc-most = omega arith; congested-most = omega arith }
+  decided-facts (o, (l, (a, (ac, (c, w))))) = record { own-most = o; local-most = l; allowed-most = a; allowedc-most = ac; congested-most = c; local-within = w }
 
   decided-holds : DecidedOk s d → Holds (decidedOk s d)
-  decided-holds ok = omega arith
+  decided-holds ok = (ok .own-most, (ok .local-most, (ok .allowed-most, (ok .allowedc-most, (ok .congested-most, ok .local-within)))))
 
 module _ (s : Settings) (f : Fair) where
   -- a state in range: the facts
   pub in-range-facts : test (fairOk s f) ≡ true → FairOk s f
   unfolding fairOk
   in-range-facts e =
-      let (counters, (smoothed, (decided, received))) = facts (fairOk s f) e in
+      let (counters, (smoothed, (decided, (since, received)))) = facts (fairOk s f) e in
       record {
         of-counters = four-facts (f .counters) counters;
         of-smoothed = stored-facts (s .fairness .lp) (f .smoothed) smoothed;
         of-decided = decided-facts s (f .decided) decided;
+        since-below = since;
         of-received = received-facts (s .site .stations) (f .received) received;
       }
 
@@ -61,7 +62,7 @@ module _ (s : Settings) (f : Fair) where
         four-holds (f .counters) (ok .of-counters),
         (
           stored-holds (s .fairness .lp) (f .smoothed) (ok .of-smoothed),
-          (decided-holds s (f .decided) (ok .of-decided), received-holds (s .site .stations) (f .received) (ok .of-received)),
+          (decided-holds s (f .decided) (ok .of-decided), (ok .since-below, received-holds (s .site .stations) (f .received) (ok .of-received))),
         ),
       )
 
@@ -88,6 +89,8 @@ start-in-range s ok =
             allowed-most = omega arith;
             allowedc-most = omega arith;
             congested-most = omega arith;
+            local-within = inr (omega arith);
           };
+      since-below = omega (arith, ok .of-site .trip-least);
       of-received = none-received-ok (s .site .stations) (ok .of-site .stations-least);
     }

@@ -19,8 +19,8 @@ coef-shifts : {x : ℕ} → Coef x → Shifts x
 unfolding trailingZeros
 coef-shifts = ⊎-elim (is 16 refl) (⊎-elim (is 32 refl) (⊎-elim (is 64 refl) (⊎-elim (is 128 refl) (⊎-elim (is 256 refl) (is 512 refl)))))
 
--- ageCoef, lpCoef and rampUp in range take the shift.
-pub settings-shift : (s : Settings) → SettingsOk s → Shifts (s .fairness .age) × Shifts (s .fairness .lp) × Shifts (s .fairness .ramp)
+-- ageCoef, lpCoef, rampUp and rampDn in range take the shift.
+pub settings-shift : (s : Settings) → SettingsOk s → Shifts (s .fairness .age) × Shifts (s .fairness .lp) × Shifts (s .fairness .ramp) × Shifts (s .site .down)
 settings-shift s ok =
     let f = ok .of-fairness in
-    (age-shifts (f .age-one-of), coef-shifts (f .lp-one-of), coef-shifts (f .ramp-one-of))
+    (age-shifts (f .age-one-of), coef-shifts (f .lp-one-of), coef-shifts (f .ramp-one-of), coef-shifts (ok .of-site .down-one-of))

@@ -42,7 +42,7 @@ toldOf f s =
 
 -- the state with something else received
 abbrev pub withReceived : Received → Fair → Fair
-withReceived r f = record { counters = f .counters; smoothed = f .smoothed; decided = f .decided; received = r }
+withReceived r f = record { counters = f .counters; smoothed = f .smoothed; decided = f .decided; since = f .since; received = r }
 
 abbrev pub heardOf : Fair → Advert → Fair
 heardOf f a = withReceived (receivedOf a) f

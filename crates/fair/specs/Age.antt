@@ -1,7 +1,7 @@
--- The aging interval, aggressive method, in the paper's order; smoothing is that of document 02, A4. Assumes nothing.
+-- The aging interval in the paper's order, by either method; smoothing is that of document 02, A4, and the methods are in `Methods`. Assumes nothing.
 use Prim.Native.Nat.{ℕ, _+_, _^_, _<_, min}
 use mathlib.Core.Bool.{cond}
-use Rattle.decide.specs.Test.{Test, test, _<?_, _≡?_}
+use Rattle.decide.specs.Test.{test, _≡?_}
 use Rattle.rates.specs.Rates.{smoothedOf, shownOf, agedOf, rampedOf, allowanceOf, ownRateOf}
 use Rattle.settings.specs.declared.Fairness.{Fairness}
 use Rattle.settings.specs.declared.Settings.{Settings}
@@ -10,6 +10,7 @@ use Rattle.fair.specs.declared.Stored.{Stored}
 use Rattle.fair.specs.declared.Decided.{Decided}
 use Rattle.fair.specs.declared.Fair.{Fair}
 use Rattle.fair.specs.declared.Adjusted.{Adjusted}
+use Rattle.fair.specs.Methods.{Row, rowOf, adjustOf}
 
 -- Each smoothed rate is kept times lpCoef, as a stored number s; at an interval s becomes s − floor(s / lpCoef) + rate,
 abbrev pub smoothOf : Stored → ℕ → Four → Stored
@@ -32,18 +33,6 @@ shownFour lpCoef s = record {
 -- what is stored and what is added have room in 64 bits together
 abbrev pub SumsFit : Stored → Four → Type 0
 SumsFit s rate = (s .add + rate .add < 2 ^ 64) × (s .fw + rate .fw < 2 ^ 64) × (s .addc + rate .addc < 2 ^ 64) × (s .fwc + rate .fwc < 2 ^ 64)
-
--- Locally congested: secondary bytes > low threshold.
-abbrev pub localTest : Settings → ℕ → Test
-localTest s held = s .queues .threshold <? held
-
--- Local congestion and localFairRate, from the new stored numbers and the bytes in the secondary queue; what was decided before is given and not looked at.
--- localFairRate: lpAddRate, as it is shown, if locally congested, else unreservedRate.
-unfoldable pub adjustOf : Settings → Decided → Stored → ℕ → Adjusted
-adjustOf s old lp held =
-    cond (test (localTest s held))
-    (record { congested = 1; local = shownOf (s .fairness .lp) (lp .add) })
-    (record { congested = 0; local = s .fairness .unreserved })
 
 -- allowedRate: the smaller of localFairRate and unreservedRate if locally congested, else allowedRate + floor((unreservedRate − allowedRate) / rampUp).
 unfoldable pub allowedOf : ℕ → Fairness → Adjusted → ℕ
@@ -78,13 +67,25 @@ newDecided f g a = record {
   congested = a .congested;
 }
 
+-- the state with another number of intervals since a change
+abbrev pub withSince : ℕ → Fair → Fair
+withSince n f = record { counters = f .counters; smoothed = f .smoothed; decided = f .decided; since = n; received = f .received }
+
 -- the four stored numbers that an interval leaves
 abbrev pub newSmoothed : Fair → Settings → Stored
 newSmoothed f s = smoothOf (f .smoothed) (s .fairness .lp) (f .counters)
 
--- local congestion and localFairRate as an interval adjusts them, with so many bytes in the secondary queue
+-- local congestion, localFairRate and the intervals since its last change, as they are
+abbrev pub adjustedNow : Fair → Adjusted
+adjustedNow f = record { congested = f .decided .congested; local = f .decided .local; since = f .since }
+
+-- the row that an interval of the conservative method takes, with so many bytes in the secondary queue
+abbrev pub rowFor : Fair → Settings → ℕ → Row
+rowFor f s held = rowOf s (adjustedNow f) held
+
+-- and the three as an interval adjusts them by the method that is chosen
 abbrev pub newAdjusted : Fair → Settings → ℕ → Adjusted
-newAdjusted f s held = adjustOf s (f .decided) (newSmoothed f s) held
+newAdjusted f s held = adjustOf s (adjustedNow f) (newSmoothed f s) held
 
 -- The interval, with so many bytes in the secondary queue. What was received stays.
 abbrev pub ageOf : Fair → Settings → ℕ → Fair
@@ -92,5 +93,6 @@ ageOf f s held = record {
   counters = lowerOf (f .counters) (s .fairness .age);
   smoothed = newSmoothed f s;
   decided = newDecided f (s .fairness) (newAdjusted f s held);
+  since = newAdjusted f s held .since;
   received = f .received;
 }

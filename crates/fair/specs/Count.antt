@@ -43,7 +43,7 @@ countersOf s f origin mark hops size = record {
 
 -- the state with other counters
 abbrev pub withCounters : Four → Fair → Fair
-withCounters c f = record { counters = c; smoothed = f .smoothed; decided = f .decided; received = f .received }
+withCounters c f = record { counters = c; smoothed = f .smoothed; decided = f .decided; since = f .since; received = f .received }
 
 -- under these settings
 abbrev pub countOf : Settings → Fair → ℕ → ℕ → ℕ → ℕ → Fair

@@ -13,7 +13,7 @@ abbrev pub noneStored : Stored
 noneStored = record { add = 0; fw = 0; addc = 0; fwc = 0 }
 
 -- Counters and smoothed rates start at 0, own rate by its formula, other rates at unreservedRate, with no congestion, received ttl 255, received
--- address and rate 0.
+-- address and rate 0; no interval has gone by since a change.
 abbrev pub startOf : Settings → Fair
 startOf s = record {
   counters = noneCounted;
@@ -25,5 +25,6 @@ startOf s = record {
     own = ownRateOf (s .fairness .unreserved) (s .fairness .weight) (s .fairness .unit);
     congested = 0;
   };
+  since = 0;
   received = noneReceived;
 }

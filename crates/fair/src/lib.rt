@@ -7,8 +7,9 @@ ghost use Rattle.settings.specs.Range.{SettingsOk};
 ghost use Rattle.fair.specs.Range.{fourOk, storedOk, decidedOk, fairOk, StoredOk, FairOk};
 ghost use Rattle.fair.specs.Start.{startOf};
 ghost use Rattle.fair.specs.Count.{beyond, over, raisedOf, countOf};
-ghost use Rattle.fair.specs.Age.{SumsFit, smoothOf, shownFour, lowerOf, localTest, adjustOf, allowedOf, allowedcOf, newDecided, ageOf};
+ghost use Rattle.fair.specs.Age.{SumsFit, smoothOf, shownFour, lowerOf, allowedOf, allowedcOf, newDecided, ageOf};
 
+mod adjusting;
 mod advertising;
 
 use heard::Received;
@@ -42,18 +43,21 @@ pub struct Decided {
 }
 
 // What a station knows of the rates and of congestion, its own and that of stations downstream: addRate, fwRate, addRateCongested, fwRateCongested, what is
-// stored for the same smoothed (lpAddRate and so on), what the last interval decided, and what was received.
+// stored for the same smoothed (lpAddRate and so on), what the last interval decided, how many intervals have gone by since localFairRate last changed (the conservative
+// method counts them while the station counts as locally congested), and what was received.
 pub struct Fair {
     pub counters: Four,
     pub smoothed: Stored,
     pub decided: Decided,
+    pub since: u32,
     pub received: Received,
 }
 
-// What an interval decides first: whether the station is locally congested (1, else 0), and localFairRate.
-struct Adjusted {
+// What an interval decides first: whether the station is locally congested (1, else 0), localFairRate, and the intervals since its last change.
+pub struct Adjusted {
     pub congested: u32,
     pub local: u32,
+    pub since: u32,
 }
 
 // The origins of a frame that is counted: the secondary queue, and the stage.
@@ -140,6 +144,7 @@ impl Decided {
             & (self.allowed <= unreserved)
             & (self.allowedc <= unreserved)
             & (self.congested <= 1)
+            & (settings.site.is_aggressive() | (self.local <= unreserved))
     }
 }
 
@@ -151,6 +156,7 @@ impl Fair {
         self.counters.in_range()
             & self.smoothed.in_range(settings.fairness.lp)
             & self.decided.in_range(settings)
+            & (self.since < settings.site.trip)
             & self.received.in_range(settings.site.stations)
     }
 
@@ -184,6 +190,7 @@ impl Fair {
             counters: zeros,
             smoothed: nothing,
             decided: decided,
+            since: 0,
             received: Received::none(),
         }
     }
@@ -238,12 +245,18 @@ impl Fair {
         // Smoothing reads the counters as they are before they age.
         let aged = counters.lower(fairness.age);
         let smoothed = self.smoothed.smooth(fairness.lp, counters);
-        let adjusted = adjust(settings, self.decided, smoothed, held);
+        let now = Adjusted {
+            congested: self.decided.congested,
+            local: self.decided.local,
+            since: self.since,
+        };
+        let adjusted = now.adjust(settings, smoothed, held);
         let received = self.received;
         Fair {
             counters: aged,
             smoothed: smoothed,
             decided: self.new_decided(fairness, adjusted),
+            since: adjusted.since,
             received: received,
         }
     }
@@ -284,31 +297,6 @@ impl Fair {
             settings.fairness.age,
             settings.fairness.ticks,
         )
-    }
-}
-
-// Whether a station is locally congested with so many bytes in the secondary queue.
-fn local_test(settings: Settings, held: u32) -> bool
-    ensures { λ r. ⌜ r ≡ test (localTest settings held) ⌝ }
-{
-    settings.queues.threshold < held
-}
-
-// Local congestion and localFairRate, from what was decided before, the new stored numbers, whose rates shown must be in range, and the bytes in the secondary queue.
-fn adjust(settings: Settings, old: Decided, smoothed: Stored, held: u32) -> Adjusted
-    requires { ⌜ StoredOk (settings .fairness .lp) smoothed ⌝ }
-    ensures { λ r. ⌜ r ≡ adjustOf settings old smoothed held ⌝ }
-{
-    if local_test(settings, held) {
-        let local = rates::shown(settings.fairness.lp, smoothed.add) as u32;
-        return Adjusted {
-            congested: 1,
-            local: local,
-        };
-    }
-    Adjusted {
-        congested: 0,
-        local: settings.fairness.unreserved,
     }
 }
 

@@ -27,7 +27,7 @@ settings =
       shapers = record { m = b; a = b; b = b; c = b; d = b };
       queues = record { control = 100; primary = 100; secondary = 128; threshold = 64 };
       fairness = record { weight = 1; unit = 1; ticks = 10; unreserved = 1000; age = 4; lp = 64; ramp = 64 };
-      site = record { stations = 6 };
+      site = record { stations = 6; method = 0; trip = 40; down = 64 };
     }
 
 -- a frame of class A with 3 hops to go, and a queue of such frames

@@ -58,7 +58,7 @@ module _ (st : Station) (e : Slotted st) where
       ∷ queuePart (st .flow .secondary) (e .2)
       ∷ word (st .flow .stage)
       ∷ wordsPart (fourWords (f .counters))
-      ∷ group (group (storedParts (f .smoothed)) ∷ wordsPart (decidedWords (f .decided)) ∷ wordsPart (receivedWords (f .received)) ∷ [])
+      ∷ group (group (storedParts (f .smoothed)) ∷ wordsPart (decidedWords (f .decided)) ∷ word (f .since) ∷ wordsPart (receivedWords (f .received)) ∷ [])
       ∷ settingsPart (st .settings)
       ∷ [])
       5

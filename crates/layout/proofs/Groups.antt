@@ -21,7 +21,7 @@ use Rattle.fair.specs.declared.Fair.{Fair}
 use Rattle.station.specs.declared.Held.{Held}
 use Rattle.slots.specs.Slots.{wordsBytes, WordsFit}
 use Rattle.slots.proofs.Round as slots
-use Rattle.layout.specs.Layout.{fourLength, storedLength, decidedLength, receivedLength, smoothedPlace, decidedPlace, receivedPlace, fairLength}
+use Rattle.layout.specs.Layout.{fourLength, storedLength, decidedLength, receivedLength, smoothedPlace, decidedPlace, sincePlace, receivedPlace, fairLength}
 use Rattle.layout.specs.Layout.{creditsWords, fourWords, storedParts, storedBytes, decidedWords, receivedWords, fairParts, fairBytes}
 use Rattle.layout.specs.Layout.{creditsAt, fourAt, storedAt, decidedAt, receivedAt, fairAt, StoredFits, FairFits}
 use Rattle.layout.specs.Reading.{heldWords, heldAt}
@@ -96,7 +96,8 @@ fair-back xs at v f s =
       four-back xs at (v .counters) (f .of-counters) (rw add-zero at (p 0)),
       stored-back xs (at + smoothedPlace) (v .smoothed) (f .of-smoothed) (p 1),
       decided-back xs (at + decidedPlace) (v .decided) (f .of-decided) (p 2),
-      received-back xs (at + receivedPlace) (v .received) (f .of-received) (p 3),
+      le-stands 4 (v .since) xs (at + sincePlace) (f .of-since) (p 3),
+      received-back xs (at + receivedPlace) (v .received) (f .of-received) (p 4),
     )
 
 module _ (xs : List ℕ) (b : Bytes xs) where
@@ -122,7 +123,10 @@ module _ (xs : List ℕ) (b : Bytes xs) where
         four-stands at (omega arith),
         (
           stored-stands (at + smoothedPlace) (omega arith),
-          (decided-stands (at + decidedPlace) (omega arith), (received-stands (at + receivedPlace) (omega arith), tt)),
+          (
+            decided-stands (at + decidedPlace) (omega arith),
+            (digits-stand 4 xs (at + sincePlace) b, (received-stands (at + receivedPlace) (omega arith), tt)),
+          ),
         ),
       )
 
@@ -143,6 +147,7 @@ module _ (xs : List ℕ) (b : Bytes xs) where
               fwc = le-bound 8 xs (m + 24) b;
             };
         of-decided = words-fit xs d b (decidedWords (decidedAt xs d)) (decided-read xs d);
+        of-since = le-bound 4 xs (at + sincePlace) b;
         of-received = words-fit xs r b (receivedWords (receivedAt xs r)) (received-read xs r);
       }
 
@@ -157,6 +162,6 @@ fair-bytes f =
       slots.words-bytes (fourWords (f .counters)),
       (
         stored-bytes (f .smoothed),
-        (slots.words-bytes (decidedWords (f .decided)), (slots.words-bytes (receivedWords (f .received)), tt)),
+        (slots.words-bytes (decidedWords (f .decided)), (digits-bytes 4 (f .since), (slots.words-bytes (receivedWords (f .received)), tt))),
       ),
     )

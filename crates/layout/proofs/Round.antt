@@ -154,7 +154,10 @@ fair-in-range-fits s f settings ok low =
     record {
       of-counters = omega (arith, ok .of-counters);
       of-smoothed = stored-in-range-fits (s .fairness .lp) (f .smoothed) (omega (arith, lp)) (lp .1) (ok .of-smoothed);
-      of-decided = omega (arith, ok .of-decided, settings .of-fairness .unreserved-most);
+      of-decided =
+          let d = ok .of-decided in
+          omega (arith, d .own-most, d .local-most, d .allowed-most, d .allowedc-most, d .congested-most, settings .of-fairness .unreserved-most);
+      of-since = omega (arith, ok .since-below, settings .of-site .trip-most);
       of-received = omega (arith, ok .of-received, low);
     }
 

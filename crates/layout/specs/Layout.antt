@@ -40,15 +40,18 @@ receivedLength = 4 * 5
 abbrev pub storedLength : ℕ
 storedLength = 4 * 8
 
--- in the fairness state, behind the counters: the stored numbers of the smoothed rates, what intervals decide, what was received
+-- in the fairness state, behind the counters: the stored numbers of the smoothed rates, what intervals decide, the intervals since a change, what was received
 abbrev pub smoothedPlace : ℕ
 smoothedPlace = fourLength
 
 abbrev pub decidedPlace : ℕ
 decidedPlace = smoothedPlace + storedLength
 
+abbrev pub sincePlace : ℕ
+sincePlace = decidedPlace + decidedLength
+
 abbrev pub receivedPlace : ℕ
-receivedPlace = decidedPlace + decidedLength
+receivedPlace = sincePlace + 4
 
 abbrev pub fairLength : ℕ
 fairLength = receivedPlace + receivedLength
@@ -107,6 +110,7 @@ fairParts f =
     wordsPart (fourWords (f .counters))
     ∷ group (storedParts (f .smoothed))
     ∷ wordsPart (decidedWords (f .decided))
+    ∷ word (f .since)
     ∷ wordsPart (receivedWords (f .received))
     ∷ []
 
@@ -160,6 +164,7 @@ fairAt xs at =
       counters = fourAt xs at;
       smoothed = storedAt xs (at + smoothedPlace);
       decided = decidedAt xs (at + decidedPlace);
+      since = le 4 xs (at + sincePlace);
       received = receivedAt xs (at + receivedPlace);
     }
 
@@ -204,6 +209,7 @@ pub record FairFits (f : Fair) : Type 0 where
   pub of-counters : WordsFit (fourWords (f .counters))
   pub of-smoothed : StoredFits (f .smoothed)
   pub of-decided : WordsFit (decidedWords (f .decided))
+  pub of-since : Fits32 (f .since)
   pub of-received : WordsFit (receivedWords (f .received))
 
 pub record StationFits (st : Station) : Type 0 where

@@ -1,4 +1,5 @@
-// The fairness state as numbers with the least byte first: the counters, the stored numbers of the smoothed rates (8 bytes each), what intervals decide, what was received.
+// The fairness state as numbers with the least byte first: the counters, the stored numbers of the smoothed rates (8 bytes each), what intervals decide, the intervals since a
+// change of localFairRate, what was received.
 ghost use mathlib.Core.Path.{_≡_};
 ghost use Prim.Native.Nat.{_+_, _≤_};
 ghost use lib.ListN.{length};
@@ -21,7 +22,9 @@ const SMOOTHED: usize = 16;
 
 const DECIDED: usize = SMOOTHED + 32;
 
-const RECEIVED: usize = DECIDED + 20;
+const SINCE: usize = DECIDED + 20;
+
+const RECEIVED: usize = SINCE + 4;
 
 pub const LENGTH: usize = RECEIVED + 20;
 
@@ -34,6 +37,7 @@ pub fn read(s: &[u8], at: usize) -> Fair
         counters: read_four(s, at),
         smoothed: read_stored(s, at + SMOOTHED),
         decided: read_decided(s, at + DECIDED),
+        since: wire::get32(s, at + SINCE),
         received: read_received(s, at + RECEIVED),
     }
 }
@@ -54,6 +58,7 @@ pub fn write(f: Fair, s: &mut [u8], at: usize)
     write_four(f.counters, s, at);
     write_stored(f.smoothed, s, at + SMOOTHED);
     write_decided(f.decided, s, at + DECIDED);
+    wire::put32(s, at + SINCE, f.since);
     write_received(f.received, s, at + RECEIVED);
 }
 

@@ -213,6 +213,7 @@ settings-words xs =
       rates = (refl, refl, refl, refl);
       coefficients = (refl, refl, refl);
       stations = refl;
+      method = (refl, refl, refl);
     }
 
 -- ---- the ring

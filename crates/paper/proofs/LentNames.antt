@@ -7,7 +7,7 @@ use Rattle.wire.specs.Signed.{unsignedOf}
 use Rattle.summary.proofs.Integers.{pos-less}
 use Rattle.sheet.specs.Sheet.{sheetOf}
 use Rattle.rpr.proofs.Steady.{one-more, no-more}
-use Rattle.paper.specs.LentNames.{CallNames, MemoryNames, RateWords, PieceNames, SheetNames, SightNames, LentNames}
+use Rattle.paper.specs.LentNames.{CallNames, MemoryNames, RateWords, MethodNames, PieceNames, SheetNames, SightNames, LentNames}
 
 call : (xs : List ℕ) → CallNames xs
 call xs =
@@ -51,6 +51,22 @@ memory mem =
 rates : RateWords
 rates = record { counters = (refl, refl, refl, refl); smoothed = (refl, refl, refl, refl) }
 
+method-names : (mem : List ℕ) → MethodNames mem
+method-names mem =
+    record {
+      words = (refl, refl);
+      row = refl;
+      three = λ f. refl;
+      changes = (tt, tt, tt, tt);
+      no-change = (λ h. h, λ h. h);
+      steps = (tt, tt);
+      no-step = (λ h. h, λ h. h, λ h. h, λ h. h);
+      altered = λ room l. (λ h. h, λ h. h);
+      within = λ room l. (λ h. h, λ h. h);
+      rate = λ room s. (λ h. h, λ h. h);
+      free = λ room s. (λ h. h, λ h. h);
+    }
+
 pieces : PieceNames
 pieces =
     record {
@@ -75,4 +91,4 @@ sights : SightNames
 sights = record { picked = λ st. refl; seen-as = λ s v f. refl; seen-in = λ v. refl; front = λ f. refl }
 
 pub lent-names : LentNames
-lent-names = record { call = call; memory = memory; rates = rates; pieces = pieces; sheets = sheets; sights = sights }
+lent-names = record { call = call; memory = memory; rates = rates; methods = method-names; pieces = pieces; sheets = sheets; sights = sights }

@@ -8,6 +8,7 @@ pub mod LentNames
 pub mod Rules
 pub mod Acts
 pub mod Host
+pub mod Intervals
 pub mod Second
 pub mod Summaries
 pub mod Files

@@ -18,7 +18,7 @@ use Rattle.credits.specs.Which.{numberOf, member}
 use Rattle.credits.proofs.Charge.{same-which}
 use Rattle.flow.proofs.Held.{head-first}
 use Rattle.fair.proofs.Age.{shown-four}
-use Rattle.rates.proofs.Formulas.{smoothed-is, shown-is, steady-none, steady-next, aged-is, ramped-is, allowance-is, own-is, share-is}
+use Rattle.rates.proofs.Formulas.{smoothed-is, shown-is, steady-none, steady-next, aged-is, ramped-is, reduced-is, allowance-is, own-is, share-is}
 use Rattle.answer.specs.Bytes.{bitOf}
 use Rattle.ring.specs.declared.Way.the-variants.{Left}
 use Rattle.ring.specs.Links.{nextOf}
@@ -112,6 +112,7 @@ rates =
       gap = λ a b n. (λ h. omega arith, λ h. omega arith);
       aged = aged-is;
       ramped = ramped-is;
+      reduced = reduced-is;
       allowance = allowance-is;
       own = own-is;
       share = share-is;

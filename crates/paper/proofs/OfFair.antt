@@ -6,6 +6,7 @@ use Rattle.paper.proofs.Determined.{by-equation}
 pub functions : Functions
 functions =
     record {
+      adjusted-adjust = λ self settings smoothed held. by-equation;
       fair-told = λ self settings. by-equation;
       fair-heard = λ self advert. by-equation;
       four-in-range = λ self. by-equation;

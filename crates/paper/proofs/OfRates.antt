@@ -12,6 +12,7 @@ functions =
       shown-ok = λ coef stored. by-equation;
       aged = λ counter coef. by-equation;
       ramped = λ value unreserved coef. by-equation;
+      reduced = λ rate coef. by-equation;
       allowance = λ received weight unit unreserved. by-equation;
       own-rate = λ local weight unit. by-equation;
       counted = λ counter size. by-equation;

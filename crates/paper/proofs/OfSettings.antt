@@ -14,6 +14,7 @@ functions =
       queues-in-range = λ self mtu. by-equation;
       fairness-usual = λ weight unit ticks unreserved. by-equation;
       fairness-in-range = λ self. by-equation;
+      site-is-aggressive = λ self. by-equation;
       in-range-at = λ s at. by-equation;
       settings-read = λ s at. by-equation;
       settings-write = λ self s at. by-equation;

@@ -16,8 +16,6 @@ use Rattle.selection.proofs.Ready as ready
 use Rattle.selection.proofs.Select as select
 use Rattle.selection.proofs.Frames.{select-moves}
 use Rattle.rates.proofs.Steady as steady
-use Rattle.fair.specs.declared.Fair.{Fair}
-use Rattle.fair.proofs.Age as interval
 use Rattle.fair.proofs.ReadBack.{frame-read-back}
 use Rattle.ring.specs.declared.Way.{Way}
 use Rattle.ring.specs.Choosing.{reachesOf, Placed}
@@ -44,10 +42,11 @@ use Rattle.rpr.specs.Says.{Keeps}
 use Rattle.rpr.specs.Steady.{SteadyIn}
 use Rattle.rpr.proofs.Steady.{steady-told, steady-told-always}
 use Rattle.rpr.proofs.Hops.{keeps-ringed, ring-told}
+use Rattle.rpr.proofs.Method.{lent-rate, rate-told, free-told}
 use Rattle.rpr.proofs.Told.{credit-of-told}
 use Rattle.rpr.proofs.Pairs as told
 use Rattle.rpr.proofs.Kept.{kept-lent}
-use Rattle.paper.specs.Second.{Ready, Selects, Ages, Steadies, TellsSteady, Joins, Reaches, Wraps, Chooses, Sends, Condition2}
+use Rattle.paper.specs.Second.{Ready, Selects, Steadies, TellsSteady, Joins, Reaches, Wraps, Chooses, Sends, Condition2}
 use Rattle.paper.proofs.Rules.{ticks, charges, lacks, enters, counts, tells, reads, writes, hears}
 use Rattle.station.proofs.Interval.{holds-till-interval}
 use Rattle.queue.proofs.Word.{word-frame, frame-fits, word-not-empty}
@@ -58,6 +57,7 @@ use Rattle.paper.proofs.Names.{names}
 use Rattle.paper.proofs.LentNames.{lent-names}
 use Rattle.paper.proofs.Acts.{some-start, starts, acts, traces, reads-off}
 use Rattle.paper.proofs.ByValue.{lost, unfit, listens}
+use Rattle.paper.proofs.Intervals.{shares, ages, rows, apart}
 use Rattle.paper.proofs.Host.{lays, hosts, begins, settings-words, choice-told, choice-refused, path-told, path-refused}
 
 -- a test holds exactly when its fact does
@@ -92,21 +92,6 @@ selects s f =
       d-charged = refl;
       uncharged = (refl, refl, refl);
       moves = select-moves;
-    }
-
-ages : (f : Fair) (s : Settings) (held : ℕ) → Ages f s held
-ages f s held =
-    record {
-      smoothed = interval.interval-smooths f s held;
-      congested = λ full. (interval.full-congested f s held full, interval.full-local f s held full);
-      not-congested = λ room. (interval.room-free f s held room, interval.room-local f s held room);
-      allowed-congested = interval.full-allowed f s held;
-      allowed-ramped = interval.room-allowed f s held;
-      allowedc-congested = interval.downstream-allowed f s held;
-      allowedc-ramped = interval.free-allowed f s held;
-      counters = interval.interval-ages f s held;
-      keeps = interval.interval-keeps f s held;
-      own = interval.interval-own f s held;
     }
 
 steadies : (coef rate s : ℕ) → Steadies coef rate s
@@ -229,7 +214,12 @@ second-condition =
       words = λ b x most ok. let held : BoundsOk b = record { mtu-most = most } in (word-frame x (frame-fits held ok), λ e. let some = word-not-empty held ok in omega arith);
       selection = selects;
       counting = counts;
-      rates = ages;
+      rates = shares;
+      aggressive = ages;
+      conservative = rows;
+      changes-apart = apart;
+      conservative-within = λ settings mem bytes z calls none room h. (rate-told settings mem bytes z calls none room h, free-told settings mem bytes z calls none room h);
+      lent-conservative-within = λ mem st k. lent-rate mem k;
       steady = steadies;
       steady-told = tells-steady;
       within-ring = ring-told;

@@ -60,7 +60,7 @@ least =
       shapers = record { m = b; a = b; b = b; c = b; d = b };
       queues = record { control = 64; primary = 64; secondary = 128; threshold = 0 };
       fairness = record { weight = 1; unit = 1; ticks = 1; unreserved = 1; age = 1; lp = 16; ramp = 16 };
-      site = record { stations = 2 };
+      site = record { stations = 2; method = 0; trip = 1; down = 16 };
     }
 
 pub record Starts (s : Settings) : Type 0 where
@@ -70,7 +70,7 @@ pub record Starts (s : Settings) : Type 0 where
   pub queues : (l : Line) → queueOf (freshOf s .flow) l ≡ record { slots = replicate 128 0; head = 0; count = 0; held = 0 }
   pub stage : freshOf s .flow .stage ≡ 0
   -- Counters and smoothed rates start at 0, own rate by its formula, other rates at unreservedRate, with no congestion, received ttl 255, received address
-  -- and rate 0.
+  -- and rate 0; no interval has gone by since a change.
   pub rates : freshOf s .fair
       ≡ record {
         counters = record { add = 0; fw = 0; addc = 0; fwc = 0 };
@@ -82,6 +82,7 @@ pub record Starts (s : Settings) : Type 0 where
           own = min (s .fairness .unreserved / (s .fairness .weight * s .fairness .unit)) 65534;
           congested = 0;
         };
+        since = 0;
         received = record { downstream = 0; ttl = 255; high = 0; low = 0; rate = 0 };
       }
   pub settings : freshOf s .settings ≡ s

@@ -98,7 +98,7 @@ pub record Tested : Type 0 where
   -- the frames of a queue, each of which may be held
   pub no-frame : (b : Bounds) → AllOk b []
   pub a-frame : (b : Bounds) (x : Frame) (xs : List Frame) → AllOk b (x ∷ xs) ↔ (HeldOk b x × AllOk b xs)
-  -- ageCoef 1, 2, 4, 8 or 16; lpCoef and rampUp 16, 32, 64, 128, 256 or 512
+  -- ageCoef 1, 2, 4, 8 or 16; lpCoef, rampUp and rampDn 16, 32, 64, 128, 256 or 512
   pub age-coef : (x : ℕ) → AgeCoef x ↔ ((x ≡ 1) ⊎ ((x ≡ 2) ⊎ ((x ≡ 4) ⊎ ((x ≡ 8) ⊎ (x ≡ 16)))))
   pub coef : (x : ℕ) → Coef x ↔ ((x ≡ 16) ⊎ ((x ≡ 32) ⊎ ((x ≡ 64) ⊎ ((x ≡ 128) ⊎ ((x ≡ 256) ⊎ (x ≡ 512))))))
   pub queue : (b : Bounds) (capacity : ℕ) (q : Queue) → (test (queueOk b capacity q) ≡ true) ↔ QueueOk b capacity q
@@ -110,9 +110,9 @@ pub record Tested : Type 0 where
 pub record Condition1 : Type 0 where
   -- The numbers that bound a record's events, which the ranges below name: 1,000,000 events, amount 65,535, size 9,216.
   pub bounds : (mostEvents ≡ 1000000) × (mostAmount ≡ 65535) × (mostSize ≡ 9216)
-  -- The lengths that a slice of another length is refused for: settings 31 words, a summary 48 bytes, a reading 31 words, a frame 12 bytes. A station's is
+  -- The lengths that a slice of another length is refused for: settings 34 words, a summary 48 bytes, a reading 31 words, a frame 12 bytes. A station's is
   -- the library's own, and one that a host can lend.
-  pub lengths : (settingsLength ≡ 124) × (sheetLength ≡ 48) × (readingLength ≡ 124) × (advertLength ≡ 12) × (stationLength < 65536)
+  pub lengths : (settingsLength ≡ 136) × (sheetLength ≡ 48) × (readingLength ≡ 124) × (advertLength ≡ 12) × (stationLength < 65536)
   pub hops : (h : ℕ) → Holds (hopsOk h) ↔ ((1 ≤ h) × (h ≤ 63))
   -- The library's own tests of ranges say the same.
   pub tested : Tested

@@ -88,7 +88,7 @@ pub record Hosts (xs : List ℕ) (st : Station) : Type 0 where
 abbrev pub ShaperWords : List ℕ → ℕ → Bucket → Type 0
 ShaperWords xs at b = (b .lo ≡ le 4 xs at) × (b .hi ≡ le 4 xs (at + 4)) × (b .amount ≡ le 4 xs (at + 8))
 
--- The settings that 31 words of 4 bytes hold: word k stands at byte 4 × k.
+-- The settings that 34 words of 4 bytes hold: word k stands at byte 4 × k.
 pub record SettingsWords (xs : List ℕ) (s : Settings) : Type 0 where
   pub address : (s .address .high ≡ le 4 xs 0) × (s .address .low ≡ le 4 xs 4)
   pub ringlet : s .ringlet ≡ le 4 xs 8
@@ -102,6 +102,7 @@ pub record SettingsWords (xs : List ℕ) (s : Settings) : Type 0 where
   pub rates : (s .fairness .weight ≡ le 4 xs 92) × (s .fairness .unit ≡ le 4 xs 96) × (s .fairness .ticks ≡ le 4 xs 100) × (s .fairness .unreserved ≡ le 4 xs 104)
   pub coefficients : (s .fairness .age ≡ le 4 xs 108) × (s .fairness .lp ≡ le 4 xs 112) × (s .fairness .ramp ≡ le 4 xs 116)
   pub stations : s .site .stations ≡ le 4 xs 120
+  pub method : (s .site .method ≡ le 4 xs 124) × (s .site .trip ≡ le 4 xs 128) × (s .site .down ≡ le 4 xs 132)
 
 -- rpr_start with settings in range: the station is fresh, whatever its bytes were.
 abbrev pub Begins : List ℕ → List ℕ → Type 0

@@ -1,8 +1,8 @@
 -- The small definitions of lent memory, of pieces, of summaries in bytes and of what a selection sees, said outright.
 -- Assumes nothing.
-use Prim.Native.Nat.{ℕ, suc, _-_, _*_}
+use Prim.Native.Nat.{ℕ, suc, _-_, _*_, _≤_}
 use mathlib.Core.List.{List, [], _∷_, _++_}
-use mathlib.Core.Logic.{_↔_}
+use mathlib.Core.Logic.{_⊎_, _↔_}
 use mathlib.Core.Path.{_≡_}
 use lib.IntN.{pos, negsuc, _-ℤ_}
 use Rattle.plain.specs.declared.Plain.{Plain}
@@ -21,6 +21,7 @@ use Rattle.account.specs.Pieces.{Tree, Cuts, joinedAlong}
 use Rattle.sheet.specs.Sheet.{sheetLength, sheetOf, handed}
 use Rattle.settings.specs.declared.Settings.{Settings}
 use Rattle.queue.specs.declared.Front.{Front}
+use Rattle.queue.specs.Queue.{framesOf, sizes}
 use Rattle.queue.specs.Front.{fronted}
 use Rattle.credits.specs.declared.Which.{Which}
 use Rattle.selection.specs.declared.Sight.{Sight}
@@ -28,6 +29,9 @@ use Rattle.selection.specs.Select as selection
 use Rattle.selection.specs.Pick.{seenIn}
 use Rattle.fair.specs.declared.Fair.{Fair}
 use Rattle.fair.specs.Count.{countOf}
+use Rattle.fair.specs.Methods as methods
+use Rattle.fair.specs.Methods.{Changes, Steps}
+use Rattle.fair.specs.Age.{adjustedNow, rowFor}
 use Rattle.station.specs.declared.Station.{Station}
 use Rattle.station.specs.Pick.{pickOf, seenAs}
 use Rattle.station.specs.Steady as rate
@@ -35,6 +39,7 @@ use Rattle.station.specs.Steady.{Rate}
 use Rattle.layout.specs.Layout.{stationLength, stationAt}
 use Rattle.rpr.specs.Calls.{summarizeAnswer, summarizeAfter, joinAnswer, joinAfter}
 use Rattle.rpr.specs.Steady.{shownWord, counterWord, smoothedWord, EndsInterval, intervalsIn, SteadyIn, GivesRate}
+use Rattle.rpr.specs.Method.{localWord, congestedWord, rowIn, AlteredIn, AlteredWithinIn, RateTold, FreeTold}
 use Rattle.rpr.specs.Pieces.{Rooms, piece, both, roomOf, AllCarried, WholeRooms, treeOf, CutsRooms}
 use Rattle.rpr.specs.Station.{startAnswer, startAfter, tickAnswer, tickAfter, ageAnswer, ageAfter}
 use Rattle.rpr.specs.Station.{offerClientAnswer, offerClientAfter, offerTransitAnswer, offerTransitAfter, offerControlAnswer, offerControlAfter}
@@ -101,6 +106,29 @@ pub record RateWords : Type 0 where
   pub counters : (counterWord rate.add ≡ 13) × (counterWord rate.fw ≡ 14) × (counterWord rate.addCongested ≡ 15) × (counterWord rate.fwCongested ≡ 16)
   pub smoothed : (smoothedWord rate.add ≡ 17) × (smoothedWord rate.fw ≡ 18) × (smoothedWord rate.addCongested ≡ 19) × (smoothedWord rate.fwCongested ≡ 20)
 
+-- What a host sees of the conservative method: words 21 and 25 are localFairRate and local congestion.
+pub record MethodNames (mem : List ℕ) : Type 0 where
+  pub words : (localWord ≡ 21) × (congestedWord ≡ 25)
+  -- the row that an rpr_age takes: by the state, the settings and the bytes of the frames in the secondary queue, as the rows of an interval have it
+  pub row : rowIn mem ≡ rowFor (stationIn mem .fair) (stationIn mem .settings) (sizes (framesOf (stationIn mem .flow .secondary)))
+  -- the three that a row is about, and that it leaves
+  pub three : (f : Fair) → adjustedNow f ≡ record { congested = f .decided .congested; local = f .decided .local; since = f .since }
+  -- Entry counts as a change, so do leaving and each step; a step is no entry and no leaving.
+  pub changes : Changes methods.enters × Changes methods.lowers × Changes methods.leaves × Changes methods.raises
+  pub no-change : (Changes methods.rests → ⊥) × (Changes methods.waits → ⊥)
+  pub steps : Steps methods.lowers × Steps methods.raises
+  pub no-step : (Steps methods.enters → ⊥) × (Steps methods.rests → ⊥) × (Steps methods.leaves → ⊥) × (Steps methods.waits → ⊥)
+  -- what rpr_show tells before and after differs
+  pub altered : (room : List ℕ) (l : Lending)
+      → AlteredIn room l mem
+      ↔ ((shownWord room mem 25 ≡ shownWord room (memoryAfter l mem) 25 → ⊥) ⊎ (shownWord room mem 21 ≡ shownWord room (memoryAfter l mem) 21 → ⊥))
+  pub within : (room : List ℕ) (l : Lending)
+      → AlteredWithinIn room l mem
+      ↔ ((shownWord room mem 25 ≡ 1) × (shownWord room (memoryAfter l mem) 25 ≡ 1) × (shownWord room mem 21 ≡ shownWord room (memoryAfter l mem) 21 → ⊥))
+  pub rate : (room : List ℕ) (s : Settings)
+      → RateTold room s mem ↔ ((showAnswer (take stationLength mem) room ≡ 0) × (s .site .method ≡ 1 → shownWord room mem 21 ≤ s .fairness .unreserved))
+  pub free : (room : List ℕ) (s : Settings) → FreeTold room s mem ↔ (shownWord room mem 25 ≡ 0 → shownWord room mem 21 ≡ s .fairness .unreserved)
+
 -- ---- pieces, joined along a tree
 
 pub record PieceNames : Type 0 where
@@ -160,6 +188,7 @@ pub record LentNames : Type 0 where
   pub call : (xs : List ℕ) → CallNames xs
   pub memory : (mem : List ℕ) → MemoryNames mem
   pub rates : RateWords
+  pub methods : (mem : List ℕ) → MethodNames mem
   pub pieces : PieceNames
   pub sheets : SheetNames
   pub sights : SightNames

@@ -7,6 +7,7 @@ pub mod Reasons
 pub mod ByValue
 pub mod First
 pub mod Host
+pub mod Intervals
 pub mod Second
 pub mod Summaries
 pub mod Program

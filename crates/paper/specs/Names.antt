@@ -37,7 +37,7 @@ use Rattle.flow.specs.Offer.{clientFrame}
 use Rattle.selection.specs.declared.Selected.{Selected}
 use Rattle.selection.specs.Frames.{gone}
 use Rattle.selection.specs.Select.{originOf, leaves, leavesCharged, leavesStage}
-use Rattle.rates.specs.Rates.{smoothedOf, shownOf, agedOf, rampedOf, allowanceOf, ownRateOf, shareOf}
+use Rattle.rates.specs.Rates.{smoothedOf, shownOf, agedOf, rampedOf, reducedOf, allowanceOf, ownRateOf, shareOf}
 use Rattle.rates.specs.Steady.{steadyOf, gapOf}
 use Rattle.heard.specs.Range.{hopsOf}
 use Rattle.fair.specs.declared.Fair.{Fair}
@@ -207,6 +207,8 @@ pub record RateNames : Type 0 where
   pub aged : (rate coef : ℕ) → agedOf rate coef ≡ rate * (coef - 1) / coef
   -- allowedRate + floor((unreservedRate − allowedRate) / rampUp)
   pub ramped : (allowed unreserved coef : ℕ) → rampedOf allowed unreserved coef ≡ allowed + (unreserved - allowed) / coef
+  -- localFairRate − floor(localFairRate / rampDn)
+  pub reduced : (local coef : ℕ) → reducedOf local coef ≡ local - local / coef
   -- the smaller of unreservedRate and received × weight × unit
   pub allowance : (received weight unit unreserved : ℕ) → allowanceOf received weight unit unreserved ≡ min unreserved (received * weight * unit)
   -- floor(localFairRate / (weight × unit)), at most 65,534
@@ -227,7 +229,7 @@ pub record PartNames (st : Station) : Type 0 where
       ≡ record { credits = st .flow .credits; control = st .flow .control; primary = st .flow .primary; secondary = st .flow .secondary; stage = w }
   pub counters : (c : Four)
       → withCounters c (st .fair)
-      ≡ record { counters = c; smoothed = st .fair .smoothed; decided = st .fair .decided; received = st .fair .received }
+      ≡ record { counters = c; smoothed = st .fair .smoothed; decided = st .fair .decided; since = st .fair .since; received = st .fair .received }
   pub heard : (a : Advert) → changedOf st a ≡ withFair st (heardOf (st .fair) a)
   pub done : doneOf st ≡ record { number = 0; detail = 0; station = st }
   pub refused : (n : ℕ) → refusedOf st n ≡ record { number = n; detail = 0; station = st }

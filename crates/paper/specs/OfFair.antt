@@ -6,8 +6,10 @@ use Rattle.decide.specs.Test.{test}
 use Rattle.fair.specs.Advertise.{heardOf, toldOf}
 use Rattle.fair.specs.Age.{ageOf, shownFour}
 use Rattle.fair.specs.Count.{beyond, countOf, over}
+use Rattle.fair.specs.Methods.{adjustOf}
 use Rattle.fair.specs.Range.{fairOk, fourOk}
 use Rattle.fair.specs.Start.{startOf}
+use Rattle.fair.specs.declared.Adjusted.{Adjusted}
 use Rattle.fair.specs.declared.Fair.{Fair}
 use Rattle.fair.specs.declared.Four.{Four}
 use Rattle.fair.specs.declared.Stored.{Stored}
@@ -18,6 +20,8 @@ use mathlib.Core.Path.{_≡_}
 use Rattle.paper.specs.Determined.{Determined}
 
 pub record Functions : Type 0 where
+  -- Adjusted::adjust (a leaf: it asks that StoredOk (settings .fairness .lp) smoothed)
+  pub adjusted-adjust : (self : Adjusted) (settings : Settings) (smoothed : Stored) (held : ℕ) → Determined (λ (r : Adjusted). r ≡ adjustOf settings self smoothed held)
   -- Fair::told (a leaf: it asks that FairOk settings self)
   pub fair-told : (self : Fair) (settings : Settings) → Determined (λ (r : Advert). r ≡ toldOf self settings)
   -- Fair::heard

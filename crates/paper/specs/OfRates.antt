@@ -2,7 +2,7 @@
 -- Assumes nothing.
 use Prim.Native.Nat.{ℕ}
 use Rattle.decide.specs.Test.{test}
-use Rattle.rates.specs.Rates.{agedOf, allowanceOf, countedOf, ownRateOf, partOf, rampedOf, shareOf, shownOf, shownOk, smoothedOf}
+use Rattle.rates.specs.Rates.{agedOf, allowanceOf, countedOf, ownRateOf, partOf, rampedOf, reducedOf, shareOf, shownOf, shownOk, smoothedOf}
 use mathlib.Core.Bool.{Bool}
 use mathlib.Core.Path.{_≡_}
 use Rattle.paper.specs.Determined.{Determined}
@@ -20,6 +20,8 @@ pub record Functions : Type 0 where
   pub aged : (counter coef : ℕ) → Determined (λ (r : ℕ). r ≡ agedOf counter coef)
   -- ramped
   pub ramped : (value unreserved coef : ℕ) → Determined (λ (r : ℕ). r ≡ rampedOf value unreserved coef)
+  -- reduced
+  pub reduced : (rate coef : ℕ) → Determined (λ (r : ℕ). r ≡ reducedOf rate coef)
   -- allowance
   pub allowance : (received weight unit unreserved : ℕ) → Determined (λ (r : ℕ). r ≡ allowanceOf received weight unit unreserved)
   -- own_rate

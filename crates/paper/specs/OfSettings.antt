@@ -2,7 +2,7 @@
 -- Assumes nothing.
 use Prim.Native.Nat.{ℕ}
 use Rattle.decide.specs.Test.{test}
-use Rattle.settings.specs.Range.{addressOf, bucketOk, fairnessOk, limitsOf, queuesOk, settingsOk, shapersOk, usualOf}
+use Rattle.settings.specs.Range.{addressOf, aggressive, bucketOk, fairnessOk, limitsOf, queuesOk, settingsOk, shapersOk, usualOf}
 use Rattle.settings.specs.Words.{settingsAt, settingsBytes}
 use Rattle.settings.specs.declared.Address.{Address}
 use Rattle.settings.specs.declared.Bucket.{Bucket}
@@ -10,6 +10,7 @@ use Rattle.settings.specs.declared.Fairness.{Fairness}
 use Rattle.settings.specs.declared.Queues.{Queues}
 use Rattle.settings.specs.declared.Settings.{Settings}
 use Rattle.settings.specs.declared.Shapers.{Shapers}
+use Rattle.settings.specs.declared.Site.{Site}
 use Rattle.shaper.specs.declared.Limits.{Limits}
 use Rattle.wire.specs.Wire.{put}
 use mathlib.Core.Bool.{Bool}
@@ -34,6 +35,8 @@ pub record Functions : Type 0 where
   pub fairness-usual : (weight unit ticks unreserved : ℕ) → Determined (λ (r : Fairness). r ≡ usualOf weight unit ticks unreserved)
   -- Fairness::in_range
   pub fairness-in-range : (self : Fairness) → Determined (λ (r : Bool). r ≡ test (fairnessOk self))
+  -- Site::is_aggressive
+  pub site-is-aggressive : (self : Site) → Determined (λ (r : Bool). r ≡ test (aggressive self))
   -- in_range_at (a leaf: it asks that at + settingsLength ≤ length (now s))
   pub in-range-at : (s : List ℕ) (at : ℕ) → Determined (λ (r : Bool). r ≡ test (settingsOk (settingsAt s at)))
   -- Settings::read (a leaf: it asks that at + settingsLength ≤ length (now s))

@@ -158,4 +158,4 @@ pub record Hears (f : Fair) (a : Advert) : Type 0 where
   pub sets : (a .rate ≡ 65535 → ⊥)
       → heardOf f a ≡ withReceived (record { downstream = 1; ttl = a .ttl; high = a .high; low = a .low; rate = a .rate }) f
   -- Nothing else changes.
-  pub keeps : (r : Received) → withReceived r f ≡ record { counters = f .counters; smoothed = f .smoothed; decided = f .decided; received = r }
+  pub keeps : (r : Received) → withReceived r f ≡ record { counters = f .counters; smoothed = f .smoothed; decided = f .decided; since = f .since; received = r }

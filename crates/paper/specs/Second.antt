@@ -2,7 +2,7 @@
 -- and 02, step for step; fairness frames are both written and read. That each exported call does what the definitions say is its contract (`AnswersDetermined` has
 -- them all, made from the contracts' own text). What the host is told and finds is said in Host.antt; which rule each call of a station applies to which of its parts by `Acts` and
 -- `Listens`; here stand the rules, in the paper's words. Ranges and refusals are the first condition's. Assumes nothing.
-use Prim.Native.Nat.{ℕ, suc, _+_, _*_, _-_, _/_, _%_, _^_, _≤_, _<_, min, max}
+use Prim.Native.Nat.{ℕ, suc, _+_, _*_, _-_, _/_, _%_, _^_, _≤_, _<_, max}
 use mathlib.Core.Bool.{true, false}
 use mathlib.Core.List.{List, [], _∷_}
 use mathlib.Core.Logic.{_⊎_, _↔_}
@@ -32,7 +32,6 @@ use Rattle.rates.specs.Rates.{smoothedOf, shownOf}
 use Rattle.rates.specs.Steady.{steadyOf, gapOf}
 use Rattle.fair.specs.declared.Fair.{Fair}
 use Rattle.advert.specs.declared.Advert.{Advert}
-use Rattle.fair.specs.Age as interval
 use Rattle.fair.specs.Range.{FairOk}
 use Rattle.fair.specs.ReadBack.{ReadBack}
 use Rattle.ring.specs.declared.Way.{Way}
@@ -51,10 +50,11 @@ use Rattle.station.specs.Steady.{Rate}
 use Rattle.layout.specs.Layout.{stationLength}
 use Rattle.layout.specs.Reading.{readingLength}
 use Rattle.rpr.specs.Station.{startAnswer}
-use Rattle.rpr.specs.Lent.{Lending, memoryThrough, NoNewStart, startedIn, stationIn}
+use Rattle.rpr.specs.Lent.{Lending, memoryAfter, memoryThrough, NoNewStart, startedIn, stationIn}
 use Rattle.rpr.specs.Told.{recordTold}
-use Rattle.rpr.specs.Steady.{shownWord, smoothedWord, intervalsIn, SteadyIn, GivesRate}
+use Rattle.rpr.specs.Steady.{shownWord, smoothedWord, EndsInterval, intervalsIn, SteadyIn, GivesRate}
 use Rattle.rpr.specs.Hops.{RingTold}
+use Rattle.rpr.specs.Method.{RateTold, FreeTold}
 use Rattle.rpr.specs.Ways.{chooseAnswer}
 use Rattle.rpr.specs.Pairs.{PairTold}
 use Rattle.rpr.specs.Says.{Keeps}
@@ -63,6 +63,7 @@ use Rattle.paper.specs.LentNames.{LentNames}
 use Rattle.paper.specs.Rules.{Ticks, Charges, Lacks, Enters, Counts, Tells, Reads, Writes, Hears}
 use Rattle.paper.specs.Acts.{least, Starts, YesNo, Acts, Traces, ReadsOff}
 use Rattle.paper.specs.ByValue.{Lost, Unfit, Listens}
+use Rattle.paper.specs.Intervals.{Shares, Ages, Rows, Apart}
 use Rattle.paper.specs.Host.{Lays, Hosts, SettingsWords, Begins, ChoiceTold, ChoiceRefused, PathTold, PathRefused}
 
 -- ---- frame selection
@@ -113,41 +114,6 @@ pub record Selects (s : Settings) (f : Flow) : Type 0 where
   pub uncharged : (leaves f Primary .flow .credits ≡ f .credits) × (leaves f Secondary .flow .credits ≡ f .credits) × (leavesStage f .flow .credits ≡ f .credits)
   -- The chosen frame leaves its queue, where it was first; no other frame moves.
   pub moves : SettingsOk s → FlowOk s f → Moves f (selection.selectOf s f)
-
--- ---- fair rates: an aging interval, with so many bytes in the secondary queue
-
-pub record Ages (f : Fair) (s : Settings) (held : ℕ) : Type 0 where
-  -- Each stored number s becomes s − floor(s / lpCoef) + rate (document 02, A4).
-  pub smoothed : interval.ageOf f s held .smoothed
-      ≡ record {
-        add = f .smoothed .add - f .smoothed .add / s .fairness .lp + f .counters .add;
-        fw = f .smoothed .fw - f .smoothed .fw / s .fairness .lp + f .counters .fw;
-        addc = f .smoothed .addc - f .smoothed .addc / s .fairness .lp + f .counters .addc;
-        fwc = f .smoothed .fwc - f .smoothed .fwc / s .fairness .lp + f .counters .fwc;
-      }
-  -- Locally congested: secondary bytes > low threshold. localFairRate: lpAddRate, as it is shown, if locally congested, else
-  -- unreservedRate.
-  pub congested : s .queues .threshold < held
-      → (interval.ageOf f s held .decided .congested ≡ 1) × (interval.ageOf f s held .decided .local ≡ interval.ageOf f s held .smoothed .add / s .fairness .lp)
-  pub not-congested : held ≤ s .queues .threshold → (interval.ageOf f s held .decided .congested ≡ 0) × (interval.ageOf f s held .decided .local ≡ s .fairness .unreserved)
-  -- allowedRate: the smaller of localFairRate and unreservedRate if locally congested, else allowedRate + floor((unreservedRate − allowedRate) / rampUp).
-  pub allowed-congested : s .queues .threshold < held → interval.ageOf f s held .decided .allowed ≡ min (interval.ageOf f s held .decided .local) (s .fairness .unreserved)
-  pub allowed-ramped : held ≤ s .queues .threshold → interval.ageOf f s held .decided .allowed ≡ f .decided .allowed + (s .fairness .unreserved - f .decided .allowed) / s .fairness .ramp
-  -- allowedRateCongested: if downstream congested the smaller of unreservedRate and received × weight × unit, else ramped the same way.
-  pub allowedc-congested : f .received .downstream ≡ 1 → interval.ageOf f s held .decided .allowedc ≡ min (s .fairness .unreserved) (f .received .rate * s .fairness .weight * s .fairness .unit)
-  pub allowedc-ramped : (f .received .downstream ≡ 1 → ⊥) → interval.ageOf f s held .decided .allowedc ≡ f .decided .allowedc + (s .fairness .unreserved - f .decided .allowedc) / s .fairness .ramp
-  -- Each counter becomes floor(rate × (ageCoef−1) / ageCoef).
-  pub counters : interval.ageOf f s held .counters
-      ≡ record {
-        add = f .counters .add * (s .fairness .age - 1) / s .fairness .age;
-        fw = f .counters .fw * (s .fairness .age - 1) / s .fairness .age;
-        addc = f .counters .addc * (s .fairness .age - 1) / s .fairness .age;
-        fwc = f .counters .fwc * (s .fairness .age - 1) / s .fairness .age;
-      }
-  -- What was received stays.
-  pub keeps : interval.ageOf f s held .received ≡ f .received
-  -- Own rate is floor(localFairRate / (weight × unit)), at most 65,534.
-  pub own : interval.ageOf f s held .decided .own ≡ min (interval.ageOf f s held .decided .local / (s .fairness .weight * s .fairness .unit)) 65534
 
 -- ---- smoothed rates do not stop short (document 02, A4)
 
@@ -311,7 +277,21 @@ pub record Condition2 : Type 0 where
   pub words : (b : Bounds) (x : Frame) → b .mtu ≤ 9216 → FrameOk b x → (frameOf (wordOf x) ≡ x) × (wordOf x ≡ 0 → ⊥)
   pub selection : (s : Settings) (f : Flow) → Selects s f
   pub counting : (s : Settings) (f : Fair) (hops size : ℕ) → Counts s f hops size
-  pub rates : (f : Fair) (s : Settings) (held : ℕ) → Ages f s held
+  -- An aging interval: what both methods share; with the aggressive method chosen document 01 holds unaltered; the conservative one, row by row (document 02, A7).
+  pub rates : (f : Fair) (s : Settings) (held : ℕ) → Shares f s held
+  pub aggressive : (f : Fair) (s : Settings) (held : ℕ) → s .site .method ≡ 0 → Ages f s held
+  pub conservative : (f : Fair) (s : Settings) (held : ℕ) → s .site .method ≡ 1 → Rows f s held
+  -- Its changes are at least a round trip apart, but for leaving and entering, over any exported calls from any station in range, none a new start.
+  pub changes-apart : (mem : List ℕ) → Bytes (take stationLength mem) → length (take stationLength mem) ≡ stationLength → StationOk (stationIn mem)
+      → stationIn mem .settings .site .method ≡ 1 → (l : Lending) → EndsInterval l mem → (calls : List Lending) → NoNewStart (memoryAfter l mem) calls → Apart mem l calls
+  -- Its localFairRate never exceeds unreservedRate, over any exported calls, none a new start: from a start that was carried out, and from any station in range that is lent.
+  -- From a start localFairRate is unreservedRate, by either method, wherever the station does not count as locally congested.
+  pub conservative-within : (settings mem : List ℕ) → Bytes settings → startAnswer settings (take stationLength mem) ≡ 0
+      → (calls : List Lending) → NoNewStart (startedIn settings mem) calls → (room : List ℕ) → length room ≡ readingLength
+      → RateTold room (settingsAt settings 0) (memoryThrough (startedIn settings mem) calls)
+      × FreeTold room (settingsAt settings 0) (memoryThrough (startedIn settings mem) calls)
+  pub lent-conservative-within : (mem : List ℕ) (st : Station) → Keeps (take stationLength mem) st → (calls : List Lending) → NoNewStart mem calls
+      → (room : List ℕ) → length room ≡ readingLength → RateTold room (st .settings) (memoryThrough mem calls)
   -- Smoothed rates come to a steady rate, whatever is stored; and so a host sees them, over any calls from any station in range, none a new start.
   pub steady : (coef rate s : ℕ) → Steadies coef rate s
   pub steady-told : (mem room : List ℕ) → Bytes (take stationLength mem) → length (take stationLength mem) ≡ stationLength → StationOk (stationIn mem)
@@ -324,10 +304,10 @@ pub record Condition2 : Type 0 where
       → (calls : List Lending) → NoNewStart (startedIn settings mem) calls
       → RingTold (settingsAt settings 0 .site .stations) (memoryThrough (startedIn settings mem) calls)
   pub lent-within-ring : (mem : List ℕ) (st : Station) → Keeps (take stationLength mem) st → RingTold (st .settings .site .stations) mem
-  -- Local congestion and own rate hold till the next interval, with all else that it decides and with the stored numbers: no call but that of an interval
-  -- changes them.
+  -- Local congestion and own rate hold till the next interval, with all else that it decides, the stored numbers and the intervals since a change: no call but that of
+  -- an interval changes them.
   pub holding : (st : Station) (c : Call) → (c ≡ history.age → ⊥)
-      → (step c st .station .fair .decided ≡ st .fair .decided) × (step c st .station .fair .smoothed ≡ st .fair .smoothed)
+      → (step c st .station .fair .decided ≡ st .fair .decided) × (step c st .station .fair .smoothed ≡ st .fair .smoothed) × (step c st .station .fair .since ≡ st .fair .since)
   pub telling : (f : Fair) (s : Settings) → Tells f s
   pub hearing : (f : Fair) (a : Advert) → Hears f a
   pub reading : (frame : List ℕ) → Reads frame

@@ -1,9 +1,10 @@
 -- What each rate stays within, whatever the coefficients are: a quotient is at most what was divided.
 -- Assumes nothing.
 use Prim.Native.Nat.{ℕ, _+_, _-_, _*_, _≤_, _<_}
-use native.Mathlib.Nat.{mul-comm, mul-le-mul-left, mul-div-le, div-le-self, div-le-of-le-mul, div-lt-iff-lt-mul}
+use mathlib.Core.Path.{_≡_}
+use native.Mathlib.Nat.{mul-comm, mul-le-mul-left, mul-div-le, div-le-self, div-le-of-le-mul, div-lt-iff-lt-mul, div-eq-of-lt, le-div-iff-mul-le}
 use native.Mathlib.Omega.{arith}
-use Rattle.rates.specs.Rates.{partOf, shownOf, agedOf, rampedOf, allowanceOf, ownRateOf, countedOf, shareOf}
+use Rattle.rates.specs.Rates.{partOf, shownOf, agedOf, rampedOf, reducedOf, allowanceOf, ownRateOf, countedOf, shareOf}
 
 -- ---- a part is the largest whole number that is not above x / coef
 
@@ -18,6 +19,15 @@ part-next x coef p = div-lt-iff-lt-mul p .0 (omega arith)
 pub part-le : (x coef : ℕ) → partOf x coef ≤ x
 unfolding partOf
 part-le x coef = div-le-self x coef
+
+pub part-none : (x coef : ℕ) → x < coef → partOf x coef ≡ 0
+unfolding partOf
+part-none x coef h = div-eq-of-lt h
+
+-- what is not less than the coefficient has a part
+pub part-some : (x coef : ℕ) → 0 < coef → coef ≤ x → 1 ≤ partOf x coef
+unfolding partOf
+part-some x coef p h = le-div-iff-mul-le p .1 (omega arith)
 
 -- ---- rates and counters
 
@@ -38,6 +48,15 @@ ramped-rises value unreserved coef = omega arith
 pub ramped-within : (value unreserved coef : ℕ) → value ≤ unreserved → rampedOf value unreserved coef ≤ unreserved
 unfolding rampedOf
 ramped-within value unreserved coef h = omega (arith, part-le (unreserved - value) coef)
+
+-- a step down does not rise, and by less than rampDn it is none
+pub reduced-within : (rate coef : ℕ) → reducedOf rate coef ≤ rate
+unfolding reducedOf
+reduced-within rate coef = omega arith
+
+pub reduced-stands : (rate coef : ℕ) → rate < coef → reducedOf rate coef ≡ rate
+unfolding reducedOf
+reduced-stands rate coef h = omega (arith, part-none rate coef h)
 
 pub allowance-within : (received weight unit unreserved : ℕ) → allowanceOf received weight unit unreserved ≤ unreserved
 unfolding allowanceOf

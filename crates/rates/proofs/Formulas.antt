@@ -2,7 +2,7 @@
 -- Assumes nothing.
 use Prim.Native.Nat.{ℕ, suc, _+_, _-_, _*_, _/_, min}
 use mathlib.Core.Path.{_≡_, refl}
-use Rattle.rates.specs.Rates.{partOf, smoothedOf, shownOf, agedOf, rampedOf, allowanceOf, ownRateOf, shareOf}
+use Rattle.rates.specs.Rates.{partOf, smoothedOf, shownOf, agedOf, rampedOf, reducedOf, allowanceOf, ownRateOf, shareOf}
 use Rattle.rates.specs.Steady.{steadyOf}
 
 -- s − floor(s / lpCoef) + rate, of which floor(s / lpCoef) is shown
@@ -32,6 +32,11 @@ aged-is rate coef = refl
 pub ramped-is : (allowed unreserved coef : ℕ) → rampedOf allowed unreserved coef ≡ allowed + (unreserved - allowed) / coef
 unfolding rampedOf partOf
 ramped-is allowed unreserved coef = refl
+
+-- localFairRate − floor(localFairRate / rampDn)
+pub reduced-is : (local coef : ℕ) → reducedOf local coef ≡ local - local / coef
+unfolding reducedOf partOf
+reduced-is local coef = refl
 
 -- the smaller of unreservedRate and received × weight × unit
 pub allowance-is : (received weight unit unreserved : ℕ) → allowanceOf received weight unit unreserved ≡ min unreserved (received * weight * unit)

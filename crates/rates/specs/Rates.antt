@@ -1,9 +1,9 @@
--- The arithmetic of the rates of document 01 and of document 02, A4, each rule from its sentence. A quotient of natural numbers is rounded down, and by
+-- The arithmetic of the rates of document 01 and of document 02, A4 and A7, each rule from its sentence. A quotient of natural numbers is rounded down, and by
 -- 0 it is 0. Assumes nothing.
 use Prim.Native.Nat.{ℕ, _+_, _-_, _*_, _/_, min}
 use Rattle.decide.specs.Test.{Test, _≤?_}
 
--- floor(x / coef), of a coefficient: ageCoef, lpCoef or rampUp.
+-- floor(x / coef), of a coefficient: ageCoef, lpCoef, rampUp or rampDn.
 unfoldable pub partOf : ℕ → ℕ → ℕ
 partOf x coef = x / coef
 
@@ -23,9 +23,14 @@ shownOk lpCoef s = shownOf lpCoef s ≤? 2147483647
 unfoldable pub agedOf : ℕ → ℕ → ℕ
 agedOf rate ageCoef = partOf (rate * (ageCoef - 1)) ageCoef
 
--- allowedRate + floor((unreservedRate − allowedRate) / rampUp), and the same of allowedRateCongested.
+-- allowedRate + floor((unreservedRate − allowedRate) / rampUp), and the same of allowedRateCongested; localFairRate is raised by the rampUp-th part of the
+-- distance, rounded down, too (A7).
 unfoldable pub rampedOf : ℕ → ℕ → ℕ → ℕ
 rampedOf allowed unreserved rampUp = allowed + partOf (unreserved - allowed) rampUp
+
+-- Reduce localFairRate by its rampDn-th part, rounded down (A7).
+unfoldable pub reducedOf : ℕ → ℕ → ℕ
+reducedOf local rampDn = local - partOf local rampDn
 
 -- allowedRateCongested: if downstream congested the smaller of unreservedRate and received × weight × unit.
 unfoldable pub allowanceOf : ℕ → ℕ → ℕ → ℕ → ℕ

@@ -4,7 +4,7 @@ ghost use mathlib.Core.Path.{_≡_};
 ghost use mathlib.Core.Logic.{_≢_};
 ghost use Prim.Native.Nat.{ℕ, _+_, _/_, _^_, _<_};
 ghost use Rattle.decide.specs.Test.{test};
-ghost use Rattle.rates.specs.Rates.{partOf, smoothedOf, shownOf, shownOk, agedOf, rampedOf, allowanceOf, ownRateOf, countedOf, shareOf};
+ghost use Rattle.rates.specs.Rates.{partOf, smoothedOf, shownOf, shownOk, agedOf, rampedOf, reducedOf, allowanceOf, ownRateOf, countedOf, shareOf};
 
 // The largest number that a counter holds.
 const MOST_COUNTED: u64 = 2147483647;
@@ -18,7 +18,7 @@ const MOST_OWN: u64 = 65534;
 // The largest number of 32 bits.
 const MOST_WORD: u64 = 4294967295;
 
-// x divided by a coefficient (ageCoef, lpCoef or rampUp) and rounded down: by a shift where the coefficient is a power of two, as each in range is, and the long way
+// x divided by a coefficient (ageCoef, lpCoef, rampUp or rampDn) and rounded down: by a shift where the coefficient is a power of two, as each in range is, and the long way
 // where it is not. Neither has a divide.
 pub fn part(x: u64, coef: u32) -> u64
     ensures { λ r. ⌜ r ≡ partOf x coef ⌝ }
@@ -61,12 +61,19 @@ pub fn aged(counter: u32, coef: u32) -> u32
     part(kept, coef) as u32
 }
 
-// An allowed rate after an interval without congestion: one step nearer to unreservedRate, by rampUp.
+// An allowed rate after an interval without congestion, or localFairRate after a step up: one step nearer to unreservedRate, by rampUp.
 pub fn ramped(value: u32, unreserved: u32, coef: u32) -> u32
     ensures { λ r. ⌜ r ≡ rampedOf value unreserved coef ⌝ }
 {
     let distance = decide::less(unreserved as u64, value as u64);
     (value as u64 + part(distance, coef)) as u32
+}
+
+// localFairRate after a step down: less its part by rampDn.
+pub fn reduced(rate: u32, coef: u32) -> u32
+    ensures { λ r. ⌜ r ≡ reducedOf rate coef ⌝ }
+{
+    rate - part(rate as u64, coef) as u32
 }
 
 // The rate that a received one allows to frames which pass the congested station, for a station of this weight and rate unit.

@@ -17,11 +17,10 @@ use Rattle.station.specs.Range.{StationOk}
 use Rattle.station.specs.Calls.{selectFaults}
 use Rattle.station.specs.Hops.{WithinRing}
 use Rattle.station.proofs.Hear.{frame-found}
-use Rattle.station.proofs.History.{after-settings}
 use Rattle.station.proofs.Hops.{in-range-within}
 use Rattle.layout.specs.Layout.{stationLength, stationAt}
 use Rattle.rpr.specs.Station.{startAnswer, selectAnswer}
-use Rattle.rpr.specs.Lent.{Lending, memoryThrough, NoNewStart, callsOn, startedIn}
+use Rattle.rpr.specs.Lent.{Lending, memoryThrough, NoNewStart, startedIn}
 use Rattle.rpr.specs.Told.{answerByte}
 use Rattle.rpr.specs.Says.{Keeps}
 use Rattle.rpr.specs.Hops.{RingTold}
@@ -30,7 +29,7 @@ use Rattle.rpr.proofs.Chosen.{chosen-in-ring}
 use Rattle.rpr.proofs.Station.{select-leaves, select-bytes}
 use Rattle.rpr.proofs.Step.{keeps-fits}
 use Rattle.rpr.proofs.Rooms.{no-row, write-frame-done}
-use Rattle.rpr.proofs.Lent.{memory-keeps, begins}
+use Rattle.rpr.proofs.Lent.{memory-keeps, kept-settings, begins}
 
 -- the first byte of a fairness frame is its ttl
 ttl-byte : (xs : List ℕ) → getD xs 0 0 ≡ advertIn xs .ttl
@@ -69,7 +68,6 @@ pub ring-told : (settings mem : List ℕ) → Bytes settings → startAnswer set
     → (ls : List Lending) → NoNewStart (startedIn settings mem) ls
     → RingTold (settingsAt settings 0 .site .stations) (memoryThrough (startedIn settings mem) ls)
 ring-told settings mem bytes z ls none =
+    let started = startedIn settings mem in
     let first = begins settings mem bytes z in
-    let through = memory-keeps (startedIn settings mem) ls first in
-    let same = ap (λ (s : Station). s .settings) (through .follows none) ∙ after-settings (first .in-range) (callsOn (startedIn settings mem) ls) in
-    subst (λ s. RingTold (s .site .stations) (memoryThrough (startedIn settings mem) ls)) same (keeps-ringed (memoryThrough (startedIn settings mem) ls) (through .keeps))
+    subst (λ s. RingTold (s .site .stations) (memoryThrough started ls)) (kept-settings started ls first none) (keeps-ringed (memoryThrough started ls) (memory-keeps started ls first .keeps))

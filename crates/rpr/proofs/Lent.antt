@@ -19,7 +19,7 @@ use Rattle.station.specs.declared.Station.{Station}
 use Rattle.station.specs.Range.{StationOk}
 use Rattle.station.specs.Calls.{freshOf}
 use Rattle.station.specs.History.{Call, after, recordOf, Recorded}
-use Rattle.station.proofs.History.{credit-of-record}
+use Rattle.station.proofs.History.{after-settings, credit-of-record}
 use Rattle.layout.specs.Layout.{stationLength}
 use Rattle.rpr.specs.Station.{startAnswer, startAfter}
 use Rattle.rpr.specs.Lent.{answerTo, leftBy, callsOf, StartsWith, Lending, lentTo, memoryAfter, memoryThrough, NoNewStart, callsOn, startedIn, stationIn}
@@ -84,6 +84,11 @@ memory-keeps mem (l ∷ ls) {st} k =
       keeps = rest .keeps;
       follows = λ n. rest .follows (n .1) ∙ ap (after st) (sym (short-calls l mem ls h));
     })
+
+-- Where none was a new start its settings are what they were.
+pub kept-settings : (mem : List ℕ) (ls : List Lending) {st : Station} (k : Keeps (take stationLength mem) st) → NoNewStart mem ls
+    → memory-keeps mem ls k .next .settings ≡ st .settings
+kept-settings mem ls k none = ap (λ (s : Station). s .settings) (memory-keeps mem ls k .follows none) ∙ after-settings (k .in-range) (callsOn mem ls)
 
 -- ---- from a start on
 

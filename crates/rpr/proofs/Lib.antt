@@ -19,3 +19,4 @@ pub mod Pieces
 pub mod Reading
 pub mod Steady
 pub mod Hops
+pub mod Method

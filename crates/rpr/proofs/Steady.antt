@@ -60,11 +60,12 @@ intervals-append [] ds = omega arith
 intervals-append (c ∷ cs) ds = omega (arith, intervals-append cs ds)
 
 module _ (l : Lending) (mem : List ℕ) (ls : List Lending) where
+  -- an rpr_age is the first of the calls that the station had
+  pub age-first : EndsInterval l mem → callsOn mem (l ∷ ls) ≡ callsOf age ++ callsOn (memoryAfter l mem) ls
+  age-first e = whole-calls l mem ls (e .1) ∙ ap (λ (c : LentCall). callsOf c ++ callsOn (memoryAfter l mem) ls) (e .0)
+
   pub one-more : EndsInterval l mem → intervalsIn mem (l ∷ ls) ≡ suc (intervalsIn (memoryAfter l mem) ls)
-  one-more e =
-      let rest : List Call = callsOn (memoryAfter l mem) ls in
-      let calls : callsOn mem (l ∷ ls) ≡ callsOf age ++ rest = whole-calls l mem ls (e .1) ∙ ap (λ (c : LentCall). callsOf c ++ rest) (e .0) in
-      omega (arith, ap intervals calls)
+  one-more e = omega (arith, ap intervals (age-first e))
 
   pub no-more : (EndsInterval l mem → ⊥) → intervalsIn mem (l ∷ ls) ≡ intervalsIn (memoryAfter l mem) ls
   no-more n =

@@ -12,7 +12,7 @@ use summary::Outcome;
 const NOT_WHOLE: u64 = 2;
 
 // The two numbers of the version that this library is, as rpr.h has them in RPR_VERSION.
-const VERSION: u64 = 3;
+const VERSION: u64 = 4;
 
 const REVISION: u64 = 0;
 

@@ -18,13 +18,13 @@ abbrev five : List ℕ → List ℕ
 five ws = ws ++ ws ++ ws ++ ws ++ ws
 
 -- The words of settings in range: own address, own ringlet, mtu; loLimit, hiLimit and amount of each shaper; control, primary and secondary queue, low
--- threshold; weight, rate unit, ticks, unreservedRate; ageCoef, lpCoef, rampUp; stations. Each at its least,
+-- threshold; weight, rate unit, ticks, unreservedRate; ageCoef, lpCoef, rampUp; stations; method, round trip, rampDn. Each at its least,
 abbrev pub least : List ℕ
 least =
     (0 ∷ 0 ∷ 0 ∷ 64 ∷ [])
     ++ five (64 ∷ 65 ∷ 0 ∷ [])
     ++ (64 ∷ 64 ∷ 128 ∷ 0 ∷ [])
-    ++ (1 ∷ 1 ∷ 1 ∷ 1 ∷ 1 ∷ 16 ∷ 16 ∷ 2 ∷ [])
+    ++ (1 ∷ 1 ∷ 1 ∷ 1 ∷ 1 ∷ 16 ∷ 16 ∷ 2 ∷ 0 ∷ 1 ∷ 16 ∷ [])
 
 -- each at its most,
 abbrev pub most : List ℕ
@@ -32,7 +32,7 @@ most =
     (65535 ∷ 4294967295 ∷ 1 ∷ 9216 ∷ [])
     ++ five (65536 ∷ 1048576 ∷ 65535 ∷ [])
     ++ (1048576 ∷ 1048576 ∷ 1048576 ∷ 1048576 ∷ [])
-    ++ (255 ∷ 1024 ∷ 10000 ∷ 2147483647 ∷ 16 ∷ 512 ∷ 512 ∷ 63 ∷ [])
+    ++ (255 ∷ 1024 ∷ 10000 ∷ 2147483647 ∷ 16 ∷ 512 ∷ 512 ∷ 63 ∷ 1 ∷ 1000 ∷ 512 ∷ [])
 
 -- and between, with the default coefficients
 abbrev pub usual : List ℕ
@@ -40,7 +40,7 @@ usual =
     (0 ∷ 0 ∷ 1 ∷ 1500 ∷ [])
     ++ five (2000 ∷ 9000 ∷ 300 ∷ [])
     ++ (100000 ∷ 100000 ∷ 200000 ∷ 50000 ∷ [])
-    ++ (1 ∷ 4 ∷ 100 ∷ 1000000 ∷ 4 ∷ 64 ∷ 64 ∷ 6 ∷ [])
+    ++ (1 ∷ 4 ∷ 100 ∷ 1000000 ∷ 4 ∷ 64 ∷ 64 ∷ 6 ∷ 1 ∷ 40 ∷ 64 ∷ [])
 
 -- the words of what each shaper has of its own, and of control and primary queue, which have one range
 abbrev pub lo : List ℕ
@@ -105,6 +105,15 @@ pub record Edges : Type 0 where
   pub stations-0 : Outside least (30 ∷ []) 0
   pub stations-1 : Outside least (30 ∷ []) 1
   pub stations-64 : Outside most (30 ∷ []) 64
+  -- neither method
+  pub method-2 : Outside least (31 ∷ []) 2
+  -- under either method, the aggressive one at the least and the conservative one at the most
+  pub trip-0 : (Outside least (32 ∷ []) 0) × (Outside most (32 ∷ []) 0)
+  pub trip-1001 : (Outside least (32 ∷ []) 1001) × (Outside most (32 ∷ []) 1001)
+  pub down-0 : (Outside least (33 ∷ []) 0) × (Outside most (33 ∷ []) 0)
+  pub down-8 : (Outside least (33 ∷ []) 8) × (Outside most (33 ∷ []) 8)
+  pub down-100 : Outside usual (33 ∷ []) 100
+  pub down-1024 : (Outside least (33 ∷ []) 1024) × (Outside most (33 ∷ []) 1024)
 
 pub edges : Edges
 unfolding ok test settingsOk
@@ -147,4 +156,11 @@ edges =
       stations-0 = refl;
       stations-1 = refl;
       stations-64 = refl;
+      method-2 = refl;
+      trip-0 = (refl, refl);
+      trip-1001 = (refl, refl);
+      down-0 = (refl, refl);
+      down-8 = (refl, refl);
+      down-100 = refl;
+      down-1024 = (refl, refl);
     }

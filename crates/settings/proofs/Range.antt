@@ -88,10 +88,10 @@ module _ (f : Fairness) where
 
 module _ (s : Site) where
   site-facts : Holds (siteOk s) → SiteOk s
-  site-facts h = record { stations-least = omega arith; stations-most = omega arith }
+  site-facts (l, (m, (k, (t, (t′, d))))) = record { stations-least = l; stations-most = m; method-most = k; trip-least = t; trip-most = t′; down-one-of = d }
 
   site-hold : SiteOk s → Holds (siteOk s)
-  site-hold ok = omega arith
+  site-hold ok = (ok .stations-least, (ok .stations-most, (ok .method-most, (ok .trip-least, (ok .trip-most, ok .down-one-of)))))
 
 -- ---- the settings
 

@@ -22,7 +22,7 @@ use Rattle.settings.specs.declared.Queues.{Queues}
 use Rattle.settings.specs.declared.Fairness.{Fairness}
 use Rattle.settings.specs.declared.Site.{Site}
 use Rattle.settings.specs.declared.Settings.{Settings}
-use Rattle.settings.specs.Range.{BucketOk, QueuesOk, FairnessOk, SettingsOk}
+use Rattle.settings.specs.Range.{BucketOk, QueuesOk, FairnessOk, SiteOk, SettingsOk}
 use Rattle.settings.specs.Words.{addressLength, bucketLength, shapersLength, queuesLength, fairnessLength, siteLength, settingsLength}
 use Rattle.settings.specs.Words.{ringletPlace, mtuPlace, shapersPlace, queuesPlace, fairnessPlace, sitePlace}
 use Rattle.settings.specs.Words.{addressParts, bucketParts, shapersParts, queuesParts, fairnessParts, siteParts, settingsParts}
@@ -75,7 +75,10 @@ module _ (xs : List ℕ) (at : ℕ) where
       )
 
   site-back : (v : Site) → SiteFits v → Stands xs at (siteBytes v) → siteAt xs at ≡ v
-  site-back v f s = rw (first-back (siteParts v) xs at s (v .stations) refl refl f)
+  site-back v f s =
+      let ps : List Part = siteParts v in
+      let w : (k v : ℕ) → nth ps k .bytes ≡ digits 4 v → v < 4294967296 → le 4 xs (at + offset ps k) ≡ v = word-back ps xs at s in
+      rw (first-back ps xs at s (v .stations) refl refl (f .0), w 1 (v .method) refl (f .1), w 2 (v .trip) refl (f .2), w 3 (v .down) refl (f .3))
 
 shapers-back : (xs : List ℕ) (at : ℕ) (v : Shapers) → ShapersFit v → Stands xs at (shapersBytes v) → shapersAt xs at ≡ v
 shapers-back xs at v f s =
@@ -140,7 +143,7 @@ module _ (xs : List ℕ) (b : Bytes xs) where
       (w at, (w (at + 4), (w (at + 8), (w (at + 12), (w (at + 16), (w (at + 20), (w (at + 24), tt)))))))
 
   site-stands : (at : ℕ) → at + siteLength ≤ length xs → Stands xs at (siteBytes (siteAt xs at))
-  site-stands at h = placed-stand (siteParts (siteAt xs at)) xs at h (w at, tt)
+  site-stands at h = placed-stand (siteParts (siteAt xs at)) xs at h (w at, (w (at + 4), (w (at + 8), (w (at + 12), tt))))
 
   -- the bytes of the settings that are read at a place stand there
   pub settings-stand : (at : ℕ) → at + settingsLength ≤ length xs → Stands xs at (settingsBytes (settingsAt xs at))
@@ -175,6 +178,7 @@ settings-bytes v =
     let s : Shapers = v .shapers in
     let q : Queues = v .queues in
     let f : Fairness = v .fairness in
+    let t : Site = v .site in
     laidOut-bytes (settingsParts v) (
       laidOut-bytes (addressParts (v .address)) (d (v .address .high), (d (v .address .low), tt)),
       (
@@ -188,7 +192,7 @@ settings-bytes v =
               (
                 laidOut-bytes (fairnessParts f)
                     (d (f .weight), (d (f .unit), (d (f .ticks), (d (f .unreserved), (d (f .age), (d (f .lp), (d (f .ramp), tt))))))),
-                (laidOut-bytes (siteParts (v .site)) (d (v .site .stations), tt), tt),
+                (laidOut-bytes (siteParts t) (d (t .stations), (d (t .method), (d (t .trip), (d (t .down), tt)))), tt),
               ),
             ),
           ),
@@ -209,7 +213,7 @@ settings-fit xs at b =
       of-shapers = let s : ℕ = at + shapersPlace in (t s, t (s + 12), t (s + 24), t (s + 36), t (s + 48));
       of-queues = let q : ℕ = at + queuesPlace in (l q, l (q + 4), l (q + 8), l (q + 12));
       of-fairness = let f : ℕ = at + fairnessPlace in (l f, l (f + 4), l (f + 8), l (f + 12), l (f + 16), l (f + 20), l (f + 24));
-      of-site = l (at + sitePlace);
+      of-site = let t : ℕ = at + sitePlace in (l t, l (t + 4), l (t + 8), l (t + 12));
     }
 
 -- and so are settings in range, with an address of 48 bits
@@ -226,7 +230,7 @@ in-range-fit v ok l =
       of-queues = omega arith;
       of-fairness =
           omega (arith, age-bounds (v .fairness .age) (f .age-one-of), coef-bounds (v .fairness .lp) (f .lp-one-of), coef-bounds (v .fairness .ramp) (f .ramp-one-of));
-      of-site = omega (arith, ok .of-site .stations-most);
+      of-site = let t : SiteOk (v .site) = ok .of-site in omega (arith, t .stations-most, t .method-most, t .trip-most, coef-bounds (v .site .down) (t .down-one-of));
     }
   where
     bucket-fits : {mtu : ℕ} {b : Bucket} → BucketOk mtu b → BucketFits b
@@ -256,7 +260,7 @@ shaperOf w k = record { lo = w k; hi = w (k + 1); amount = w (k + 2) }
 
 -- Words 0 and 1 are own address (high 16 bits, low 32 bits), 2 own ringlet, 3 mtu; 4, 7, 10, 13 and 16 begin shaper M, A, B, C and D
 -- (loLimit, hiLimit, amount); 19 control queue, 20 primary, 21 secondary, 22 low threshold; 23 weight, 24 rate unit, 25 ticks per interval,
--- 26 unreservedRate; 27, 28, 29 ageCoef, lpCoef, rampUp; 30 the number of stations.
+-- 26 unreservedRate; 27, 28, 29 ageCoef, lpCoef, rampUp; 30 the number of stations; 31 the method, 32 a round trip in intervals, 33 rampDn.
 abbrev pub settingsOf : (ℕ → ℕ) → Settings
 settingsOf w =
     record {
@@ -266,7 +270,7 @@ settingsOf w =
       shapers = record { m = shaperOf w 4; a = shaperOf w 7; b = shaperOf w 10; c = shaperOf w 13; d = shaperOf w 16 };
       queues = record { control = w 19; primary = w 20; secondary = w 21; threshold = w 22 };
       fairness = record { weight = w 23; unit = w 24; ticks = w 25; unreserved = w 26; age = w 27; lp = w 28; ramp = w 29 };
-      site = record { stations = w 30 };
+      site = record { stations = w 30; method = w 31; trip = w 32; down = w 33 };
     }
 
 pub by-words : (xs : List ℕ) → settingsAt xs 0 ≡ settingsOf (wordAt xs)

@@ -46,7 +46,7 @@ oneOf x v (w ∷ ws) = x ≡? v ∨? oneOf x w ws
 abbrev pub ageOk : ℕ → Test
 ageOk x = oneOf x 1 (2 ∷ 4 ∷ 8 ∷ 16 ∷ [])
 
--- lpCoef and rampUp 16, 32, 64, 128, 256 or 512
+-- lpCoef and rampUp 16, 32, 64, 128, 256 or 512; rampDn has rampUp's values (document 02, A7)
 abbrev pub coefOk : ℕ → Test
 coefOk x = oneOf x 16 (32 ∷ 64 ∷ 128 ∷ 256 ∷ 512 ∷ [])
 
@@ -59,9 +59,14 @@ fairnessOk f =
     ∧? 1 ≤? f .unreserved ∧? f .unreserved ≤? 2147483647
     ∧? ageOk (f .age) ∧? coefOk (f .lp) ∧? coefOk (f .ramp)
 
--- The number of stations, 2 to 63 (document 02, A5).
+-- The number of stations, 2 to 63 (document 02, A5). The method, 0 aggressive or 1 conservative; a fairness round trip, 1 to 1,000 intervals; rampDn has
+-- rampUp's values (A7): whichever method is chosen.
 abbrev pub siteOk : Site → Test
-siteOk s = 2 ≤? s .stations ∧? s .stations ≤? 63
+siteOk s = 2 ≤? s .stations ∧? s .stations ≤? 63 ∧? s .method ≤? 1 ∧? 1 ≤? s .trip ∧? s .trip ≤? 1000 ∧? coefOk (s .down)
+
+-- the aggressive method is chosen; in range the other is the conservative one
+abbrev pub aggressive : Site → Test
+aggressive s = s .method ≡? 0
 
 -- Own address of 48 bits, own ringlet 0 or 1, mtu 64 to 9,216, and the settings of the parts.
 unfoldable pub settingsOk : Settings → Test
@@ -119,6 +124,10 @@ pub record FairnessOk (f : Fairness) : Type 0 where
 pub record SiteOk (s : Site) : Type 0 where
   pub stations-least : 2 ≤ s .stations
   pub stations-most : s .stations ≤ 63
+  pub method-most : s .method ≤ 1
+  pub trip-least : 1 ≤ s .trip
+  pub trip-most : s .trip ≤ 1000
+  pub down-one-of : Coef (s .down)
 
 pub record SettingsOk (s : Settings) : Type 0 where
   pub high-most : s .address .high ≤ 65535

@@ -36,7 +36,7 @@ abbrev pub fairnessLength : ℕ
 fairnessLength = 7 * 4
 
 abbrev pub siteLength : ℕ
-siteLength = 4
+siteLength = 4 * 4
 
 -- ---- where each part of the settings stands: behind the one before it
 
@@ -94,7 +94,7 @@ fairnessParts f =
     ∷ []
 
 abbrev pub siteParts : Site → List Part
-siteParts s = word (s .stations) ∷ []
+siteParts s = word (s .stations) ∷ word (s .method) ∷ word (s .trip) ∷ word (s .down) ∷ []
 
 abbrev pub settingsParts : Settings → List Part
 settingsParts s =
@@ -171,7 +171,7 @@ fairnessAt xs at =
     }
 
 abbrev pub siteAt : List ℕ → ℕ → Site
-siteAt xs at = record { stations = le 4 xs at }
+siteAt xs at = record { stations = le 4 xs at; method = le 4 xs (at + 4); trip = le 4 xs (at + 8); down = le 4 xs (at + 12) }
 
 unfoldable pub settingsAt : List ℕ → ℕ → Settings
 settingsAt xs at =
@@ -208,7 +208,7 @@ FairnessFits f =
     × Fits32 (f .age) × Fits32 (f .lp) × Fits32 (f .ramp)
 
 abbrev pub SiteFits : Site → Type 0
-SiteFits s = Fits32 (s .stations)
+SiteFits s = Fits32 (s .stations) × Fits32 (s .method) × Fits32 (s .trip) × Fits32 (s .down)
 
 pub record SettingsFit (s : Settings) : Type 0 where
   pub of-address : AddressFits (s .address)

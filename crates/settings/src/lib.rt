@@ -5,7 +5,7 @@ ghost use Prim.Native.Nat.{_+_, _*_, _≤_};
 ghost use lib.ListN.{length};
 ghost use Rattle.decide.specs.Test.{test};
 ghost use Rattle.settings.specs.Range.{limitsOf, bucketOk, shapersOk, capacityOk, queuesOk, ageOk, coefOk, fairnessOk, siteOk, settingsOk};
-ghost use Rattle.settings.specs.Range.{usualOf, addressOf};
+ghost use Rattle.settings.specs.Range.{usualOf, addressOf, aggressive};
 ghost use Rattle.settings.specs.Words.{settingsLength, settingsAt};
 use shaper::Limits;
 
@@ -46,9 +46,13 @@ pub struct Fairness {
     pub ramp: u32,
 }
 
-// The settings whose words stand behind those of all other parts: the number of stations on the ring.
+// The settings whose words stand behind those of all other parts: the number of stations on the ring, the method of adjusting localFairRate (0 aggressive,
+// 1 conservative), a fairness round trip in intervals, rampDn.
 pub struct Site {
     pub stations: u32,
+    pub method: u32,
+    pub trip: u32,
+    pub down: u32,
 }
 
 // An address of 48 bits: its high 16 and its low 32.
@@ -220,11 +224,29 @@ impl Site {
 
     pub const MAX_STATIONS: u32 = 63;
 
-    // Whether the number of stations is in its range.
+    pub const AGGRESSIVE: u32 = 0;
+
+    pub const CONSERVATIVE: u32 = 1;
+
+    pub const MAX_TRIP: u32 = 1000;
+
+    // Whether each setting of the site is in its range.
     fn in_range(self) -> bool
         ensures { λ r. ⌜ r ≡ test (siteOk self) ⌝ }
     {
-        (Site::MIN_STATIONS <= self.stations) & (self.stations <= Site::MAX_STATIONS)
+        (Site::MIN_STATIONS <= self.stations)
+            & (self.stations <= Site::MAX_STATIONS)
+            & (self.method <= Site::CONSERVATIVE)
+            & (1 <= self.trip)
+            & (self.trip <= Site::MAX_TRIP)
+            & coef_ok(self.down)
+    }
+
+    // Whether the aggressive method is chosen.
+    pub fn is_aggressive(self) -> bool
+        ensures { λ r. ⌜ r ≡ test (aggressive self) ⌝ }
+    {
+        self.method == Site::AGGRESSIVE
     }
 }
 
@@ -250,7 +272,7 @@ fn age_ok(x: u32) -> bool
     (x == 1) | (x == 2) | (x == 4) | (x == 8) | (x == 16)
 }
 
-// Whether an lpCoef or a rampUp is one of its six values.
+// Whether an lpCoef, a rampUp or a rampDn is one of its six values.
 fn coef_ok(x: u32) -> bool
     ensures { λ r. ⌜ r ≡ test (coefOk x) ⌝ }
 {

@@ -207,7 +207,7 @@ impl Fairness {
 }
 
 impl Site {
-    const LENGTH: usize = WORD;
+    const LENGTH: usize = 4 * WORD;
 
     // The settings of the site whose words stand in `s` from `at` on.
     fn read(s: &[u8], at: usize) -> Site
@@ -216,6 +216,9 @@ impl Site {
     {
         Site {
             stations: wire::get32(s, at),
+            method: wire::get32(s, at + 4),
+            trip: wire::get32(s, at + 8),
+            down: wire::get32(s, at + 12),
         }
     }
 
@@ -225,5 +228,8 @@ impl Site {
         ensures { λ _. ⌜ now (s .exit) ≡ put (now (s .entry)) at (siteBytes self) ⌝ }
     {
         wire::put32(s, at, self.stations);
+        wire::put32(s, at + 4, self.method);
+        wire::put32(s, at + 8, self.trip);
+        wire::put32(s, at + 12, self.down);
     }
 }

@@ -21,7 +21,8 @@ use Rattle.flow.specs.Offer.{queueFor}
 use Rattle.selection.specs.Select as selection
 use Rattle.fair.specs.Range.{fairOk}
 use Rattle.fair.specs.Count.{raisedOf}
-use Rattle.fair.specs.Age.{adjustOf, allowedOf, allowedcOf}
+use Rattle.fair.specs.Methods.{aggressiveOf, adjustOf}
+use Rattle.fair.specs.Age.{allowedOf, allowedcOf}
 use Rattle.heard.specs.Frame.{receivedOf}
 use Rattle.fair.specs.Advertise.{toldOf}
 use Rattle.station.specs.declared.Station.{Station}
@@ -41,7 +42,7 @@ settings =
       shapers = record { m = b; a = b; b = b; c = b; d = b };
       queues = record { control = 100; primary = 100; secondary = 128; threshold = 64 };
       fairness = record { weight = 1; unit = 1; ticks = 10; unreserved = 1999; age = 4; lp = 64; ramp = 64 };
-      site = record { stations = 8 };
+      site = record { stations = 8; method = 0; trip = 40; down = 64 };
     }
 
 -- C traffic waits, a client gives a frame of class C of 64 bytes with so many hops to go, and a frame goes
@@ -97,7 +98,7 @@ pub record Examples : Type 0 where
   pub counted-40 : after (hearOf (choked 250) (choke 216) .station) (sent 7) .fair .counters ≡ record { add = 64; fw = 0; addc = 64; fwc = 0 }
 
 pub examples : Examples
-unfolding test stationOk settingsOk flowOk fairOk queueOk eachFrom slotOk occupied framesFrom sizes firstOf first refusedOr flow.startOf flow.tickOf queueFor wayOf selection.selectOf emptyQueue spaceOf queue.firstFrame queue.pushed queue.taken ownRateOf shareOf countedOf raisedOf be receivedOf toldOf adjustOf allowedOf allowedcOf partOf smoothedOf shownOf agedOf rampedOf allowanceOf
+unfolding test stationOk settingsOk flowOk fairOk queueOk eachFrom slotOk occupied framesFrom sizes firstOf first refusedOr flow.startOf flow.tickOf queueFor wayOf selection.selectOf emptyQueue spaceOf queue.firstFrame queue.pushed queue.taken ownRateOf shareOf countedOf raisedOf be receivedOf toldOf aggressiveOf adjustOf allowedOf allowedcOf partOf smoothedOf shownOf agedOf rampedOf allowanceOf
 examples =
     record {
       sent-credits = refl;

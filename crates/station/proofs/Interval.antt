@@ -25,23 +25,23 @@ age-ages {st} ok =
     age-done st (facts-in-range st ok)
     ∙ ap (λ (held : ℕ). doneOf (withFair st (interval.ageOf (st .fair) (st .settings) held))) (ok .flow .queues Secondary .held)
 
--- what intervals decide, and what is stored for the smoothed rates
+-- what intervals decide, what is stored for the smoothed rates, and the intervals since a change
 abbrev Unaged : Fair → Fair → Type 0
-Unaged f g = (g .decided ≡ f .decided) × (g .smoothed ≡ f .smoothed)
+Unaged f g = (g .decided ≡ f .decided) × (g .smoothed ≡ f .smoothed) × (g .since ≡ f .since)
 
 -- Local congestion and own rate hold till the next interval, and so does all else that it decides or stores: no other call changes them.
 pub holds-till-interval : (st : Station) (c : Call) → (c ≡ age → ⊥) → Unaged (st .fair) (step c st .station .fair)
-holds-till-interval st (tick a b c) n = of-answer (refusedOf st) _ (λ (r : Done). Unaged (st .fair) (r .station .fair)) _ (λ z. (refl, refl)) (λ h. (refl, refl))
+holds-till-interval st (tick a b c) n = of-answer (refusedOf st) _ (λ (r : Done). Unaged (st .fair) (r .station .fair)) _ (λ z. (refl, refl, refl)) (λ h. (refl, refl, refl))
 holds-till-interval st (offerClient class size hops) n =
-    of-answer _ _ (λ (r : Client). Unaged (st .fair) (r .station .fair)) _ (λ z. (refl, refl)) (λ h. (refl, refl))
+    of-answer _ _ (λ (r : Client). Unaged (st .fair) (r .station .fair)) _ (λ z. (refl, refl, refl)) (λ h. (refl, refl, refl))
 holds-till-interval st (offerTransit class size hops eligible) n =
-    of-answer (refusedOf st) _ (λ (r : Done). Unaged (st .fair) (r .station .fair)) _ (λ z. (refl, refl)) (λ h. (refl, refl))
+    of-answer (refusedOf st) _ (λ (r : Done). Unaged (st .fair) (r .station .fair)) _ (λ z. (refl, refl, refl)) (λ h. (refl, refl, refl))
 holds-till-interval st (offerControl size) n =
-    of-answer (refusedOf st) _ (λ (r : Done). Unaged (st .fair) (r .station .fair)) _ (λ z. (refl, refl)) (λ h. (refl, refl))
+    of-answer (refusedOf st) _ (λ (r : Done). Unaged (st .fair) (r .station .fair)) _ (λ z. (refl, refl, refl)) (λ h. (refl, refl, refl))
 holds-till-interval st select n =
-    of-answer (notChosenOf st) _ (λ (r : Selected). Unaged (st .fair) (r .station .fair)) _ (λ z. (refl, refl)) (λ h. (refl, refl))
+    of-answer (notChosenOf st) _ (λ (r : Selected). Unaged (st .fair) (r .station .fair)) _ (λ z. (refl, refl, refl)) (λ h. (refl, refl, refl))
 holds-till-interval st age n = absurd (n refl)
 holds-till-interval st (hear frame bytes) n =
-    of-answer (refusedOf st) _ (λ (r : Done). Unaged (st .fair) (r .station .fair)) _ (λ z. (refl, refl)) (λ h. (refl, refl))
-holds-till-interval st tell n = (refl, refl)
-holds-till-interval st show n = (refl, refl)
+    of-answer (refusedOf st) _ (λ (r : Done). Unaged (st .fair) (r .station .fair)) _ (λ z. (refl, refl, refl)) (λ h. (refl, refl, refl))
+holds-till-interval st tell n = (refl, refl, refl)
+holds-till-interval st show n = (refl, refl, refl)

@@ -13,4 +13,5 @@ pub mod Steady
 pub mod ReadBack
 pub mod Narrow
 pub mod Hops
+pub mod Method
 pub mod Examples

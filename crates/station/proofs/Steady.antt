@@ -44,7 +44,7 @@ shown-most addCongested lpCoef s ok = ok .addc-most
 shown-most fwCongested lpCoef s ok = ok .fwc-most
 
 -- a call ends an interval, or none
-one-or-none : (c : Call) → (c ≡ age) ⊎ (ends c ≡ 0)
+pub one-or-none : (c : Call) → (c ≡ age) ⊎ (ends c ≡ 0)
 one-or-none (tick a b c) = inr refl
 one-or-none (offerClient class size hops) = inr refl
 one-or-none (offerTransit class size hops eligible) = inr refl

@@ -9,3 +9,4 @@ pub mod History
 pub mod Steady
 pub mod Narrow
 pub mod Hops
+pub mod Method

@@ -86,7 +86,12 @@ fn started() -> Station {
         shapers: shapers,
         queues: queues,
         fairness: fairness,
-        site: Site { stations: 63 },
+        site: Site {
+            stations: 63,
+            method: 0,
+            trip: 3,
+            down: 64,
+        },
     })
 }
 

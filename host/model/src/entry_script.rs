@@ -1,7 +1,7 @@
 //! A script of calls on a shaper and on a station that stay where their owner keeps them: for each call a line of
 //! what it answers and of what it leaves.
 //!
-//! `shaper LO HI` is a fresh shaper, `charge SIZE`, `waiting AMOUNT` and `idle AMOUNT` are calls on it; `start W0 .. W30`
+//! `shaper LO HI` is a fresh shaper, `charge SIZE`, `waiting AMOUNT` and `idle AMOUNT` are calls on it; `start W0 .. W33`
 //! is a fresh station, and `tick A B C`, `client CLASS SIZE HOPS`, `transit CLASS SIZE HOPS ELIGIBLE`, `control SIZE`,
 //! `select`, `age` and `hear HEX` are calls on it. Lines that are empty or begin with `#` print nothing.
 

@@ -7,6 +7,7 @@
 
 #![forbid(unsafe_code)]
 
+pub mod apart;
 pub mod cases;
 pub mod command;
 pub mod compare;
@@ -19,10 +20,12 @@ pub mod line;
 pub mod make;
 pub mod make_call;
 pub mod make_damage;
+pub mod make_method;
 pub mod make_pair;
 pub mod make_short;
 pub mod make_station;
 pub mod make_text;
+pub mod methods;
 pub mod random;
 pub mod record;
 pub mod refusal;

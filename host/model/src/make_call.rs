@@ -11,12 +11,15 @@ use crate::station_call::Call;
 /// tell; show is the rest.
 type Mood = [usize; 8];
 
-/// Quiet, crowded by transit, busy with own traffic, crowded by control frames.
-const MOODS: [Mood; 4] = [
+/// Quiet, crowded by transit, busy with own traffic, crowded by control frames; with short
+/// intervals crowded, and emptying.
+const MOODS: [Mood; 6] = [
     [26, 9, 12, 8, 26, 5, 6, 4],
     [8, 4, 58, 3, 14, 4, 4, 3],
     [33, 14, 5, 2, 31, 5, 5, 3],
     [8, 4, 22, 40, 14, 4, 4, 2],
+    [14, 7, 20, 2, 14, 34, 3, 4],
+    [24, 2, 1, 1, 34, 34, 1, 2],
 ];
 
 /// How a host behaves for a while.

@@ -1,11 +1,14 @@
 //! Stations to try: plain settings, random settings and settings just out of range.
 
 use crate::random::Random;
-use crate::station::settings::{self, LEAST_STATIONS, LP_COEFS, MOST_STATIONS, WORDS};
+use crate::station::settings::{
+    self, LEAST_STATIONS, LP_COEFS, MOST_ROUND_TRIP, MOST_STATIONS, WORDS,
+};
 use crate::station::Station;
 
 /// Small limits and queues: mtu 64, every shaper 100, 300, 50; queues of 256 bytes, low
-/// threshold 128; weight 2, unit 4, 10 ticks, unreservedRate 10,000; 4, 64, 64; a ring of 63.
+/// threshold 128; weight 2, unit 4, 10 ticks, unreservedRate 10,000; 4, 64, 64; a ring of 63;
+/// aggressive, a round trip of 3, rampDn 64.
 pub const PLAIN: [u32; WORDS] = [
     0x0200,
     0x5e00_0001,
@@ -38,6 +41,9 @@ pub const PLAIN: [u32; WORDS] = [
     64,
     64,
     63,
+    0,
+    3,
+    64,
 ];
 
 /// The plain settings with some words replaced.
@@ -49,10 +55,15 @@ pub fn words(changes: &[(usize, u32)]) -> [u32; WORDS] {
     words
 }
 
+/// A fresh station of these words, which are in range.
+pub fn of(words: [u32; WORDS]) -> Station {
+    let bytes = settings::to_bytes(&words);
+    Station::new(settings::read(&bytes).expect("settings in range"))
+}
+
 /// A fresh station of the plain settings with some words replaced by others in range.
 pub fn station(changes: &[(usize, u32)]) -> Station {
-    let bytes = settings::to_bytes(&words(changes));
-    Station::new(settings::read(&bytes).expect("settings in range"))
+    of(words(changes))
 }
 
 fn extreme(random: &mut Random, least: u32, most: u32) -> u32 {
@@ -124,8 +135,14 @@ pub fn settings(random: &mut Random) -> [u32; WORDS] {
     words[28] = random.pick(&LP_COEFS) as u32;
     words[29] = random.pick(&LP_COEFS) as u32;
     words[30] = stations(random);
+    words[31] = random.below(2) as u32;
+    words[32] = round_trip(random) as u32;
+    words[33] = random.pick(&LP_COEFS) as u32;
     if random.one_in(4) {
         eager(random, &mut words);
+    }
+    if random.one_in(4) {
+        near(random, &mut words);
     }
     words
 }
@@ -138,6 +155,13 @@ fn stations(random: &mut Random) -> u32 {
     random.pick(&[least, few, few, any, any, any, any, most])
 }
 
+/// A round trip: either end, a few intervals, or any.
+pub fn round_trip(random: &mut Random) -> u64 {
+    let any = random.between(1, i128::from(MOST_ROUND_TRIP)) as u64;
+    let few = random.between(1, 8) as u64;
+    random.pick(&[1, 2, 3, few, few, any, MOST_ROUND_TRIP])
+}
+
 /// Little is unreserved, soon congested, and counters last: the smoothed rate may come
 /// to exceed what is unreserved.
 fn eager(random: &mut Random, words: &mut [u32; WORDS]) {
@@ -146,6 +170,13 @@ fn eager(random: &mut Random, words: &mut [u32; WORDS]) {
     words[26] = between(random, 50, 300);
     words[27] = random.pick(&[8, 16]);
     words[28] = 16;
+}
+
+/// Few intervals between changes, and not far to what is unreserved: congestion is left again.
+fn near(random: &mut Random, words: &mut [u32; WORDS]) {
+    words[25] = 1;
+    words[26] = between(random, 1, 3 * words[29]);
+    words[32] = between(random, 1, 4);
 }
 
 /// The ends of a word's range, each with the number just past it. Other words of the
@@ -181,6 +212,9 @@ pub fn ends(words: &[u32; WORDS], at: usize) -> Vec<[u32; 2]> {
         27 => vec![[16, 32], [1, 0], [2, 3]],
         28 | 29 => vec![[16, 8], [512, 1_024], [64, 65]],
         30 => vec![[2, 1], [63, 64], [2, 0], [63, u32::MAX]],
+        31 => vec![[1, 2], [0, 256], [1, u32::MAX]],
+        32 => vec![[1, 0], [1_000, 1_001]],
+        33 => vec![[16, 8], [512, 1_024], [16, 24], [64, 0]],
         _ => vec![[0, u32::MAX]],
     }
 }

@@ -1,7 +1,7 @@
 //! A script of calls on one station: one call on each line, one line printed for each
 //! call.
 //!
-//! `start W0 .. W30`, `tick A B C`, `client CLASS SIZE HOPS`,
+//! `start W0 .. W33`, `tick A B C`, `client CLASS SIZE HOPS`,
 //! `transit CLASS SIZE HOPS ELIGIBLE`, `control SIZE`, `select`, `age`, `hear HEX`,
 //! `tell`, `show`; `tell LENGTH` and `show LENGTH` lend a room of so many bytes.
 //! `N*CALL` is this call N times. Numbers are decimal or hex after `0x`. Lines that are
@@ -63,7 +63,7 @@ impl Script {
         Ok(lines)
     }
 
-    /// Words of 4 bytes, 31 or another number of them.
+    /// Words of 4 bytes, 34 or another number of them.
     fn start(&mut self, arguments: &[&str]) -> Printed {
         let mut words: Vec<u32> = Vec::new();
         for argument in arguments {

@@ -4,7 +4,7 @@ use model::lent_call::{apply, After};
 use model::make_damage::{self, damage, take, Step};
 use model::make_station;
 use model::random::Random;
-use model::station::layout::{put_word, read, write, STATION_LENGTH};
+use model::station::layout::{put_word, read, write, RECEIVED_TTL, SETTINGS, STATION_LENGTH};
 use model::station::range::{every_fault, faults, in_range, most_stored};
 use model::station::reading::NAMES;
 use model::station::settings::{self, LP_COEFS};
@@ -18,7 +18,7 @@ fn plain() -> Vec<u8> {
 /// The plain station with a received ttl of 192.
 fn bad() -> Vec<u8> {
     let mut bytes = plain();
-    put_word(&mut bytes, 1_650, 192);
+    put_word(&mut bytes, RECEIVED_TTL, 192);
     bytes
 }
 
@@ -65,7 +65,7 @@ fn one_comes_before_the_later_ones() {
 #[test]
 fn two_comes_before_one() {
     for call in Call::one_of_each() {
-        for length in [0, 1_786, 1_789, 1_791] {
+        for length in [0, 1_790, 1_805, 1_807] {
             let mut bytes = bad();
             bytes.resize(length, 0);
             assert_eq!(refused(&call, &bytes), 2, "{call}");
@@ -96,7 +96,7 @@ fn two_comes_before_one() {
 fn the_ringlet_of_a_station_out_of_range() {
     for (ringlet, answers) in [(0, [2, 1]), (1, [1, 2]), (2, [1, 1]), (257, [1, 1])] {
         let mut bytes = bad();
-        put_word(&mut bytes, 1_674, ringlet);
+        put_word(&mut bytes, SETTINGS + 4 * 2, ringlet);
         for (bit, answer) in [0x20, 0xa0].into_iter().zip(answers) {
             let frame = vec![200, bit, 0, 0, 0, 0, 0, 9, 0, 0, 0, 5];
             assert_eq!(refused(&Call::Hear(frame), &bytes), answer);
@@ -253,9 +253,7 @@ fn damage_is_in_range_and_out() {
     let names = every_fault();
     let mut in_range = 0;
     for _ in 0..4_000 {
-        let words = make_station::settings(&mut random);
-        let changes: Vec<(usize, u32)> = words.into_iter().enumerate().collect();
-        let other = write(&make_station::station(&changes));
+        let other = write(&make_station::of(make_station::settings(&mut random)));
         let mut bytes = plain();
         damage(&mut random, &mut bytes, &other, &steps);
         assert_eq!(bytes.len(), STATION_LENGTH);

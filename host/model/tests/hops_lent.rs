@@ -1,17 +1,18 @@
 //! Lent stations that hold hops beyond the ring, and how damage makes them.
 
+mod lent;
+
+use lent::{refused, sound, with};
 use model::hops::{alone, every_alone};
-use model::lent_call::apply;
 use model::make_damage::{self, take, Step};
 use model::make_station;
 use model::random::Random;
 use model::station::calls;
 use model::station::layout::{
-    put_word, read, setting, slot_at, word, write, Slot, COUNT, DOWNSTREAM, QUEUES, QUEUE_NAMES,
+    read, setting, slot_at, word, write, Slot, COUNT, DOWNSTREAM, QUEUES, QUEUE_NAMES,
     RECEIVED_TTL, SETTINGS, STAGE,
 };
 use model::station::range::{faults, in_range, most_hops};
-use model::station_call::Call;
 use std::collections::BTreeSet;
 
 const RING: usize = SETTINGS + 4 * 30;
@@ -27,28 +28,6 @@ fn busy(stations: u64) -> Vec<u8> {
         assert_eq!(calls::offer_transit(&mut station, 1, 16, 1, 1), 0);
     }
     write(&station)
-}
-
-/// The bytes with this word there.
-fn with(bytes: &[u8], at: usize, value: u64) -> Vec<u8> {
-    let mut bytes = bytes.to_vec();
-    put_word(&mut bytes, at, value);
-    bytes
-}
-
-/// Every call refuses the bytes with 1 and leaves them, also where the call itself has hops beyond
-/// the ring.
-fn refused(bytes: &[u8]) {
-    let beyond = [
-        Call::Client([2, 20, 63]),
-        Call::Hear(vec![193, 0xa0, 0, 0, 0, 0, 0, 9, 0, 0, 0, 5]),
-    ];
-    for call in Call::one_of_each().into_iter().chain(beyond) {
-        let other = call.other_slice(7);
-        let after = apply(&call, bytes, &other);
-        assert_eq!(after.answer, 1, "{call}");
-        assert_eq!((&after.station[..], after.other), (bytes, other));
-    }
 }
 
 /// "a lent station holding such hops, is 1": a frame in any queue, at any place, or in the stage.
@@ -75,7 +54,8 @@ fn every_ring_with_frames_of_every_number_of_hops() {
                 hops: stations,
                 ..slot
             };
-            refused(&with(&bytes, *at, far.word()));
+            let fault = format!("{name} hops above");
+            refused(&with(&bytes, *at, far.word()), &fault);
         }
     }
 }
@@ -95,8 +75,9 @@ fn every_ring_with_every_received_ttl() {
                 };
                 assert_eq!(faults(&bytes), expected, "{ttl} of {stations}");
             }
-            refused(&with(&bytes, RECEIVED_TTL, 256 - stations));
-            refused(&with(&bytes, RECEIVED_TTL, 193));
+            for ttl in [256 - stations, 193] {
+                refused(&with(&bytes, RECEIVED_TTL, ttl), "receivedTtl below");
+            }
             read(&with(&bytes, RECEIVED_TTL, 257 - stations)).unwrap();
         }
     }
@@ -108,8 +89,7 @@ fn rings_that_are_none() {
     for stations in [0, 1, 64, 65, 258, 65_542, 0x8000_0006, 0xffff_ffff] {
         let bytes = with(&busy(63), RING, stations);
         let side = if stations < 2 { "below" } else { "above" };
-        assert_eq!(faults(&bytes), [format!("stations {side}")]);
-        refused(&bytes);
+        refused(&bytes, &format!("stations {side}"));
     }
     assert_eq!([0, 1, 2, 63, 64].map(most_hops), [63, 63, 1, 62, 63]);
 }
@@ -131,21 +111,6 @@ fn a_ring_that_the_state_no_longer_fits() {
         }
         assert_eq!(faults(&with(&write(&station), RING, stations)), expected);
     }
-}
-
-/// Stations in range from calls and from many changes, on rings of each size.
-fn sound(random: &mut Random, count: usize) -> Vec<Vec<u8>> {
-    let steps = make_damage::every_step();
-    let mut all = Vec::new();
-    for at in 0..count {
-        let mut words = make_station::settings(random);
-        words[30] = (2 + at % 62) as u32;
-        let changes: Vec<(usize, u32)> = words.into_iter().enumerate().collect();
-        let station = write(&make_station::station(&changes));
-        all.push(make_damage::wild(random, &station, &steps));
-        all.push(station);
-    }
-    all
 }
 
 /// Each step that takes a frame, a ttl or the ring one too far breaks that rule alone, wherever

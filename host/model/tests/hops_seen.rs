@@ -124,9 +124,7 @@ fn random_calls_see_all() {
     let mut hops = Hops::default();
     assert_eq!(hops.missing().len(), 3 * 9 + 2 + 2 + 3 + 6);
     for _ in 0..300 {
-        let words = make_station::settings(&mut random);
-        let changes: Vec<(usize, u32)> = words.into_iter().enumerate().collect();
-        let mut station = make_station::station(&changes);
+        let mut station = make_station::of(make_station::settings(&mut random));
         let habit = Habit::new(&mut random);
         for _ in 0..500 {
             let call = make_call::call(&mut random, &station, &habit);

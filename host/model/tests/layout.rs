@@ -7,7 +7,8 @@ use model::random::Random;
 use model::refusal::Refusal;
 use model::station::aging::Rates;
 use model::station::layout::{
-    self, fairness_place, parts, read, word, write, Slot, STATION_LENGTH,
+    self, fairness_name, fairness_place, parts, read, word, write, Slot, FAIRNESS_NUMBERS,
+    STATION_LENGTH,
 };
 use model::station::range::in_range;
 use model::station::reading::NAMES;
@@ -25,14 +26,14 @@ fn words<const N: usize>(bytes: &[u8], at: usize) -> [u64; N] {
 #[test]
 fn a_fresh_station() {
     let bytes = write(&plain());
-    assert_eq!(bytes.len(), 1_790);
+    assert_eq!(bytes.len(), 1_806);
     assert_eq!(words(&bytes, 0), [100; 5]);
     assert!(bytes[20..1_578].iter().all(|byte| *byte == 0));
     assert_eq!(words(&bytes, 1_578), [0; 12]);
     assert_eq!(words(&bytes, 1_626), [10_000, 10_000, 10_000, 1_250]);
-    assert_eq!(words(&bytes, 1_642), [0, 0, 255, 0, 0, 0]);
-    assert_eq!(words(&bytes, 1_666), make_station::PLAIN.map(u64::from));
-    assert_eq!(bytes[1_786..], [63, 0, 0, 0]);
+    assert_eq!(words(&bytes, 1_642), [0, 0, 0, 255, 0, 0, 0]);
+    assert_eq!(words(&bytes, 1_670), make_station::PLAIN.map(u64::from));
+    assert_eq!(words(&bytes, 1_790), [63, 0, 3, 64]);
 }
 
 /// "0 to 13 | size"; "14 to 19 | hops"; "20 and 21 | class"; "22 | the mark".
@@ -111,24 +112,27 @@ fn control_secondary_and_stage() {
     assert_eq!(read(&bytes), Ok(station));
 }
 
-/// "They are words 13 to 30 of a reading, in the same order; of a smoothed rate the reading
-/// has the rate shown, floor(stored number / lpCoef), in one word of 4 bytes."
+/// "They are words 13 to 30 of a reading, in the same order; the count between them stands in no
+/// reading. Of a smoothed rate the reading has the rate shown, floor(stored number / lpCoef), in
+/// one word of 4 bytes."
 #[test]
 fn the_fairness_state() {
     let mut station = plain();
+    station.since = 2;
     let frame = [200, 0xa0, 1, 2, 3, 4, 5, 6, 0, 0, 0x12, 0x34];
     assert_eq!(calls::read_frame(&mut station, &frame), 0);
     station.counters = Rates::each([1, 2, 3, 4]);
     station.stored = Rates::each([63, 64, 0x12_3456_789a, 64 * 2_147_483_648 - 1]);
     let bytes = write(&station);
-    let expected = [0, 1, 200, 0x0102, 0x0304_0506, 0x1234];
+    let expected = [0, 2, 1, 200, 0x0102, 0x0304_0506, 0x1234];
     assert_eq!(words(&bytes, 1_578 + 64), expected);
     assert_eq!(words::<4>(&bytes, 1_578), station.reading()[13..17]);
     let stored = [63, 0, 64, 0, 0x3456_789a, 0x12, 0xffff_ffff, 0x1f];
     assert_eq!(words(&bytes, 1_578 + 16), stored);
     let shown = [0, 1, 0x12_3456_789a / 64, 2_147_483_647];
     assert_eq!(station.reading()[17..21], shown);
-    assert_eq!(words::<10>(&bytes, 1_578 + 48), station.reading()[21..]);
+    assert_eq!(words::<5>(&bytes, 1_578 + 48), station.reading()[21..26]);
+    assert_eq!(words::<5>(&bytes, 1_578 + 72), station.reading()[26..]);
     assert_eq!(read(&bytes), Ok(station));
 }
 
@@ -140,19 +144,27 @@ fn each_byte_has_one_part() {
         assert_eq!(part.at, at, "{}", part.name);
         at += part.length;
     }
-    assert_eq!((at, parts.len()), (STATION_LENGTH, 67));
+    assert_eq!((at, parts.len()), (STATION_LENGTH, 71));
     let place = |name: &str| parts.iter().find(|part| part.name == name).unwrap().at;
     assert_eq!(place("control slots"), 20);
     assert_eq!(place("secondary count"), 1_573);
     assert_eq!(place("stage"), layout::STAGE);
     assert_eq!(place("addRate"), layout::FAIRNESS);
-    for (at, name) in NAMES[13..].iter().enumerate() {
-        assert_eq!(place(name), fairness_place(at).start, "{name}");
+    for number in 0..FAIRNESS_NUMBERS {
+        let name = fairness_name(number);
+        assert_eq!(place(name), fairness_place(number).start, "{name}");
     }
+    let names = NAMES[13..]
+        .iter()
+        .all(|name| place(name) < layout::SETTINGS);
+    assert!(names);
+    assert_eq!(place("localFairRate"), layout::LOCAL_FAIR_RATE);
+    assert_eq!(place("locallyCongested"), 1_642);
+    assert_eq!(place("since"), layout::SINCE);
     assert_eq!(place("downstreamCongested"), layout::DOWNSTREAM);
     assert_eq!(place("receivedTtl"), layout::RECEIVED_TTL);
     assert_eq!(place("addressHigh"), layout::SETTINGS);
-    assert_eq!(place("stations"), 1_786);
+    assert_eq!(place("rampDn"), 1_802);
     let mut names: Vec<&str> = parts.iter().map(|part| &part.name[..]).collect();
     names.sort_unstable();
     names.dedup();
@@ -161,7 +173,7 @@ fn each_byte_has_one_part() {
 
 #[test]
 fn another_length_is_2() {
-    for length in [0, 1, 1_770, 1_786, 1_789, 1_791, 3_580] {
+    for length in [0, 1, 1_786, 1_790, 1_805, 1_807, 3_612] {
         assert_eq!(read(&vec![0; length]), Err(Refusal::Bytes));
     }
     assert_eq!(read(&[0; STATION_LENGTH]), Err(Refusal::Setting));

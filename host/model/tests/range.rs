@@ -2,7 +2,7 @@
 
 use model::make_station;
 use model::station::layout::{
-    put_word, read, word, write, COUNT, HEAD, HELD, QUEUES, QUEUE_NAMES, STAGE,
+    put_word, read, word, write, ALLOWED, COUNT, HEAD, HELD, QUEUES, QUEUE_NAMES, SETTINGS, STAGE,
 };
 use model::station::range::{bounds, every_fault, faults, in_range};
 use model::station::settings::{LP_COEFS, NAMES};
@@ -54,7 +54,7 @@ fn each_number_of_the_state() {
     ends.extend([(0, MOST); 4]);
     ends.extend([(0, 64 * (MOST + 1) - 1); 4]);
     ends.extend([(0, MOST), (0, 10_000), (0, 10_000), (0, 65_534)]);
-    ends.extend([(0, 1), (0, 1), (194, 255), (0, 65_535)]);
+    ends.extend([(0, 1), (0, 2), (0, 1), (194, 255), (0, 65_535)]);
     ends.extend([(0, 0xffff_ffff), (0, 65_534)]);
     let bytes = busy();
     let bounds = bounds(&bytes);
@@ -93,8 +93,9 @@ fn the_places_of_the_numbers() {
     assert_eq!(places[12], ("lpFwRateCongested", 1_618..1_626));
     assert_eq!(places[14], ("allowedRate", 1_630..1_634));
     assert_eq!(places[15], ("allowedRateCongested", 1_634..1_638));
-    assert_eq!(places[19], ("receivedTtl", 1_650..1_654));
-    assert_eq!(places[22], ("receivedRate", 1_662..1_666));
+    assert_eq!(places[18], ("since", 1_646..1_650));
+    assert_eq!(places[20], ("receivedTtl", 1_654..1_658));
+    assert_eq!(places[23], ("receivedRate", 1_666..1_670));
 }
 
 /// "A lent station's range binds the rate shown, not s itself": with each lpCoef the largest
@@ -190,9 +191,9 @@ fn frames_in_the_queues() {
             let faults_of = |frame: [u64; 5]| {
                 let mut bytes = busy();
                 // The settings hold whatever the frames may.
-                put_word(&mut bytes, 1_666 + 4 * 19, 1_048_576);
-                put_word(&mut bytes, 1_666 + 4 * 20, 1_048_576);
-                put_word(&mut bytes, 1_666 + 4 * 21, 1_048_576);
+                put_word(&mut bytes, SETTINGS + 4 * 19, 1_048_576);
+                put_word(&mut bytes, SETTINGS + 4 * 20, 1_048_576);
+                put_word(&mut bytes, SETTINGS + 4 * 21, 1_048_576);
                 let held = word(&bytes, queue + HELD) + frame[0];
                 let size = word(&bytes, at) & 0x3fff;
                 put_word(&mut bytes, queue + HELD, held - size);
@@ -256,7 +257,7 @@ fn head_and_count() {
     }
 }
 
-/// A queue of 128 frames: any slot may be the first.
+/// A queue of 128 frames: any slot may be the first. They hold "at most the capacity".
 #[test]
 fn a_full_queue() {
     let mut bytes = write(&make_station::station(&[
@@ -278,11 +279,10 @@ fn a_full_queue() {
         assert_ne!(with_byte(&bytes, queue + COUNT, 127), none());
         assert_ne!(with_byte(&bytes, queue + HEAD, 128), none());
     }
-    // "at most the capacity"
-    let faults = with(&bytes, 1_666 + 4 * 19, 4_095);
-    assert_eq!(faults, ["control capacity"]);
-    assert_eq!(with(&bytes, 1_666 + 4 * 20, 4_095), ["primary capacity"]);
-    assert_eq!(with(&bytes, 1_666 + 4 * 21, 4_095), ["secondary capacity"]);
+    for (at, name) in (19..).zip(QUEUE_NAMES) {
+        let fault = format!("{name} capacity");
+        assert_eq!(faults(&changed(&bytes, at, 4_095)), [fault]);
+    }
 }
 
 /// Settings at and past the bounds that the state sets.
@@ -300,7 +300,7 @@ fn settings_that_the_state_no_longer_fits() {
         (30, 63, "stage hops above"),
     ];
     for (at, least, fault) in cases {
-        let place = 1_666 + 4 * at;
+        let place = SETTINGS + 4 * at;
         assert_eq!(with(&bytes, place, least), none(), "word {at}");
         let faults = with(&bytes, place, least - 1);
         assert!(faults.contains(&fault.to_string()), "word {at}: {faults:?}");
@@ -322,7 +322,7 @@ fn setting_ends(at: usize) -> (u64, u64) {
     match at {
         0 => (0, 65_535),
         1 => (0, 0xffff_ffff),
-        2 => (0, 1),
+        2 | 31 => (0, 1),
         3 => (64, 9_216),
         4 | 7 | 10 | 13 | 16 => (64, 65_536),
         5 | 8 | 11 | 14 | 17 => (65_537, 1_048_576),
@@ -336,6 +336,7 @@ fn setting_ends(at: usize) -> (u64, u64) {
         26 => (10_000, 2_147_483_647),
         27 => (1, 16),
         30 => (2, 63),
+        32 => (1, 1_000),
         _ => (16, 512),
     }
 }
@@ -344,7 +345,7 @@ fn setting_ends(at: usize) -> (u64, u64) {
 #[test]
 fn settings_out_of_range() {
     let bytes = wide();
-    let ranged = |at: &usize| *at < 26 || *at == 30;
+    let ranged = |at: &usize| *at < 26 || (30..33).contains(at);
     for (at, name) in NAMES.iter().enumerate().filter(|(at, _)| ranged(at)) {
         let (least, most) = setting_ends(at);
         assert_eq!(faults(&changed(&bytes, at, least)), none(), "{name}");
@@ -358,7 +359,7 @@ fn settings_out_of_range() {
             assert_eq!(faults, [format!("{name} above")]);
         }
     }
-    for at in 27..30 {
+    for at in (27..30).chain([33]) {
         let (least, most) = setting_ends(at);
         let codes = (0..=1_100).filter(|code| in_range(&changed(&bytes, at, *code)));
         let powers = (0..11).map(|power| 1 << power);
@@ -370,8 +371,8 @@ fn settings_out_of_range() {
 #[test]
 fn what_is_unreserved() {
     let mut bytes = wide();
-    put_word(&mut bytes, 1_630, 0);
-    put_word(&mut bytes, 1_634, 0);
+    put_word(&mut bytes, ALLOWED[0], 0);
+    put_word(&mut bytes, ALLOWED[1], 0);
     for (value, expected) in [
         (0, vec!["unreservedRate below"]),
         (1, vec![]),
@@ -384,15 +385,15 @@ fn what_is_unreserved() {
 
 fn changed(bytes: &[u8], at: usize, value: u64) -> Vec<u8> {
     let mut bytes = bytes.to_vec();
-    put_word(&mut bytes, 1_666 + 4 * at, value);
+    put_word(&mut bytes, SETTINGS + 4 * at, value);
     bytes
 }
 
 #[test]
 fn every_fault_has_a_name_of_its_own() {
     let mut names = every_fault();
-    assert_eq!(names.len(), 49 + 23 + 33 + 6);
+    assert_eq!(names.len(), 53 + 24 + 33 + 6);
     names.sort_unstable();
     names.dedup();
-    assert_eq!(names.len(), 111);
+    assert_eq!(names.len(), 116);
 }

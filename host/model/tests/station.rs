@@ -53,7 +53,7 @@ fn starting_again_makes_the_station_fresh() {
 /// Each word at the ends of its range, and just past them.
 #[test]
 fn ranges_of_the_settings() {
-    let ends: [(usize, &[u32], &[u32]); 16] = [
+    let ends: [(usize, &[u32], &[u32]); 19] = [
         (0, &[0, 65_535], &[65_536, u32::MAX]),
         (1, &[0, u32::MAX], &[]),
         (2, &[0, 1], &[2, u32::MAX]),
@@ -70,6 +70,9 @@ fn ranges_of_the_settings() {
         (28, &[16, 32, 64, 128, 256, 512], &[0, 8, 15, 100, 1_024]),
         (29, &[16, 32, 64, 128, 256, 512], &[0, 8, 15, 100, 1_024]),
         (30, &[2, 3, 62, 63], &[0, 1, 64, 258, u32::MAX]),
+        (31, &[0, 1], &[2, 256, 65_537, u32::MAX]),
+        (32, &[1, 2, 999, 1_000], &[0, 1_001, 65_537, u32::MAX]),
+        (33, &[16, 32, 64, 128, 256, 512], &[0, 8, 24, 100, 1_024]),
     ];
     for (at, good, bad) in ends {
         for word in good {
@@ -119,13 +122,15 @@ fn the_largest_mtu() {
 /// "another length is 2", before 1.
 #[test]
 fn settings_of_another_length() {
-    for length in [0, 1, 30, 32, 62] {
+    for length in [0, 1, 30, 31, 33, 35, 68] {
         assert_eq!(started(&vec![0; length]), (2, None));
     }
-    assert_eq!(started(&PLAIN[..30]), (2, None));
+    for length in [31, 33] {
+        assert_eq!(started(&PLAIN[..length]), (2, None));
+    }
     let mut station = None;
-    assert_eq!(calls::start(&[0; 123], &mut station), 2);
-    assert_eq!(started(&[0; 31]), (1, None));
+    assert_eq!(calls::start(&[0; 135], &mut station), 2);
+    assert_eq!(started(&[0; 34]), (1, None));
 }
 
 #[test]

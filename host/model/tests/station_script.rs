@@ -13,15 +13,20 @@ use std::collections::BTreeSet;
 const FILE: &str = include_str!("../cases-station.txt");
 const STARTS: &str = include_str!("../cases-start.txt");
 const PLAIN: &str = "start 0x200 1 0 64 100 300 50 100 300 50 100 300 50 100 300 50 100 300 50 \
-                     256 256 256 128 2 4 10 10000 4 64 64 63";
+                     256 256 256 128 2 4 10 10000 4 64 64 63 0 3 64";
 
-/// How the lives begin of a steady source and of hops within the ring, in the order of the day.
+/// How the lives begin of a steady source, of hops within the ring and of the conservative
+/// method, in the order of the day.
 const STEADY: &str = "# A steady source of 100 bytes";
 const SIX: &str = "# A ring of six. A station 3 hops away";
 const EDGES: &str = "# Hops on a ring of six";
 const ORDER: &str = "# 13 comes before 4, 5, 6 and 7";
 const HEARD: &str = "# Fairness frames on a ring of six";
 const TWO: &str = "# A ring of two";
+const CALM: &str = "# The conservative method: a round trip of 3";
+const LOW: &str = "# Entered at 17";
+const EACH: &str = "# A round trip of 1";
+const JUMPS: &str = "# The calls of the first of these with the aggressive method";
 
 fn printed(script: &str) -> Vec<String> {
     let mut run = Script::default();
@@ -204,10 +209,10 @@ fn the_day_comes_to_the_last_hop() {
         answers("hear", HEARD, TWO),
         [&heard[..], &both_ways].concat()
     );
-    assert_eq!(answers("hear", TWO, ""), [0, 13, 13, 13, 11, 0]);
-    assert_eq!(answers("client", TWO, ""), [0, 13, 13, 0]);
-    assert_eq!(answers("transit", TWO, ""), [0, 13]);
-    assert_eq!(answers("control", TWO, ""), [0]);
+    assert_eq!(answers("hear", TWO, CALM), [0, 13, 13, 13, 11, 0]);
+    assert_eq!(answers("client", TWO, CALM), [0, 13, 13, 0]);
+    assert_eq!(answers("transit", TWO, CALM), [0, 13]);
+    assert_eq!(answers("control", TWO, CALM), [0]);
 }
 
 /// What is told there: at the last hop FULL_RATE, or the own rate where it comes first.
@@ -218,9 +223,56 @@ fn the_day_tells_at_the_last_hop() {
     let on = "fba002005e00000200000003";
     let expected = ["fba002005e00000200000064", full, full, full];
     let both_ways = [own, own, full, on, on];
-    let lines = lives(HEARD, "");
+    let lines = lives(HEARD, CALM);
     let told = lines.iter().filter_map(|line| line.strip_prefix("tell "));
     assert!(told.eq([&expected[..], &both_ways, &[full; 2]].concat()));
+}
+
+/// localFairRate and whether the station is locally congested, of each reading; the allowed rate
+/// and the own rate are localFairRate while it is.
+fn fair_rates(from: &str, to: &str) -> Vec<(u32, u32)> {
+    let of = |words: Vec<u32>| {
+        let [fair, allowed, _, own, congested] = words[21..26] else {
+            panic!("a reading has words 21 to 25");
+        };
+        assert_eq!(own, fair);
+        assert!(congested == 0 || allowed == fair.min(100));
+        (fair, congested)
+    };
+    readings(&lives(from, to)).into_iter().map(of).collect()
+}
+
+/// Entered at what is unreserved and below it, held, lowered, by 0 too, raised, and left 15 below
+/// unreservedRate but not 16 below. With a round trip of 3 every third interval changes it.
+#[test]
+fn the_day_has_conservative_stations() {
+    let cut = [100, 100, 94, 89, 84].map(|rate| (rate, 1));
+    let left = [(84, 1), (85, 1), (100, 0), (100, 0), (100, 1), (100, 0)];
+    let first = [&[(100, 0)][..], &cut, &left].concat();
+    assert_eq!(fair_rates(CALM, LOW), first);
+    let low = [17, 17, 16, 15, 15, 15, 20, 20, 19].map(|rate| (rate, 1));
+    assert_eq!(fair_rates(LOW, EACH), low);
+    let each = [100, 94, 89, 84, 79, 80, 81, 85].map(|rate| (rate, 1));
+    let left = [(100, 0), (100, 1)];
+    assert_eq!(fair_rates(EACH, JUMPS), [&each[..], &left].concat());
+    assert_eq!(fair_rates(JUMPS, ""), [(576, 1), (474, 1), (100, 0)]);
+}
+
+/// It tells its own rate until it leaves, and what was received where that is less.
+#[test]
+fn the_day_tells_of_conservative_stations() {
+    let own = |rate: &str| format!("ffa002005e0000010000{rate}");
+    let told = |from: &str, to: &str| {
+        let lines = lives(from, to);
+        let told = lines.iter().filter_map(|line| line.strip_prefix("tell "));
+        told.map(str::to_string).collect::<Vec<String>>()
+    };
+    let received = "fea002005e00000200000053".to_string();
+    let congested = [own("0064"), own("0054"), own("0054"), received, own("0055")];
+    let first = [&congested[..], &[own("ffff")]].concat();
+    assert_eq!(told(CALM, LOW), first);
+    assert_eq!(told(EACH, JUMPS), [own("0055"), own("ffff")]);
+    assert_eq!(told(JUMPS, ""), [own("0240"), own("ffff")]);
 }
 
 #[test]

@@ -73,8 +73,9 @@ impl Fitting<'_> {
         }
     }
 
-    /// Lowers credits to hiLimit, allowed rates to unreservedRate, and stored numbers to
-    /// what lpCoef lets them be; raises the received ttl to the ring's least.
+    /// Lowers credits to hiLimit, allowed rates and the conservative localFairRate to
+    /// unreservedRate, and stored numbers and since to what lpCoef and the round trip let them
+    /// be; raises the received ttl to the ring's least.
     fn state(&mut self) {
         for bound in bounds(self.bytes) {
             let number = bound.number(self.bytes);

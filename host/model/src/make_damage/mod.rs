@@ -2,13 +2,15 @@
 //! comes out may be in range or not.
 
 mod fit;
+mod method;
 mod queue;
 
 use crate::make_station;
 use crate::random::Random;
 use crate::station::layout::{
     self, fairness_place, number, parts, put_number, put_word, setting, slot_at, word, Slot,
-    ALLOWED, CREDITS, DOWNSTREAM, HELD, QUEUES, RECEIVED_TTL, SETTINGS, STAGE, STORED,
+    ALLOWED, CREDITS, DOWNSTREAM, HELD, LOCAL_FAIR_RATE, QUEUES, RECEIVED_TTL, SETTINGS, SINCE,
+    STAGE, STORED,
 };
 use crate::station::queue::SLOTS;
 use crate::station::range::{self, bounds, most_hops, BOUNDS};
@@ -34,6 +36,8 @@ pub enum Step {
     Far(usize, usize),
     /// Downstream congested or not, and a received ttl.
     Ttl(usize, usize),
+    /// A method, and what it adds, at an end of its range or past it.
+    Method(usize, usize),
     /// Slots, bytes held, head, count and capacity of a queue.
     Queue(usize, usize),
 }
@@ -78,6 +82,9 @@ pub fn every_step() -> Vec<Step> {
     for congested in [0, 1] {
         push(Step::Ttl, congested, TTL_STEPS);
     }
+    for method in [0, 1] {
+        push(Step::Method, method, method::STEPS);
+    }
     for queue in 0..QUEUES.len() {
         push(Step::Queue, queue, queue::STEPS);
     }
@@ -109,6 +116,7 @@ pub fn take(random: &mut Random, bytes: &mut [u8], step: Step) {
         }
         Step::Far(queue, place) => queue::far(random, bytes, queue, place),
         Step::Ttl(congested, which) => change_ttl(bytes, congested, which),
+        Step::Method(method, which) => method::change(bytes, method, which),
         Step::Queue(queue, which) => queue::change(random, bytes, queue, which),
     }
 }
@@ -168,12 +176,15 @@ fn setting_ends(bytes: &[u8], at: usize) -> Vec<[u32; 2]> {
         3 => vec![largest(bytes, |frame| frame.size)],
         5 | 8 | 11 | 14 | 17 => vec![word(bytes, CREDITS + 4 * (at / 3 - 1))],
         19..=21 => vec![word(bytes, QUEUES[at - 19] + HELD)],
-        26 => ALLOWED.map(|at| word(bytes, at)).to_vec(),
+        26 => [ALLOWED[0], ALLOWED[1], LOCAL_FAIR_RATE]
+            .map(|at| word(bytes, at))
+            .to_vec(),
         30 => {
             let heard = 256_u64.saturating_sub(word(bytes, RECEIVED_TTL));
             let farthest = largest(bytes, |frame| frame.hops);
             vec![farthest.max(1) + 1, heard.max(1) + 1]
         }
+        32 => vec![word(bytes, SINCE) + 1],
         _ => Vec::new(),
     };
     ends.extend(

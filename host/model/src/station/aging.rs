@@ -1,4 +1,4 @@
-//! The aging interval, aggressive method.
+//! The aging interval: what both methods share.
 
 use super::Station;
 
@@ -66,13 +66,7 @@ impl Station {
         let (stored, rate) = (self.stored.list(), self.counters.list());
         self.stored =
             Rates::each([0, 1, 2, 3].map(|at| smooth(stored[at], rate[at], settings.lp_coef)));
-        // "Locally congested: secondary bytes > low threshold."
-        self.locally_congested = self.secondary.bytes() > settings.low_threshold;
-        // "localFairRate: lpAddRate if locally congested, else unreservedRate."
-        self.local_fair_rate = match self.locally_congested {
-            true => self.shown().add,
-            false => unreserved,
-        };
+        self.adjust();
         // "allowedRate: the smaller of localFairRate and unreservedRate if locally
         // congested, else" ramped.
         self.allowed_rate = match self.locally_congested {

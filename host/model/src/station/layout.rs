@@ -11,9 +11,10 @@ use super::frames::{Class, Frame};
 use super::queue::{Queue, SLOTS};
 use super::{range, reading, settings, Station};
 use crate::refusal::Refusal;
+use std::cmp::Ordering;
 use std::ops::Range;
 
-pub const STATION_LENGTH: usize = 1_790;
+pub const STATION_LENGTH: usize = 1_806;
 
 /// "0 | 20 | the credits of M, A, B, C, D, 4 bytes each"
 pub const CREDITS: usize = 0;
@@ -21,10 +22,10 @@ pub const CREDITS: usize = 0;
 pub const QUEUES: [usize; 3] = [20, 538, 1_056];
 /// "1574 | 4 | the stage's word: a slot, 0 where the stage is empty"
 pub const STAGE: usize = 1_574;
-/// "1578 | 88 | the fairness state: four parts"
+/// "1578 | 92 | the fairness state: four parts and a count"
 pub const FAIRNESS: usize = 1_578;
-/// "1666 | 124 | the settings: the 31 words that a host gives to `rpr_start`"
-pub const SETTINGS: usize = 1_666;
+/// "1670 | 136 | the settings: the 34 words that a host gives to `rpr_start`"
+pub const SETTINGS: usize = 1_670;
 
 /// Within a queue: "512 | 4 | bytes held: the sum of the sizes"
 pub const HELD: usize = 512;
@@ -34,18 +35,25 @@ pub const HEAD: usize = 516;
 pub const COUNT: usize = 517;
 
 pub const QUEUE_NAMES: [&str; 3] = ["control", "primary", "secondary"];
-/// "They are words 13 to 30 of a reading, in the same order; of a smoothed rate the reading
-/// has the rate shown".
+/// "They are words 13 to 30 of a reading, in the same order; the count between them stands in no
+/// reading. Of a smoothed rate the reading has the rate shown".
 pub const FAIRNESS_IN_READING: usize = 13;
-pub const FAIRNESS_NUMBERS: usize = 18;
+pub const FAIRNESS_NUMBERS: usize = 19;
 /// Which of these numbers are the stored ones.
 pub const STORED: Range<usize> = 4..8;
+/// Which of them is the intervals since the last change.
+const SINCE_NUMBER: usize = 13;
+/// "48 | 4 | localFairRate"
+pub const LOCAL_FAIR_RATE: usize = FAIRNESS + 48;
 /// "52 | 4 | allowedRate"; "56 | 4 | allowedRateCongested"
 pub const ALLOWED: [usize; 2] = [FAIRNESS + 52, FAIRNESS + 56];
-/// "68 | 4 | downstream congested: 1 or 0"
-pub const DOWNSTREAM: usize = FAIRNESS + 68;
-/// "72 | 4 | received ttl"
-pub const RECEIVED_TTL: usize = FAIRNESS + 72;
+/// "68 | 4 | the intervals since localFairRate last changed, which the conservative method
+/// counts"
+pub const SINCE: usize = FAIRNESS + 68;
+/// "72 | 4 | downstream congested: 1 or 0"
+pub const DOWNSTREAM: usize = FAIRNESS + 72;
+/// "76 | 4 | received ttl"
+pub const RECEIVED_TTL: usize = FAIRNESS + 76;
 
 /// Where a number of the fairness state stands.
 pub fn fairness_place(number: usize) -> Range<usize> {
@@ -55,10 +63,19 @@ pub fn fairness_place(number: usize) -> Range<usize> {
         // "16, 24, 32, 40 | 8 each | the four smoothed rates, in the same order, each as its
         // stored number"
         4..=7 => (16 + 8 * (number - 4), 8),
-        // "48 | 4 | localFairRate" to "84 | 4 | received rate"
+        // "48 | 4 | localFairRate" to "88 | 4 | received rate"
         _ => (48 + 4 * (number - 8), 4),
     };
     FAIRNESS + at..FAIRNESS + at + length
+}
+
+/// The name of a number of the fairness state, which is a reading's where that has it.
+pub fn fairness_name(number: usize) -> &'static str {
+    match number.cmp(&SINCE_NUMBER) {
+        Ordering::Less => reading::NAMES[FAIRNESS_IN_READING + number],
+        Ordering::Equal => "since",
+        Ordering::Greater => reading::NAMES[FAIRNESS_IN_READING + number - 1],
+    }
 }
 
 /// The number that all these bytes are.
@@ -153,11 +170,11 @@ fn write_queue(bytes: &mut [u8], queue: &Queue) {
     bytes[COUNT] = queue.frames() as u8;
 }
 
-/// The reading's words, with the stored numbers for the rates shown.
-fn fairness_numbers(station: &Station) -> [u64; FAIRNESS_NUMBERS] {
-    let words = station.reading();
-    let mut numbers = std::array::from_fn(|at| words[FAIRNESS_IN_READING + at]);
+/// The reading's words, with the stored numbers for the rates shown, and what it hasn't.
+fn fairness_numbers(station: &Station) -> Vec<u64> {
+    let mut numbers = station.reading()[FAIRNESS_IN_READING..].to_vec();
     numbers[STORED].copy_from_slice(&station.stored.list());
+    numbers.insert(SINCE_NUMBER, station.since);
     numbers
 }
 
@@ -203,12 +220,13 @@ fn read_fairness(station: &mut Station, bytes: &[u8]) {
     station.allowed_rate_congested = numbers[10];
     station.own_rate = numbers[11];
     station.locally_congested = numbers[12] == 1;
-    station.downstream_congested = numbers[13] == 1;
-    let [_, _, address @ ..] = (numbers[15] << 32 | numbers[16]).to_be_bytes();
+    station.since = numbers[SINCE_NUMBER];
+    station.downstream_congested = numbers[14] == 1;
+    let [_, _, address @ ..] = (numbers[16] << 32 | numbers[17]).to_be_bytes();
     station.received = Received {
-        ttl: numbers[14],
+        ttl: numbers[15],
         address,
-        rate: numbers[17],
+        rate: numbers[18],
     };
 }
 
@@ -265,8 +283,11 @@ pub fn parts() -> Vec<Part> {
         push(format!("{name} count"), 1);
     }
     push("stage".to_string(), 4);
-    for (at, name) in reading::NAMES[FAIRNESS_IN_READING..].iter().enumerate() {
-        push(name.to_string(), fairness_place(at).len());
+    for number in 0..FAIRNESS_NUMBERS {
+        push(
+            fairness_name(number).to_string(),
+            fairness_place(number).len(),
+        );
     }
     for name in settings::NAMES {
         push(name.to_string(), 4);

@@ -7,6 +7,7 @@ pub mod calls;
 pub mod fairness;
 pub mod frames;
 pub mod layout;
+pub mod method;
 pub mod offer;
 pub mod queue;
 pub mod range;
@@ -48,6 +49,8 @@ pub struct Station {
     pub allowed_rate_congested: u64,
     pub own_rate: u64,
     pub locally_congested: bool,
+    /// "the intervals since the last change", of the conservative method.
+    pub since: u64,
     pub downstream_congested: bool,
     pub received: Received,
 }
@@ -55,7 +58,7 @@ pub struct Station {
 impl Station {
     /// "Each queue has 128 slots, all empty at the start"; "Counters and smoothed rates
     /// start at 0, own rate by its formula, other rates at unreservedRate, with no
-    /// congestion, received ttl 255, received address and rate 0".
+    /// congestion, received ttl 255, received address and rate 0". No interval was before.
     pub fn new(settings: Settings) -> Station {
         let unreserved = settings.unreserved_rate;
         Station {
@@ -76,6 +79,7 @@ impl Station {
             allowed_rate_congested: unreserved,
             own_rate: aging::own_rate(unreserved, settings.weight, settings.rate_unit),
             locally_congested: false,
+            since: 0,
             downstream_congested: false,
             received: Received::START,
         }

@@ -5,15 +5,17 @@
 //! most 65,534, other rates at most 2,147,483,647, allowed rates at most unreservedRate
 //! and a received ttl 193 to 255"; "A lent station's range binds the rate shown, not s
 //! itself."; "a lent station holding such hops", in a frame or by a received ttl, congested
-//! downstream or not, "is 1." Codes are in range where they stand for something: a class A, B
-//! or C, yes or no 1 or 0, an address of six bytes.
+//! downstream or not, "is 1."; "the conservative localFairRate never exceeds unreservedRate (a
+//! lent one above it: 1)"; "`since` is 0 to round trip − 1 in range, under both methods". Codes
+//! are in range where they stand for something: a class A, B or C, yes or no 1 or 0, an address
+//! of six bytes.
 
 use super::layout::{
-    self, number, put_number, setting, slot_at, word, Slot, COUNT, CREDITS, FAIRNESS_IN_READING,
-    FAIRNESS_NUMBERS, HEAD, HELD, QUEUES, QUEUE_NAMES, STAGE, STATION_LENGTH, STORED,
+    self, number, put_number, setting, slot_at, word, Slot, COUNT, CREDITS, FAIRNESS_NUMBERS, HEAD,
+    HELD, QUEUES, QUEUE_NAMES, STAGE, STATION_LENGTH, STORED,
 };
 use super::queue::SLOTS;
-use super::settings::{self, LEAST_STATIONS, MOST_STATIONS};
+use super::settings::{self, Method, LEAST_STATIONS, MOST_STATIONS};
 use super::{reading, MOST_RATE};
 use std::ops::Range;
 
@@ -62,7 +64,7 @@ impl Bound {
 
 const SIDES: [&str; 2] = ["below", "above"];
 
-/// The five credits and the 18 numbers of the fairness state.
+/// The five credits and the 19 numbers of the fairness state.
 pub const BOUNDS: usize = 5 + FAIRNESS_NUMBERS;
 
 /// The largest stored number whose rate shown is at most 2,147,483,647; 0 where lpCoef is 0,
@@ -83,23 +85,30 @@ pub fn most_hops(stations: u64) -> u64 {
 /// The ranges of the fairness state's numbers, in their order.
 fn fairness_ranges(bytes: &[u8]) -> [(u64, u64); FAIRNESS_NUMBERS] {
     let [unreserved, lp_coef, stations] = [26, 28, 30].map(|at| setting(bytes, at));
+    let [method, round_trip] = [31, 32].map(|at| setting(bytes, at));
     let rate = (0, MOST_RATE);
     let mut ranges = [rate; FAIRNESS_NUMBERS];
     ranges[STORED].fill((0, most_stored(lp_coef)));
+    // "the conservative localFairRate never exceeds unreservedRate"
+    if method == Method::Conservative as u64 {
+        ranges[8] = (0, unreserved);
+    }
     // "allowed rates at most unreservedRate"
     ranges[9] = (0, unreserved);
     ranges[10] = (0, unreserved);
     // "own and received rates at most 65,534"
     ranges[11] = (0, 65_534);
-    ranges[17] = (0, 65_534);
+    ranges[18] = (0, 65_534);
     // "Yes or no: 1 or 0."
     ranges[12] = (0, 1);
-    ranges[13] = (0, 1);
+    ranges[14] = (0, 1);
+    // "0 to round trip − 1"; a round trip of 0 is out of range itself.
+    ranges[13] = (0, round_trip.saturating_sub(1));
     // "a received ttl 193 to 255", from no farther than the most hops.
-    ranges[14] = (256 - most_hops(stations), 255);
+    ranges[15] = (256 - most_hops(stations), 255);
     // An address has its high 16 and its low 32 bits.
-    ranges[15] = (0, 65_535);
-    ranges[16] = (0, 0xffff_ffff);
+    ranges[16] = (0, 65_535);
+    ranges[17] = (0, 0xffff_ffff);
     ranges
 }
 
@@ -118,7 +127,7 @@ pub fn bounds(bytes: &[u8]) -> [Bound; BOUNDS] {
         let (name, (least, most)) = match at {
             // "credits are 0 to hiLimit"
             0..=4 => (reading::NAMES[at], (0, setting(bytes, 5 + 3 * at))),
-            _ => (reading::NAMES[FAIRNESS_IN_READING + at - 5], ranges[at - 5]),
+            _ => (layout::fairness_name(at - 5), ranges[at - 5]),
         };
         Bound {
             name,
@@ -188,7 +197,7 @@ fn queue_faults(bytes: &[u8], at: usize, capacity: u64) -> Vec<&'static str> {
         .collect()
 }
 
-/// What is out of range in these 1,790 bytes, by name.
+/// What is out of range in these 1,806 bytes, by name.
 pub fn faults(bytes: &[u8]) -> Vec<String> {
     let mut faults = settings::faults(&std::array::from_fn(|at| setting(bytes, at)));
     faults.extend(bounds(bytes).iter().filter_map(|bound| bound.fault(bytes)));
@@ -219,7 +228,7 @@ pub fn every_fault() -> Vec<String> {
     names
 }
 
-/// Whether 1,790 bytes hold a station in range.
+/// Whether 1,806 bytes hold a station in range.
 pub fn in_range(bytes: &[u8]) -> bool {
     faults(bytes).is_empty()
 }

@@ -1,9 +1,11 @@
 //! The settings of a station and their ranges.
 
+use super::MOST_RATE;
 use crate::refusal::Refusal;
 
-/// "Settings: 30 words of 4 bytes"; "Requests append words": "30 (A5) | number of stations"
-pub const WORDS: usize = 31;
+/// "Settings: 30 words of 4 bytes"; "Requests append words": "30 (A5) | number of stations",
+/// "31 (A7) | method", "32, 33 (A7) | round trip in intervals; rampDn".
+pub const WORDS: usize = 34;
 pub const SETTINGS_LENGTH: usize = 4 * WORDS;
 
 pub const NAMES: [&str; WORDS] = [
@@ -38,6 +40,9 @@ pub const NAMES: [&str; WORDS] = [
     "lpCoef",
     "rampUp",
     "stations",
+    "method",
+    "roundTrip",
+    "rampDn",
 ];
 
 #[derive(Clone, Copy, Debug, PartialEq, Eq)]
@@ -69,6 +74,19 @@ pub struct Settings {
     pub lp_coef: u64,
     pub ramp_up: u64,
     pub stations: u64,
+    pub method: Method,
+    /// "a fairness round trip", in intervals
+    pub round_trip: u64,
+    pub ramp_dn: u64,
+}
+
+/// How an interval decides on local congestion and localFairRate.
+#[derive(Clone, Copy, Debug, PartialEq, Eq)]
+pub enum Method {
+    /// "0 aggressive"
+    Aggressive,
+    /// "1 conservative"
+    Conservative,
 }
 
 /// Six bytes, the first the highest.
@@ -105,6 +123,9 @@ fn ranges(words: &[u64; WORDS]) -> [(u64, u64); WORDS] {
     ranges[26] = (1, 2_147_483_647);
     // "A station's settings gain the number of stations, 2 to 63."
     ranges[30] = (LEAST_STATIONS, MOST_STATIONS);
+    // "0 aggressive, 1 conservative"; "1 to 1,000 [...] under both methods"
+    ranges[31] = (0, 1);
+    ranges[32] = (1, MOST_ROUND_TRIP);
     ranges
 }
 
@@ -112,13 +133,20 @@ fn ranges(words: &[u64; WORDS]) -> [(u64, u64); WORDS] {
 pub const LEAST_STATIONS: u64 = 2;
 pub const MOST_STATIONS: u64 = 63;
 
-/// "lpCoef and rampUp 16, 32, 64, 128, 256 or 512"
+/// "a fairness round trip (a setting, 1 to 1,000 intervals)"
+pub const MOST_ROUND_TRIP: u64 = 1_000;
+
+/// "lpCoef and rampUp 16, 32, 64, 128, 256 or 512"; "rampDn has rampUp's values."
 pub const LP_COEFS: [u64; 6] = [16, 32, 64, 128, 256, 512];
 
 /// "ageCoef 1, 2, 4, 8 or 16 (default 4); lpCoef and rampUp 16, 32, 64, 128, 256 or 512
 /// (default 64)."
-const COEFFICIENTS: [(usize, &[u64]); 3] =
-    [(27, &[1, 2, 4, 8, 16]), (28, &LP_COEFS), (29, &LP_COEFS)];
+const COEFFICIENTS: [(usize, &[u64]); 4] = [
+    (27, &[1, 2, 4, 8, 16]),
+    (28, &LP_COEFS),
+    (29, &LP_COEFS),
+    (33, &LP_COEFS),
+];
 
 /// The words that are outside their range, by name, and on which side.
 pub fn faults(words: &[u64; WORDS]) -> Vec<String> {
@@ -200,6 +228,12 @@ fn from_words(words: &[u64; WORDS]) -> Settings {
         lp_coef: words[28],
         ramp_up: words[29],
         stations: words[30],
+        method: match words[31] {
+            0 => Method::Aggressive,
+            _ => Method::Conservative,
+        },
+        round_trip: words[32],
+        ramp_dn: words[33],
     }
 }
 
@@ -209,6 +243,15 @@ pub fn to_bytes(words: &[u32]) -> Vec<u8> {
 }
 
 impl Settings {
+    /// The largest localFairRate: "other rates at most 2,147,483,647"; "the conservative
+    /// localFairRate never exceeds unreservedRate".
+    pub fn most_fair_rate(&self) -> u64 {
+        match self.method {
+            Method::Aggressive => MOST_RATE,
+            Method::Conservative => self.unreserved_rate,
+        }
+    }
+
     /// The words that a host gives.
     pub fn words(&self) -> [u64; WORDS] {
         let address = self.address.map(u64::from);
@@ -234,6 +277,9 @@ impl Settings {
             self.lp_coef,
             self.ramp_up,
             self.stations,
+            self.method as u64,
+            self.round_trip,
+            self.ramp_dn,
         ]);
         words
     }

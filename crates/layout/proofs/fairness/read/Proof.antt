@@ -20,6 +20,12 @@ add-read-decided c = search needs
 read-decided-requires : tie.Need-read-decided-requires
 read-decided-requires c κs = search needs
 
+add-get32 : tie.Need-add-get32
+add-get32 c = search needs
+
+get32-requires : tie.Need-get32-requires
+get32-requires c κs = search needs
+
 add-read-received : tie.Need-add-read-received
 add-read-received c = search needs
 
@@ -39,6 +45,8 @@ read-spec =
     read-stored-requires
     add-read-decided
     read-decided-requires
+    add-get32
+    get32-requires
     add-read-received
     read-received-requires
     returns)

@@ -23,6 +23,12 @@ add-write-decided c = search needs
 write-decided-requires : tie.Need-write-decided-requires
 write-decided-requires c κs = search needs
 
+add-put32 : tie.Need-add-put32
+add-put32 c = search needs
+
+put32-requires : tie.Need-put32-requires
+put32-requires c κs = search needs
+
 add-write-received : tie.Need-add-write-received
 add-write-received c = search needs
 
@@ -34,12 +40,13 @@ same-length c = search needs
 
 returns : tie.Need-returns
 returns c =
-    let c4 : _ = c .before .before in
+    let c5 : _ = c .before .before in
+    let c4 : _ = c5 .before .before .before .before in
     let c3 : _ = c4 .before .before .before .before in
     let c2 : _ = c3 .before .before .before .before in
     let c1 : _ = c2 .before .before .before .before in
     let d : _ = c1 .before .before .before in
-    rw (c4 .write-received .ensures, c3 .write-decided .ensures, c2 .write-stored .ensures, c1 .write-four .ensures)
+    rw (c5 .write-received .ensures, c4 .put32 .ensures, c3 .write-decided .ensures, c2 .write-stored .ensures, c1 .write-four .ensures)
     (simp add-assoc at (laid-put (fairParts (d .args .f)) (d .args .s .now) (d .args .at) (omega (arith, d .pre))))
 
 pub write-spec : {M : Type 1} → statement M
@@ -51,6 +58,8 @@ write-spec =
     write-stored-requires
     add-write-decided
     write-decided-requires
+    add-put32
+    put32-requires
     add-write-received
     write-received-requires
     same-length

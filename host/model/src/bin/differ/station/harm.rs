@@ -2,6 +2,7 @@
 
 use model::hops;
 use model::make_damage::{self, Step};
+use model::methods;
 use model::random::Random;
 use model::station::layout::{self, Part};
 use model::station::{fairness, range, Station};
@@ -84,12 +85,16 @@ impl Harm {
     fn look(&mut self, station: &[u8], bytes: &[u8]) {
         let faults = range::faults(bytes);
         match faults.is_empty() {
-            true => self.in_range += 1,
+            true => {
+                self.in_range += 1;
+                self.seen.extend(methods::taken(bytes));
+            }
             false => self.out_of_range += 1,
         }
         if let [fault] = &faults[..] {
             self.seen.insert(alone_wrong(fault));
             self.seen.extend(hops::alone(bytes, fault));
+            self.seen.extend(methods::alone(bytes, fault));
         }
         let other = |part: &&Part| {
             let place = part.at..part.at + part.length;
@@ -129,6 +134,7 @@ impl Harm {
             }
         }
         all.extend(hops::every_alone());
+        all.extend(methods::every_alone());
         all.extend(LATER.map(|later| format!("1 before {later}")));
         all.extend(SLICES.map(|reason| format!("2 before 1: {reason}")));
         all.retain(|sight| !self.seen.contains(sight));

@@ -1,12 +1,15 @@
 //! The station: lives of random calls on sound and on damaged stations; each answer,
 //! each lent byte, all bytes of the station and each reading compared.
 
+mod apart;
 mod counters;
 mod difference;
+mod every_method;
 mod every_ring;
 mod harm;
 mod library;
 mod life;
+mod method;
 mod scenes;
 mod short;
 mod sights;
@@ -22,6 +25,7 @@ use model::lent_call;
 use model::make::wrong_length;
 use model::make_call::{self, Habit};
 use model::make_station;
+use model::methods::Methods;
 use model::random::Random;
 use model::report::Outcome;
 use model::shortfalls::Shortfalls;
@@ -37,6 +41,7 @@ struct Trial {
     sights: Sights,
     shortfalls: Shortfalls,
     hops: Hops,
+    methods: Methods,
     harm: Harm,
 }
 
@@ -48,6 +53,7 @@ impl Trial {
             sights: Sights::default(),
             shortfalls: Shortfalls::default(),
             hops: Hops::default(),
+            methods: Methods::default(),
             harm: Harm::new(),
         }
     }
@@ -100,6 +106,10 @@ impl Trial {
 
     /// The answer, which is the model's too.
     fn call(&mut self, life: &mut Life, call: &Call) -> Outcome<u64> {
+        self.methods.look(&life.model, call);
+        if life.started {
+            self.sights.look_before(&life.model, call);
+        }
         let answer = life.make(&mut self.random, call)?;
         self.tally.count(call.function(), answer, false);
         self.shortfalls.look(&life.model, call, answer);
@@ -168,7 +178,10 @@ impl Trial {
             self.tally.count(call.function(), answer, false);
             self.shortfalls.look(model, &call, answer);
             match &read {
-                Ok(station) => self.hops.look(station, &call, answer),
+                Ok(station) => {
+                    self.hops.look(station, &call, answer);
+                    self.methods.look(station, &call);
+                }
                 Err(_) => self.harm.look_at_order(&call, bytes, &life.model, answer),
             }
         }
@@ -187,7 +200,7 @@ impl Trial {
             self.damage(&life, &habit)?;
         }
         for _ in 0..self.random.between(20, 900) {
-            if self.random.one_in(200) {
+            if self.random.one_in(60) {
                 habit = Habit::new(&mut self.random);
             }
             if self.random.one_in(60) {
@@ -198,6 +211,7 @@ impl Trial {
             }
             if self.random.one_in(40) {
                 self.short(&life)?;
+                self.at_edge(&life)?;
             }
             self.random_call(&mut life, &habit)?;
         }
@@ -212,6 +226,9 @@ impl Trial {
         }
         println!("{} calls until counters stop", counters::stopping()?);
         println!("{} calls on every ring", every_ring::every_ring()?);
+        println!("{} calls at every edge", every_method::every_method()?);
+        let [down, up] = apart::lives(self.random.word())?;
+        println!("localFairRate lowered {down} times and raised {up} times, each apart");
         let steady = steady::walks(self.random.word())?;
         println!("{steady}");
         scenes::play(self)?;
@@ -227,6 +244,7 @@ impl Trial {
         missing.extend(steady.missing());
         missing.extend(self.shortfalls.missing());
         missing.extend(self.hops.missing());
+        missing.extend(self.methods.missing());
         missing.extend(self.harm.missing());
         Ok(missing)
     }
@@ -237,5 +255,6 @@ pub fn run(seed: u64, calls: u64) -> (Tally, Outcome<Vec<String>>) {
     let mut trial = Trial::new(seed);
     let outcome = trial.rounds(calls);
     println!("{}\n{}\n{}", trial.harm, trial.shortfalls, trial.hops);
+    println!("{}", trial.methods);
     (trial.tally, outcome)
 }

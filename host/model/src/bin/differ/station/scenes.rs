@@ -1,6 +1,7 @@
 //! Lives that lead where random calls seldom do.
 
 use super::Trial;
+use model::make_method;
 use model::make_station;
 use model::report::Outcome;
 use model::station_call::Call;
@@ -79,6 +80,21 @@ fn told(stations: u32) -> Scene {
     (changes, calls)
 }
 
+/// A conservative station through the rows of its table: not congested, entered at 4, held, lowered
+/// by 0, held and raised to 5, 15 below what is unreserved, and left.
+fn calm(round_trip: u32) -> Scene {
+    let wait = vec![Call::Age; round_trip as usize];
+    let mut calls = vec![Call::Age, Call::Tick([0, 0, 1]), Call::Tick([0, 0, 1])];
+    calls.extend([Call::Client([2, 64, 1]), Call::Select]);
+    calls.extend([Call::Transit([2, 16, 1, 0]), Call::Age]);
+    calls.extend(wait.clone());
+    calls.push(Call::Select);
+    calls.extend(wait);
+    calls.extend([Call::Tell(12), Call::Age, Call::Tell(12), Call::Age]);
+    let small = make_method::small(round_trip, 20);
+    ([&small[..], &[(22, 0), (27, 1)]].concat(), calls)
+}
+
 /// A fairness frame from so many hops away; the plain station's own address ends with 1.
 fn heard(hops: u64, address: u8, rate: u16) -> Call {
     let [high, low] = rate.to_be_bytes();
@@ -87,7 +103,7 @@ fn heard(hops: u64, address: u8, rate: u16) -> Call {
 }
 
 pub fn play(trial: &mut Trial) -> Outcome<()> {
-    let mut scenes = vec![full(), fair_rate()];
+    let mut scenes = vec![full(), fair_rate(), calm(1), calm(3)];
     for stations in [2, 6, 63] {
         scenes.extend([offers(stations), told(stations)]);
     }

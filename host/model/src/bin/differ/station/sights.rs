@@ -1,6 +1,7 @@
 //! What must have come up in the lives, beside every refusal.
 
 use model::station::queue::{Queue, SLOTS};
+use model::station::settings::Method;
 use model::station::Station;
 use model::station_call::Call;
 use std::collections::BTreeSet;
@@ -29,6 +30,16 @@ const RATES: [&str; 8] = [
     "fwRateCongested counted",
 ];
 
+/// The rows of the conservative method's table, in their order.
+const ROWS: [&str; 6] = [
+    "conservative congestion entered",
+    "conservative station not congested",
+    "conservative congestion left",
+    "conservative localFairRate lowered",
+    "conservative localFairRate raised",
+    "conservative localFairRate held",
+];
+
 #[derive(Default)]
 pub struct Sights {
     seen: BTreeSet<&'static str>,
@@ -38,6 +49,13 @@ impl Sights {
     fn see(&mut self, sight: &'static str, seen: bool) {
         if seen {
             self.seen.insert(sight);
+        }
+    }
+
+    /// The station before the call.
+    pub fn look_before(&mut self, station: &Station, call: &Call) {
+        if *call == Call::Age && station.settings.method == Method::Conservative {
+            self.see(ROWS[station.row() as usize], true);
         }
     }
 
@@ -73,7 +91,7 @@ impl Sights {
     }
 
     pub fn missing(&self) -> Vec<String> {
-        let all = [&SELECTED[..], &MARKS, &FULL, &RATES].concat();
+        let all = [&SELECTED[..], &MARKS, &FULL, &RATES, &ROWS].concat();
         let unseen = |sight: &&&str| !self.seen.contains(**sight);
         all.iter()
             .filter(unseen)

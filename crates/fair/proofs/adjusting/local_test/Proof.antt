@@ -1,9 +1,9 @@
--- `fair::local_test` meets its contract: the comparison is the definition's.
+-- `fair::adjusting::local_test` meets its contract: the comparison is the definition's.
 -- Assumes nothing.
 use mathlib.Core.Path.{refl}
 use Rattle.decide.specs.Test.{test}
-use Rattle.fair.proofs.local_test.Statement.{statement}
-use Rattle.fair.proofs.local_test.Tie as tie
+use Rattle.fair.proofs.adjusting.local_test.Statement.{statement}
+use Rattle.fair.proofs.adjusting.local_test.Tie as tie
 
 returns : tie.Need-returns
 unfolding test
