@@ -21,7 +21,7 @@ use Rattle.fair.specs.declared.Fair.{Fair}
 use Rattle.fair.specs.declared.Adjusted.{Adjusted}
 use Rattle.fair.specs.Range.{FourOk, StoredOk, DecidedOk, FairOk}
 use Rattle.fair.specs.Methods.{localTest, aggressiveOf}
-use Rattle.fair.specs.Age.{SumsFit, smoothOf, shownFour, lowerOf, allowedOf, allowedcOf, newDecided, withSince, newSmoothed, adjustedNow, newAdjusted, ageOf}
+use Rattle.fair.specs.Age.{SumsFit, smoothOf, shownFour, lowerOf, allowedOf, allowedcOf, newDecided, newSmoothed, adjustedNow, newAdjusted, ageOf}
 use Rattle.fair.proofs.Methods.{AdjustedOk, by-aggressive, aggressive-congested, aggressive-free, aggressive-since, adjusted-ok}
 
 -- ---- the cases of each definition
@@ -190,6 +190,10 @@ module _ (f : Fair) (s : Settings) (held : ℕ) (chosen : s .site .method ≡ 0)
     -- else allowedRate + floor((unreservedRate − allowedRate) / rampUp)
     pub room-allowed : ageOf f s held .decided .allowed ≡ f .decided .allowed + (s .fairness .unreserved - f .decided .allowed) / s .fairness .ramp
     room-allowed = flag-ramped f s held room-free
+
+-- the state with another number of intervals since a change
+abbrev pub withSince : ℕ → Fair → Fair
+withSince n f = record { counters = f .counters; smoothed = f .smoothed; decided = f .decided; since = n; received = f .received }
 
 -- Nothing else depends on that count: any other one stays in its place.
 pub aggressive-unread : (f : Fair) (s : Settings) (held : ℕ) → s .site .method ≡ 0 → (n : ℕ) → ageOf (withSince n f) s held ≡ withSince n (ageOf f s held)

@@ -77,50 +77,28 @@ module _ (s : Settings) (old : Adjusted) (held : ℕ) where
       unfolding rowOf
       takes-waiting-room far early = rw (failing (old .congested ≡? 0) congested, room, far, early)
 
-  -- what each gives
   module _ (lp : Stored) where
-    by-row : {r : Row} → rowOf s old held ≡ r → conservativeOf s old lp held ≡ rowGives r s old lp
-    by-row e = ap (λ (r : Row). rowGives r s old lp) e
-
-    pub gives-entry : rowOf s old held ≡ enters → conservativeOf s old lp held ≡ changedTo (entryRate s lp)
-    unfolding rowGives
-    gives-entry e = by-row e
-
-    pub gives-rest : rowOf s old held ≡ rests → conservativeOf s old lp held ≡ old
-    unfolding rowGives
-    gives-rest e = by-row e
-
-    pub gives-lower : rowOf s old held ≡ lowers → conservativeOf s old lp held ≡ changedTo (reducedOf (old .local) (s .site .down))
-    unfolding rowGives
-    gives-lower e = by-row e
-
-    pub gives-leaving : rowOf s old held ≡ leaves → conservativeOf s old lp held ≡ record { congested = 0; local = s .fairness .unreserved; since = 0 }
-    unfolding rowGives
-    gives-leaving e = by-row e
-
-    pub gives-raise : rowOf s old held ≡ raises → conservativeOf s old lp held ≡ changedTo (rampedOf (old .local) (s .fairness .unreserved) (s .fairness .ramp))
-    unfolding rowGives
-    gives-raise e = by-row e
-
-    pub gives-waiting : rowOf s old held ≡ waits → conservativeOf s old lp held ≡ unchanged old
-    unfolding rowGives
-    gives-waiting e = by-row e
+    -- an interval gives what its row gives
+    pub gives : {r : Row} → rowOf s old held ≡ r → conservativeOf s old lp held ≡ rowGives r s old lp
+    gives e = ap (λ (r : Row). rowGives r s old lp) e
 
     -- a step where a round trip has passed, and waiting where it has not: down while the test holds,
     module _ (congested : old .congested ≡ 0 → ⊥) where
       pub gives-full : test (localTest s held) ≡ true → cond (test (passed s old)) (changedTo (reducedOf (old .local) (s .site .down))) (unchanged old) ≡ conservativeOf s old lp held
+      unfolding rowGives
       gives-full full =
           of-each (λ (a : Adjusted). a ≡ conservativeOf s old lp held) (test (passed s old)) _ _
-          (λ e. sym (gives-lower (takes-lower congested full e)))
-          (λ e. sym (gives-waiting (takes-waiting-full congested full e)))
+          (λ e. sym (gives (takes-lower congested full e)))
+          (λ e. sym (gives (takes-waiting-full congested full e)))
 
       -- and up once it is false and unreservedRate is far
       pub gives-room : test (localTest s held) ≡ false → test (near s old) ≡ false
           → cond (test (passed s old)) (changedTo (rampedOf (old .local) (s .fairness .unreserved) (s .fairness .ramp))) (unchanged old) ≡ conservativeOf s old lp held
+      unfolding rowGives
       gives-room room far =
           of-each (λ (a : Adjusted). a ≡ conservativeOf s old lp held) (test (passed s old)) _ _
-          (λ e. sym (gives-raise (takes-raise congested room far e)))
-          (λ e. sym (gives-waiting (takes-waiting-room congested room far e)))
+          (λ e. sym (gives (takes-raise congested room far e)))
+          (λ e. sym (gives (takes-waiting-room congested room far e)))
 
 -- What holds of each row where it is taken holds of the row that is.
 module _ (s : Settings) (old : Adjusted) (held : ℕ) (P : Row → Type 0) where

@@ -11,10 +11,9 @@ use Rattle.rates.proofs.Formulas.{shown-is, ramped-is, reduced-is}
 use Rattle.settings.specs.declared.Settings.{Settings}
 use Rattle.fair.specs.declared.Fair.{Fair}
 use Rattle.fair.specs.declared.Adjusted.{Adjusted}
-use Rattle.fair.specs.Methods.{localTest, passed, near, changedTo, conservativeOf, enters, rests, lowers, leaves, raises, waits, Changes, Steps}
+use Rattle.fair.specs.Methods.{localTest, passed, near, changedTo, rowGives, conservativeOf, enters, rests, lowers, leaves, raises, waits, Changes, Steps}
 use Rattle.fair.specs.Age.{newSmoothed, adjustedNow, rowFor, newAdjusted, ageOf}
-use Rattle.fair.proofs.Methods.{by-conservative, takes-entry, takes-rest, takes-lower, takes-waiting-full, takes-leaving, takes-raise, takes-waiting-room}
-use Rattle.fair.proofs.Methods.{gives-entry, gives-rest, gives-lower, gives-leaving, gives-raise, gives-waiting}
+use Rattle.fair.proofs.Methods.{by-conservative, gives, takes-entry, takes-rest, takes-lower, takes-waiting-full, takes-leaving, takes-raise, takes-waiting-room}
 use Rattle.fair.proofs.Methods.{since-next, change-counts, step-due, altered-changes, altered-steps, free-stays}
 
 module _ (f : Fair) (s : Settings) (held : ℕ) (chosen : s .site .method ≡ 1) where
@@ -43,19 +42,21 @@ module _ (f : Fair) (s : Settings) (held : ℕ) (chosen : s .site .method ≡ 1)
     pub row-enters : s .queues .threshold < held
         → (rowFor f s held ≡ enters)
         × (adjustedNow (ageOf f s held) ≡ record { congested = 1; local = min (ageOf f s held .smoothed .add / s .fairness .lp) (s .fairness .unreserved); since = 0 })
+    unfolding rowGives
     row-enters h =
         let row = takes-entry s (adjustedNow f) held free (full h) in (
           row,
           by
-              ∙ gives-entry s (adjustedNow f) held (newSmoothed f s) row
+              ∙ gives s (adjustedNow f) held (newSmoothed f s) row
               ∙ ap (λ (n : ℕ). changedTo (min n (s .fairness .unreserved))) (shown-is (s .fairness .lp) (newSmoothed f s .add)),
         )
 
     -- not congested, and not now: nothing changes
     pub row-rests : held ≤ s .queues .threshold → (rowFor f s held ≡ rests) × (adjustedNow (ageOf f s held) ≡ adjustedNow f)
+    unfolding rowGives
     row-rests h =
         let row = takes-rest s (adjustedNow f) held free (room h) in
-        (row, by ∙ gives-rest s (adjustedNow f) held (newSmoothed f s) row)
+        (row, by ∙ gives s (adjustedNow f) held (newSmoothed f s) row)
 
   module _ (congested : f .decided .congested ≡ 1) where
     not-free : f .decided .congested ≡ 0 → ⊥
@@ -65,36 +66,40 @@ module _ (f : Fair) (s : Settings) (held : ℕ) (chosen : s .site .method ≡ 1)
     pub row-lowers : s .queues .threshold < held → s .site .trip ≤ f .since + 1
         → (rowFor f s held ≡ lowers)
         × (adjustedNow (ageOf f s held) ≡ record { congested = 1; local = f .decided .local - f .decided .local / s .site .down; since = 0 })
+    unfolding rowGives
     row-lowers h t =
         let row = takes-lower s (adjustedNow f) held not-free (full h) (due t) in
-        (row, by ∙ gives-lower s (adjustedNow f) held (newSmoothed f s) row ∙ ap changedTo (reduced-is (f .decided .local) (s .site .down)))
+        (row, by ∙ gives s (adjustedNow f) held (newSmoothed f s) row ∙ ap changedTo (reduced-is (f .decided .local) (s .site .down)))
 
     -- once the test is false leave congestion, at unreservedRate, if the distance to it is less than rampUp, without waiting
     pub row-leaves : held ≤ s .queues .threshold → s .fairness .unreserved - f .decided .local < s .fairness .ramp
         → (rowFor f s held ≡ leaves) × (adjustedNow (ageOf f s held) ≡ record { congested = 0; local = s .fairness .unreserved; since = 0 })
+    unfolding rowGives
     row-leaves h d =
         let row = takes-leaving s (adjustedNow f) held not-free (room h) (passes (near s (adjustedNow f)) d) in
-        (row, by ∙ gives-leaving s (adjustedNow f) held (newSmoothed f s) row)
+        (row, by ∙ gives s (adjustedNow f) held (newSmoothed f s) row)
 
     -- else after the same time raise it by the rampUp-th part of that distance, rounded down
     pub row-raises : held ≤ s .queues .threshold → s .fairness .ramp ≤ s .fairness .unreserved - f .decided .local → s .site .trip ≤ f .since + 1
         → (rowFor f s held ≡ raises)
         × (adjustedNow (ageOf f s held)
         ≡ record { congested = 1; local = f .decided .local + (s .fairness .unreserved - f .decided .local) / s .fairness .ramp; since = 0 })
+    unfolding rowGives
     row-raises h d t =
         let row = takes-raise s (adjustedNow f) held not-free (room h) (far d) (due t) in
-        (row, by ∙ gives-raise s (adjustedNow f) held (newSmoothed f s) row ∙ ap changedTo (ramped-is (f .decided .local) (s .fairness .unreserved) (s .fairness .ramp)))
+        (row, by ∙ gives s (adjustedNow f) held (newSmoothed f s) row ∙ ap changedTo (ramped-is (f .decided .local) (s .fairness .unreserved) (s .fairness .ramp)))
 
     -- until then it stays, and the station counts as locally congested
     pub row-waits : (s .queues .threshold < held) ⊎ (s .fairness .ramp ≤ s .fairness .unreserved - f .decided .local) → f .since + 1 < s .site .trip
         → (rowFor f s held ≡ waits) × (adjustedNow (ageOf f s held) ≡ record { congested = 1; local = f .decided .local; since = f .since + 1 })
+    unfolding rowGives
     row-waits either t =
         let row : rowFor f s held ≡ waits =
         by-cases (le-or held (s .queues .threshold))
         (λ r. takes-waiting-room s (adjustedNow f) held not-free (room r) (far (by-cases either (λ h. absurd (omega (arith, h, r))) (λ d. d))) (early t))
         (λ h. takes-waiting-full s (adjustedNow f) held not-free (full h) (early t))
         in
-        (row, by ∙ gives-waiting s (adjustedNow f) held (newSmoothed f s) row)
+        (row, by ∙ gives s (adjustedNow f) held (newSmoothed f s) row)
 
   -- ---- its changes
 

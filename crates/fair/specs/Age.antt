@@ -67,10 +67,6 @@ newDecided f g a = record {
   congested = a .congested;
 }
 
--- the state with another number of intervals since a change
-abbrev pub withSince : ℕ → Fair → Fair
-withSince n f = record { counters = f .counters; smoothed = f .smoothed; decided = f .decided; since = n; received = f .received }
-
 -- the four stored numbers that an interval leaves
 abbrev pub newSmoothed : Fair → Settings → Stored
 newSmoothed f s = smoothOf (f .smoothed) (s .fairness .lp) (f .counters)

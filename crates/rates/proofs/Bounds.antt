@@ -20,15 +20,6 @@ pub part-le : (x coef : ℕ) → partOf x coef ≤ x
 unfolding partOf
 part-le x coef = div-le-self x coef
 
-pub part-none : (x coef : ℕ) → x < coef → partOf x coef ≡ 0
-unfolding partOf
-part-none x coef h = div-eq-of-lt h
-
--- what is not less than the coefficient has a part
-pub part-some : (x coef : ℕ) → 0 < coef → coef ≤ x → 1 ≤ partOf x coef
-unfolding partOf
-part-some x coef p h = le-div-iff-mul-le p .1 (omega arith)
-
 -- ---- rates and counters
 
 pub shown-le : (coef s : ℕ) → shownOf coef s ≤ s
@@ -45,6 +36,11 @@ pub ramped-rises : (value unreserved coef : ℕ) → value ≤ rampedOf value un
 unfolding rampedOf
 ramped-rises value unreserved coef = omega arith
 
+-- by a distance of rampUp or more it rises indeed
+pub ramped-grows : (value unreserved coef : ℕ) → 0 < coef → coef ≤ unreserved - value → value < rampedOf value unreserved coef
+unfolding rampedOf partOf
+ramped-grows value unreserved coef p h = omega (arith, le-div-iff-mul-le {k = coef} {x = 1} {y = unreserved - value} p .1 (omega (arith, h)))
+
 pub ramped-within : (value unreserved coef : ℕ) → value ≤ unreserved → rampedOf value unreserved coef ≤ unreserved
 unfolding rampedOf
 ramped-within value unreserved coef h = omega (arith, part-le (unreserved - value) coef)
@@ -55,8 +51,8 @@ unfolding reducedOf
 reduced-within rate coef = omega arith
 
 pub reduced-stands : (rate coef : ℕ) → rate < coef → reducedOf rate coef ≡ rate
-unfolding reducedOf
-reduced-stands rate coef h = omega (arith, part-none rate coef h)
+unfolding reducedOf partOf
+reduced-stands rate coef h = omega (arith, div-eq-of-lt h)
 
 pub allowance-within : (received weight unit unreserved : ℕ) → allowanceOf received weight unit unreserved ≤ unreserved
 unfolding allowanceOf

@@ -1,8 +1,8 @@
 -- `fair::Adjusted::conservative` meets its contract: each return is what its rows of the definition give.
 -- Assumes nothing.
 use mathlib.Core.Path.{sym, ap, _∙_}
-use Rattle.fair.specs.Methods.{changedTo}
-use Rattle.fair.proofs.Methods.{takes-entry, takes-rest, takes-leaving, gives-entry, gives-rest, gives-full, gives-leaving, gives-room}
+use Rattle.fair.specs.Methods.{changedTo, rowGives}
+use Rattle.fair.proofs.Methods.{takes-entry, takes-rest, takes-leaving, gives, gives-full, gives-room}
 use borrow.Author.Needs.{needs}
 use Rattle.fair.proofs.Adjusted.conservative.Statement.{statement}
 use Rattle.fair.proofs.Adjusted.conservative.Tie as tie
@@ -17,19 +17,21 @@ changed-to-requires : tie.Need-changed-to-requires
 changed-to-requires c κs = search needs
 
 returns : tie.Need-returns
+unfolding rowGives
 returns c =
     let full = c .before .before in
     let asked = full .before .before .before in
     let a = asked .before .args in
     c .changed-to .ensures
     ∙ ap changedTo (c .before .entry-rate .ensures)
-    ∙ sym (gives-entry (a .settings) (a .self) (a .held) (a .smoothed) (takes-entry (a .settings) (a .self) (a .held) (full .before .if1 .taken) (sym (asked .local-test .ensures) ∙ full .if2 .taken)))
+    ∙ sym (gives (a .settings) (a .self) (a .held) (a .smoothed) (takes-entry (a .settings) (a .self) (a .held) (full .before .if1 .taken) (sym (asked .local-test .ensures) ∙ full .if2 .taken)))
 
 returns-2 : tie.Need-returns-2
+unfolding rowGives
 returns-2 c =
     let asked = c .before .before .before in
     let a = asked .before .args in
-    sym (gives-rest (a .settings) (a .self) (a .held) (a .smoothed) (takes-rest (a .settings) (a .self) (a .held) (c .before .if1 .taken) (sym (asked .local-test .ensures) ∙ c .if2 .left)))
+    sym (gives (a .settings) (a .self) (a .held) (a .smoothed) (takes-rest (a .settings) (a .self) (a .held) (c .before .if1 .taken) (sym (asked .local-test .ensures) ∙ c .if2 .left)))
 
 reduced-requires : tie.Need-reduced-requires
 reduced-requires c κs = search needs
@@ -49,13 +51,14 @@ is-near-requires : tie.Need-is-near-requires
 is-near-requires c κs = search needs
 
 returns-4 : tie.Need-returns-4
+unfolding rowGives
 returns-4 c =
     let near = c .before in
     let room = near .before in
     let asked = room .before .before .before in
     let a = asked .before .args in
     sym
-    (gives-leaving (a .settings) (a .self) (a .held) (a .smoothed)
+    (gives (a .settings) (a .self) (a .held) (a .smoothed)
     (takes-leaving (a .settings) (a .self) (a .held) (room .before .if1 .left) (sym (asked .local-test .ensures) ∙ room .if3 .left)
     (sym (near .is-near .ensures) ∙ c .if4 .taken)))
 
