@@ -1,6 +1,6 @@
-# make demo        document 01's example summarized whole and from two pieces, and where two halls' records part, by the command rpr, and a minute of a station's life, by a host in C
+# make demo        document 01's example summarized whole and from two pieces, where two halls' records part, and a night of an idle shaper in runs, by the command rpr, and a minute of a station's life, by a host in C
 # make test        proves every crate, tries the must-fail edits, runs the programs, then everything outside the crates; the last line is N passed, M failed
-# make install     puts the command rpr, the library, its header, the man pages and an example under PREFIX (/usr/local), the library in LIBDIR (PREFIX/lib), all within DESTDIR; CC, CPPFLAGS, CFLAGS and LDFLAGS are heard
+# make install     puts the command rpr, the library, its headers, the man pages and an example under PREFIX (/usr/local), the library in LIBDIR (PREFIX/lib), all within DESTDIR; CC, CPPFLAGS, CFLAGS and LDFLAGS are heard
 # make uninstall   takes them away again
 # make bench       ns per call of the library and ns per event of the commands, beside plain C that does the same work; fails where one is above its bound
 # make picture     draws docs/methods.svg anew, both methods over the same congested minute, from the library's answers

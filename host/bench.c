@@ -20,9 +20,18 @@ void put_header(uint8_t *record, uint32_t mtu, uint32_t lo, uint32_t hi) {
     put16(record, RPR_RECORD_HEADER_LENGTH), put16(record + 2, 16), put16(record + 4, mtu), put32(record + 6, lo), put32(record + 10, hi);
 }
 
+size_t put_item(uint8_t *record, size_t at, unsigned kind, unsigned number, unsigned count) {
+    uint8_t *p = record + at;
+    if (count == 1) {
+        put16(p, RPR_RECORD_EVENT_LENGTH), put16(p + 2, kind), put16(p + 4, number);
+        return at + RPR_RECORD_EVENT_LENGTH;
+    }
+    put16(p, RPR_RECORD_RUN_LENGTH), put16(p + 2, RPR_RUN), put16(p + 4, kind), put16(p + 6, number), put16(p + 8, count);
+    return at + RPR_RECORD_RUN_LENGTH;
+}
+
 void put_event(uint8_t *record, size_t place, unsigned kind, unsigned number) {
-    uint8_t *p = record + RPR_RECORD_HEADER_LENGTH + RPR_RECORD_EVENT_LENGTH * place;
-    put16(p, RPR_RECORD_EVENT_LENGTH), put16(p + 2, kind), put16(p + 4, number);
+    put_item(record, RPR_RECORD_HEADER_LENGTH + RPR_RECORD_EVENT_LENGTH * place, kind, number, 1);
 }
 
 /* A record of a million events: a regular pattern of ticks and sends, or kinds and numbers at random. */
@@ -144,6 +153,7 @@ int main(int count, char **words) {
         open_above(words[1]);
         bench_records(record);
         bench_calls(record);
+        bench_runs();
         bench_station();
         close_above();
     }

@@ -11,7 +11,8 @@ extern const struct calls same;
  * The bounds: how much a row may take of the library, in times plain C. Where no other is named it is BOUND. MARGIN is for the measuring, so that a row which stands at
  * its bound is not above it in one run and below it in the next. Mixed records have another bound on Arm, where the branches that plain C mispredicts cost less.
  * BOUND_FLAGS is for regular and for short records beside plain C whose loop lies where two flags put it, BOUND_PLACED beside plain C at its best place (tools/bench).
- * The bounds of the commands are in tools/bench-commands.
+ * BOUND_RUNS is for rolling and unrolling, and for a record in runs. FASTER is another bound: so many times faster, at least, a million ticks are summed in runs than one
+ * by one. The bounds of the commands are in tools/bench-commands.
  */
 #define BOUND 1.25
 #define BOUND_FLAGS 1.0
@@ -21,6 +22,8 @@ extern const struct calls same;
 #else
 #define BOUND_MIXED 0.3
 #endif
+#define BOUND_RUNS 1.5
+#define FASTER 1000
 #define BOUND_STATION 1.05
 #define BOUND_START 1.2
 #define MARGIN 0.05
@@ -46,25 +49,33 @@ void close_above(void);
 /* The heading of a table. The state is NULL where there is one alone. */
 void bench_heading(const char *what, const char *state);
 
-/* Measures and prints a row. One that is above its bound is measured once more before that is told. */
-void bench_row(const struct row *row);
+/* Measures and prints a row. One that is above its bound is measured once more before that is told. The library's ns, by parts. */
+double bench_row(const struct row *row);
+
+/* Prints how many times faster the library is at one thing than at another, and tells where that is not FASTER at least. */
+void bench_faster(const char *what, double times);
 
 /* The tables of the station's calls. */
 void bench_station(void);
+
+/* The tables of records in runs. */
+void bench_runs(void);
 
 /* Before a time is taken: the three sides answer and leave the same on records and stations of all kinds, good, faulty and damaged. The room has space for a record of
  * a million events and one event more. */
 void compare_sides(uint8_t *room);
 
-/* A record's header and events. */
+/* A record's header and events; and an item that begins with this byte, an event or of several equal ones a run. The byte behind it. */
 void put_header(uint8_t *record, uint32_t mtu, uint32_t lo, uint32_t hi);
 void put_event(uint8_t *record, size_t place, unsigned kind, unsigned number);
+size_t put_item(uint8_t *record, size_t at, unsigned kind, unsigned number, unsigned count);
 
 /* Nanoseconds of a clock that only goes forward. */
 double now(void);
 
-/* 31 bits at random, the same in every run. */
+/* 31 bits at random, the same in every run; and a number below this one. */
 unsigned next_random(void);
+unsigned below(unsigned end);
 
 /* Says what is wrong and ends the program. */
 _Noreturn void give_up(const char *what);

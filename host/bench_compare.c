@@ -7,11 +7,10 @@
 #include "bench.h"
 
 enum { N = RPR_STATION_LENGTH, HEADER = RPR_RECORD_HEADER_LENGTH, EVENT = RPR_RECORD_EVENT_LENGTH };
-enum { RECORDS = 20000, LONGEST = 400, STEPS = 40000, KINDS = 10 };
+enum { RECORDS = 20000, LONGEST = 400, MOVED = HEADER + EVENT * LONGEST, STEPS = 40000, KINDS = 10 };
+enum { SUMS, ROLLS, UNROLLS };
 
 static const struct calls *const others[] = {&library, &same};
-
-static unsigned below(unsigned end) { return next_random() % end; }
 
 /* A number at which some range ends, or any. */
 static uint32_t any_number(void) {
@@ -23,14 +22,31 @@ static uint32_t any_number(void) {
 
 /* ---- records ---- */
 
-static void compare_record(const uint8_t *record, size_t length) {
-    uint8_t ours[RPR_SUMMARY_LENGTH], theirs[RPR_SUMMARY_LENGTH];
-    memset(theirs, 0x5a, sizeof theirs);
-    uint64_t answer = plain.summarize(record, length, theirs, sizeof theirs);
+static uint64_t ask(const struct calls *side, int call, const uint8_t *record, size_t length, uint8_t *room, size_t room_length) {
+    switch (call) {
+        case SUMS: return side->summarize(record, length, room, room_length);
+        case ROLLS: return side->roll(record, length, room, room_length);
+        default: return side->unroll(record, length, room, room_length);
+    }
+}
+
+static void compare_one(int call, const uint8_t *record, size_t length, size_t room) {
+    static uint8_t ours[MOVED], theirs[MOVED];
+    memset(theirs, 0x5a, MOVED);
+    uint64_t answer = ask(&plain, call, record, length, theirs, room);
     for (size_t i = 0; i < sizeof others / sizeof others[0]; i++) {
-        memset(ours, 0x5a, sizeof ours);
-        if (others[i]->summarize(record, length, ours, sizeof ours) != answer || memcmp(ours, theirs, sizeof ours) != 0)
-            give_up("a record is summed otherwise than by plain C");
+        memset(ours, 0x5a, MOVED);
+        if (ask(others[i], call, record, length, ours, room) != answer || memcmp(ours, theirs, MOVED) != 0)
+            give_up("a record is summed, rolled or unrolled otherwise than by plain C");
+    }
+}
+
+/* It is moved into a room of any length, and into one that is long enough unless its runs are long. */
+static void compare_record(const uint8_t *record, size_t length) {
+    compare_one(SUMS, record, length, RPR_SUMMARY_LENGTH);
+    for (int call = ROLLS; call <= UNROLLS; call++) {
+        compare_one(call, record, length, MOVED);
+        compare_one(call, record, length, below(MOVED));
     }
 }
 
@@ -49,6 +65,24 @@ static size_t random_record(uint8_t *record) {
     return HEADER + EVENT * (size_t)events;
 }
 
+/* Up to some items, of which few or all are runs, and few or many of these long, up to over a million events; ticks have few amounts, so that equal ones stand side by
+ * side. */
+static size_t random_items(uint8_t *record) {
+    unsigned items = below(LONGEST / 2), rare = 1 + below(3) * 70, rarely_long = below(2) ? 3 : 90;
+    size_t at = HEADER;
+    put_header(record, 64, 100, 300);
+    for (unsigned i = 0; i < items; i++) {
+        unsigned count = 2 + below(below(rarely_long) == 0 ? 65534 : 5);
+        if (below(rare) == 0)
+            at = put_item(record, at, 1 + below(2), any_number() & 0xffff, count);
+        else if (below(4) == 0)
+            at = put_item(record, at, 3, 16 + below(49), 1);
+        else
+            at = put_item(record, at, 1 + below(2), 5 * below(2), 1);
+    }
+    return at;
+}
+
 /* One event is no event or hardly one, one byte is another, or the end is missing. */
 static size_t damaged_record(uint8_t *record, size_t length) {
     unsigned place = below(LONGEST);
@@ -64,7 +98,7 @@ static size_t damaged_record(uint8_t *record, size_t length) {
 static void compare_records(void) {
     static uint8_t record[HEADER + EVENT * LONGEST];
     for (int i = 0; i < RECORDS; i++) {
-        size_t length = random_record(record);
+        size_t length = i % 2 == 0 ? random_record(record) : random_items(record);
         compare_record(record, length);
         compare_record(record, damaged_record(record, length));
     }

@@ -24,6 +24,8 @@ unsigned next_random(void) {
     return (unsigned)(state >> 33);
 }
 
+unsigned below(unsigned end) { return next_random() % end; }
+
 void give_up(const char *what) {
     printf("%s\n", what);
     exit(1);
@@ -59,14 +61,23 @@ static void measure(const struct row *row, double least[SIDES]) {
 
 static int is_above(const struct row *row, const double least[SIDES]) { return least[LIBRARY] > (row->bound + MARGIN) * least[PLAIN]; }
 
-void bench_row(const struct row *row) {
+static void tell_above(const struct row *row, const double least[SIDES]) {
+    fprintf(above, "above its bound: %s%s%s: %.3f times plain C; bound %.2f, and %.2f for the measuring\n", row->what, row->state == NULL ? "" : ", ",
+            row->state == NULL ? "" : row->state, least[LIBRARY] / least[PLAIN], row->bound, MARGIN);
+}
+
+double bench_row(const struct row *row) {
     double least[SIDES] = {1e12, 1e12, 1e12};
     measure(row, least);
     if (is_above(row, least)) measure(row, least);
     printf("%-49s %9.*f %9.*f %13.2f %11.*f %14.2f\n", row->what, row->places, least[LIBRARY], row->places, least[PLAIN], least[LIBRARY] / least[PLAIN], row->places,
            least[SAME], least[LIBRARY] / least[SAME]);
     fflush(stdout);
-    if (!is_above(row, least)) return;
-    fprintf(above, "above its bound: %s%s%s: %.3f times plain C; bound %.2f, and %.2f for the measuring\n", row->what, row->state == NULL ? "" : ", ",
-            row->state == NULL ? "" : row->state, least[LIBRARY] / least[PLAIN], row->bound, MARGIN);
+    if (is_above(row, least)) tell_above(row, least);
+    return least[LIBRARY];
+}
+
+void bench_faster(const char *what, double times) {
+    printf("%-49s %9.0f\n", what, times);
+    if (times < FASTER) fprintf(above, "above its bound: %s: %.0f times; at least %d\n", what, times, FASTER);
 }

@@ -2,8 +2,8 @@
  * The command rpr: runs the command that its first word names, and ends with that command's status.
  *
  * The commands are exported functions of the crate `commands`, and proved. This file is not proved. It is trusted to do what the kit says of the calls rattle_..: open a file for
- * reading, keep errno, and hand over the words of the command line. It is trusted to choose the command and to hand on its status. What a command
- * reads of its words and files, and what it prints, is theirs.
+ * reading, keep errno, and hand over the words of the command line. It is trusted to choose the command, to lend roll and unroll memory that nothing else uses, of the
+ * lengths that it names, and to hand on the status. What a command reads of its words and files, and what it prints, is theirs.
  */
 #define _POSIX_C_SOURCE 200809L
 #include <errno.h>
@@ -49,6 +49,17 @@ intptr_t rattle_arg(size_t i, uint8_t *buf, size_t n) {
 uint64_t rpr_main_summarize(void);
 uint64_t rpr_main_join(void);
 uint64_t rpr_main_compare(void);
+uint64_t rpr_main_roll(uint8_t *record, size_t record_length, uint8_t *room, size_t room_length);
+uint64_t rpr_main_unroll(uint8_t *record, size_t record_length, uint8_t *room, size_t room_length);
+
+/* What roll and unroll are lent: bytes to read a record into, and a room for what they write, as long as the longest record without runs. Behind 999,999 events a run may
+ * stand, which passes the million: with its bytes too, the fault of any longer file is among the bytes that are read. */
+static uint8_t record[RPR_RECORD_MOST - RPR_RECORD_EVENT_LENGTH + RPR_RECORD_RUN_LENGTH];
+static uint8_t room[RPR_RECORD_MOST];
+
+static uint64_t roll(void) { return rpr_main_roll(record, sizeof record, room, sizeof room); }
+
+static uint64_t unroll(void) { return rpr_main_unroll(record, sizeof record, room, sizeof room); }
 
 static const struct command {
     const char *name;
@@ -66,6 +77,14 @@ static const struct command {
     {"compare", rpr_main_compare,
      "rpr compare FIRST SECOND\n"
      "    Where two records, files of bytes, part, and the summary of each. Status: 0 the same, 1 different, 2 refused or trouble.\n"},
+    {"roll", roll,
+     "rpr roll [FILE]\n"
+     "    A record without runs, as bytes, with its equal ticks in runs, the longest that can be. It reads FILE, or standard input.\n"
+     "    Status: 0 done, 1 refused, 2 trouble.\n"},
+    {"unroll", unroll,
+     "rpr unroll [FILE]\n"
+     "    A record, as bytes, with each of its runs as single ticks: what roll wrote comes back. It reads FILE, or standard input.\n"
+     "    Status: 0 done, 1 refused, 2 trouble.\n"},
 };
 enum { COMMANDS = sizeof commands / sizeof commands[0] };
 

@@ -1,4 +1,4 @@
-/* Stations with something changed, the library beside plain C: what edges.c and edges_methods.c share. */
+/* Stations with something changed, the library beside plain C: what edges.c and edges_methods.c share; and records, in edges_runs.c. */
 #ifndef EDGES_H
 #define EDGES_H
 
@@ -27,5 +27,8 @@ static inline void change(uint8_t *station, unsigned at, uint32_t v) { put(stati
 /* What methods go by: their settings, the intervals since a change and the local fair rate at the ends of their ranges; and intervals at
  * and around each edge of their steps. */
 void each_method(uint8_t *station);
+
+/* Records with one number of an item changed, with long runs, and around the millionth event. */
+void each_item(void);
 
 #endif

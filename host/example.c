@@ -4,7 +4,8 @@
  * The host owns the clock, the link and the memory. It ticks, offers frames as they come, sends what is selected, calls
  * the aging interval, hears fairness frames and tells its own. Beside this it keeps the record of one shaper, C, in two
  * pieces, and in the end joins the pieces' summaries: from the credit at the start they give the credit that the
- * station shows. Every answer is looked at; anything unexpected ends the program with status 1.
+ * station shows. Then the clients rest, and the record of that is kept in runs. Every answer is looked at; anything
+ * unexpected ends the program with status 1.
  *
  *     cc -std=c11 example.c $(pkg-config --cflags --libs rpr) -o example
  */
@@ -329,6 +330,40 @@ static void account_for_c(const struct host *host) {
            whole.lo_limit, end, shown);
 }
 
+/* ---- at rest ---- */
+
+/* No client frame waits, and what was taken in is sent: C's record has the same tick again and again. */
+static void rest(struct host *host, struct piece *piece) {
+    memset(host->waiting, 0, sizeof host->waiting);
+    begin_piece(host, piece);
+    for (unsigned now = 1; now <= MOST_EVENTS; now++) {
+        tick(host);
+        send_next(host);
+        if (now % host->settings.ticks_per_interval == 0)
+            carried_out("age", rpr_age(host->station, sizeof host->station));
+    }
+}
+
+/* Keeps the record in runs, for which a room as long as itself is enough. It comes back byte for byte, and comes to the
+ * same in either form. */
+static void keep_in_runs(struct host *host) {
+    static struct piece piece, kept, back;
+    uint32_t before = show(host).credit_c;
+    rest(host, &piece);
+    kept.length = rpr_written_of(
+        carried_out("roll", rpr_roll(piece.bytes, piece.length, kept.bytes, sizeof kept.bytes)));
+    back.length = rpr_written_of(
+        carried_out("unroll", rpr_unroll(kept.bytes, kept.length, back.bytes, sizeof back.bytes)));
+    must(back.length == piece.length && memcmp(back.bytes, piece.bytes, back.length) == 0, "the record comes back");
+    puts("\nAt rest, C's record one by one and in runs:");
+    struct rpr_summary whole = summarize(&piece), in_runs = summarize(&kept);
+    must(memcmp(&whole, &in_runs, sizeof whole) == 0, "both forms come to the same");
+    uint64_t settled = carried_out("settle", rpr_settle(&in_runs, sizeof in_runs, before));
+    must(rpr_settled_end_credit(settled) == show(host).credit_c, "the record's credit is the station's");
+    printf("Kept: %zu bytes in place of %zu. From credit %u to %u: accounted for.\n", kept.length, piece.length, before,
+           rpr_settled_end_credit(settled));
+}
+
 int main(void) {
     static struct host host;
     start(&host);
@@ -337,5 +372,6 @@ int main(void) {
     choose_pair();
     run_minute(&host);
     account_for_c(&host);
+    keep_in_runs(&host);
     return fflush(stdout) == 0 ? 0 : 1;
 }

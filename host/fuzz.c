@@ -1,5 +1,5 @@
 /*
- * Bytes as a sequence of calls on one station, some summaries and a ring: the entry of libFuzzer.
+ * Bytes as a sequence of calls on one station, some summaries, records and a ring: the entry of libFuzzer.
  *
  * A step is a byte for the call, a byte that says how, and what the call is given. A number is one byte below 192, or two or
  * eight bytes behind a greater one. Where the input ends, zeros follow.
@@ -20,8 +20,9 @@ struct input {
     size_t left;
 };
 
-/* What calls have left: a station in range, a frame that was written, summaries. */
+/* What calls have left: a station in range, a frame that was written, summaries, and a record that was rolled or unrolled. */
 static uint8_t station[RPR_STATION_LENGTH], frame[RPR_FRAME_LENGTH], summaries[SUMMARIES][RPR_SUMMARY_LENGTH];
+static struct slice moved;
 
 static uint8_t byte(struct input *in) {
     if (in->left == 0) return 0;
@@ -92,28 +93,49 @@ static void fairness(struct input *in, struct slice *s, unsigned how) {
     }
 }
 
-/* A record of a header and some events: kinds 1 to 3 and any number. */
-static void record(struct input *in, struct slice *s) {
+/* Two bytes at the end of a slice. */
+static void put16(struct slice *s, uint64_t v) {
+    s->bytes[s->length++] = (uint8_t)v;
+    s->bytes[s->length++] = (uint8_t)(v >> 8);
+}
+
+/* A record of a header and some items: kinds 1 to 3 and any number, or a run of ticks of kind 1 or 2, any amount and any count; or the record that was moved last. */
+static void record(struct input *in, struct slice *s, unsigned how) {
     static const uint8_t header[14] = {14, 0, 16, 0, 64, 0, 100, 0, 0, 0, 44, 1, 0, 0};
-    unsigned events = byte(in) % 200;
     set(s, header, sizeof header);
-    for (unsigned i = 0; i < events && in->left > 0; i++, s->length += 6) {
+    if (how & SECOND && moved.length > 0) {
+        set(s, moved.bytes, moved.length);
+        return;
+    }
+    unsigned items = byte(in) % 200;
+    for (unsigned i = 0; i < items && in->left > 0; i++) {
         unsigned kind = byte(in);
         uint64_t n = kind < 128 ? byte(in) : word(in, 2);
-        uint8_t *event = s->bytes + s->length;
-        event[0] = 6, event[1] = 0, event[2] = (uint8_t)(1 + kind % 3), event[3] = 0, event[4] = (uint8_t)n, event[5] = (uint8_t)(n >> 8);
+        int run = kind >= 192;
+        put16(s, run ? 10 : 6), put16(s, run ? RPR_RUN : 1 + kind % 3);
+        if (run) put16(s, 1 + kind % 2);
+        put16(s, n);
+        if (run) put16(s, number(in));
     }
 }
 
 /* ---- calls ---- */
 
-/* The rooms' lengths. */
+/* The rooms' lengths. A record is moved into a room of any length; where the input names none, into the longest. */
 static const size_t rooms[CALLS] = {
     [call_write_frame] = RPR_FRAME_LENGTH,
     [call_show] = RPR_READING_LENGTH,
     [call_summarize] = RPR_SUMMARY_LENGTH,
     [call_join] = RPR_SUMMARY_LENGTH,
+    [call_roll] = MOST_LENGTH - 1,
+    [call_unroll] = MOST_LENGTH - 1,
 };
+
+static int moves(enum call call) { return call == call_roll || call == call_unroll; }
+
+static size_t room_length(struct input *in, enum call call, unsigned how) {
+    return moves(call) && how & RAW ? (size_t)number(in) % MOST_LENGTH : rooms[call];
+}
 
 /* A slice of a call as a host lends it. */
 static void lay_out(struct input *in, struct request *r, int at, unsigned how) {
@@ -122,8 +144,8 @@ static void lay_out(struct input *in, struct request *r, int at, unsigned how) {
         case HOLDS_settings: settings(in, s); break;
         case HOLDS_station: set(s, station, sizeof station); break;
         case HOLDS_frame: fairness(in, s, how); break;
-        case HOLDS_record: record(in, s); break;
-        case HOLDS_room: set_room(s, rooms[r->call], (uint8_t)how); break;
+        case HOLDS_record: record(in, s, how); break;
+        case HOLDS_room: set_room(s, room_length(in, r->call, how), (uint8_t)how); break;
         case HOLDS_summary: set(s, summaries[byte(in) % SUMMARIES], RPR_SUMMARY_LENGTH); break;
         case NO_SLICE: break;
     }
@@ -157,12 +179,13 @@ static void spoil(struct input *in, struct request *r, unsigned how) {
 }
 
 /* What a call that was carried out left in its room. */
-static void keep_room(enum call call, const struct slice *room, unsigned how) {
-    if (call == call_write_frame) {
+static void keep_room(const struct request *r, const struct slice *room, unsigned how) {
+    if (r->call == call_write_frame) {
         memcpy(frame, room->bytes, sizeof frame);
         frame[7] ^= 1;
     }
-    if (call == call_summarize || call == call_join) memcpy(summaries[how % SUMMARIES], room->bytes, RPR_SUMMARY_LENGTH);
+    if (r->call == call_summarize || r->call == call_join) memcpy(summaries[how % SUMMARIES], room->bytes, RPR_SUMMARY_LENGTH);
+    if (moves(r->call)) set(&moved, room->bytes, rpr_written_of(r->answer));
 }
 
 /* What a call that was carried out left is what later calls are given. */
@@ -171,7 +194,7 @@ static void keep(const struct request *r, unsigned how) {
         const struct slice *s = &r->slices[i];
         enum holds holds = signatures[r->call].parameters[i].holds;
         if (holds == HOLDS_station && in_range(s->bytes)) memcpy(station, s->bytes, sizeof station);
-        if (holds == HOLDS_room) keep_room(r->call, s, how);
+        if (holds == HOLDS_room) keep_room(r, s, how);
     }
 }
 
@@ -187,12 +210,13 @@ static unsigned step(struct input *in, enum call call, unsigned how) {
     return number;
 }
 
-/* A station of small settings, and empty summaries. */
+/* A station of small settings, empty summaries, and no record. */
 static void begin(void) {
     static const uint8_t nothing[1];
     struct input none = {nothing, 0};
     memset(station, 0, sizeof station);
     memset(frame, 0, sizeof frame);
+    moved.length = 0;
     if (step(&none, call_start, 0) != 0) __builtin_trap();
     for (unsigned i = 0; i < SUMMARIES; i++)
         if (step(&none, call_summarize, i) != 0) __builtin_trap();

@@ -1,4 +1,4 @@
-/* The fuzz target: bytes become calls (fuzz.c), and each call is held to what every call promises (fuzz_check.c). */
+/* The fuzz target: bytes become calls (fuzz.c), and each call is held to what every call promises (fuzz_check.c, for records with runs fuzz_runs.c). */
 #ifndef FUZZ_H
 #define FUZZ_H
 
@@ -44,11 +44,12 @@ struct slice {
     int at_start; /* it lies at the start of its page, else at the end */
 };
 
-/* A call with all that it is given, a number or a slice at the place of each parameter. */
+/* A call with all that it is given, a number or a slice at the place of each parameter; and what the library answered. */
 struct request {
     enum call call;
     struct slice slices[PARAMETERS];
     uint64_t numbers[PARAMETERS];
+    uint64_t answer;
 };
 
 /* Makes the call with the library and with plain C. Ends the program where a promise is broken. The refusal's number, 0 where
@@ -57,5 +58,11 @@ unsigned make(struct request *r);
 
 /* rpr_show takes these bytes for a station in range. */
 int in_range(const uint8_t *station);
+
+/* Of a call on a record, which left this in its room: it is moved there and back, and each form comes to the same. */
+void check_runs(const struct request *r, uint64_t answer, const uint8_t *room);
+
+/* A promise is broken: says of what call and how, and ends the program. */
+_Noreturn void fail(const struct request *r, uint64_t answer, const char *what);
 
 #endif

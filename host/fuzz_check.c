@@ -39,6 +39,8 @@ static const struct {
     [call_settle] = {REFUSES(2, 3, 2, 3), BYTE(1, 1) | BYTE(4, 0x1fffff)},
     [call_station_length] = {0, UINT64_MAX},
     [call_version] = {0, UINT64_MAX},
+    [call_roll] = {REFUSES(2, 1, 3, 9) | REFUSES(12, 12, 12, 12), BYTE(4, 0x7fffff)},
+    [call_unroll] = {REFUSES(2, 1, 3, 9) | REFUSES(12, 12, 12, 12), BYTE(4, 0x7fffff)},
 };
 
 /* ---- what the list says ---- */
@@ -92,7 +94,7 @@ static uint64_t ask(const struct calls *side, const struct request *r, uint8_t *
     abort();
 }
 
-_Noreturn static void fail(const struct request *r, uint64_t answer, const char *what) {
+void fail(const struct request *r, uint64_t answer, const char *what) {
     fprintf(stderr, "rpr_%s: %s; answer %#llx", signatures[r->call].name, what, (unsigned long long)answer);
     for (int i = 0; i < PARAMETERS && signatures[r->call].parameters[i].kind != NONE; i++) {
         if (lent(r, i)) fprintf(stderr, " [%zu bytes]", r->slices[i].length);
@@ -323,7 +325,7 @@ unsigned make(struct request *r) {
         places[i] = place(i, &r->slices[i]);
         lend(i, &r->slices[i]);
     }
-    uint64_t answer = ask(&library, r, places);
+    uint64_t answer = r->answer = ask(&library, r, places);
     unsigned number = check_answer(r, answer);
     check_slices(r, answer, number);
     for (int i = 0; i < PARAMETERS; i++)
@@ -333,6 +335,7 @@ unsigned make(struct request *r) {
     check_smoothed(r, answer);
     check_method(r, answer, number);
     check_short(r, answer);
+    if (signatures[r->call].parameters[0].holds == HOLDS_record) check_runs(r, answer, places[1]);
     check_plain(r, answer);
     tally[r->call][number]++;
     for (int i = 0; i < PARAMETERS; i++)

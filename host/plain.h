@@ -2,7 +2,7 @@
  * The calls of rpr.h in plain C: what the library is compared with in `make bench`. The same bytes, the same checks in the
  * same order, the same answers. A call looks at the lent bytes where they lie, and then changes the few fields it is about.
  *
- * The station is in plain.c and plain_range.c, ringlet choice and path in plain_ring.c, records and summaries in plain_record.c.
+ * The station is in plain.c and plain_range.c, ringlet choice and path in plain_ring.c, records and summaries in plain_record.c, which reads items by plain_record.h.
  *
  * Compiled with SAME_ALGORITHM it is C with the library's own algorithm, for a second comparison: records are summed by same_record.h, the queues of a station are
  * tested by same_range.h, and plain_compare.c sums equal windows once.

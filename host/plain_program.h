@@ -12,11 +12,10 @@
 #include <unistd.h>
 
 #include "plain.h"
-#include "rpr.h"
+#include "plain_record.h"
 
-/* A window is the record's header and at most 5,000 of its events. A page of text is written once there is no room for another line. */
-enum { HEADER = RPR_RECORD_HEADER_LENGTH, EVENT = RPR_RECORD_EVENT_LENGTH, EVENTS = 5000, WINDOW = HEADER + EVENT * EVENTS };
-enum { PAGE = 65536, LONGEST_LINE = 128 };
+/* A window is the record's header and as many bytes of its items as 5,000 events take. A page of text is written once there is no room for another line. */
+enum { EVENTS = 5000, WINDOW = HEADER + EVENT * EVENTS, PAGE = 65536, LONGEST_LINE = 128 };
 
 /* How a program ends: 0 and 1 are the command's own. */
 enum { TROUBLE = 2 };
@@ -84,15 +83,16 @@ static void put_line(const char *word, int64_t number) {
     end_line();
 }
 
-static void put_summary(const struct rpr_summary *sum) {
-    uint64_t settled = plain_settle(sum, sizeof *sum, sum->lo_limit);
-    put_line("events ", sum->events);
-    put_line("accrued ", (int64_t)sum->accrued);
-    put_line("sent ", (int64_t)sum->sent);
-    put_line("ceiling ", sum->ceiling);
-    put_line("need ", (int64_t)sum->need);
+static void put_summary(const struct sum *of) {
+    struct rpr_summary sum = summary_of(of);
+    uint64_t settled = plain_settle(&sum, sizeof sum, sum.lo_limit);
+    put_line("events ", sum.events);
+    put_line("accrued ", (int64_t)sum.accrued);
+    put_line("sent ", (int64_t)sum.sent);
+    put_line("ceiling ", sum.ceiling);
+    put_line("need ", (int64_t)sum.need);
     put_text("start ");
-    put_number(sum->lo_limit);
+    put_number(sum.lo_limit);
     if (rpr_settled_permitted(settled)) {
         put_line(" permitted end ", rpr_settled_end_credit(settled));
     } else {
@@ -103,25 +103,28 @@ static void put_summary(const struct rpr_summary *sum) {
 
 /* ---- a record, window by window ---- */
 
-/* The window at hand with its length in bytes, and what the record so far comes to. */
+/* The window at hand with its length in bytes, where its last whole item ends, and what the record so far comes to. It is the first where none was summed. */
 struct window {
-    struct rpr_summary sum;
-    size_t length;
+    struct sum sum;
+    int begun;
+    size_t length, end;
     uint8_t bytes[WINDOW];
 };
 
-/* The first window, which is the record's front, tested and summed: 0, or its refusal. */
-static uint64_t sum_front(struct window *w) { return plain_summarize(w->bytes, w->length, &w->sum, sizeof w->sum); }
-
-/* The next window, tested and joined to the sum so far: 0, or its refusal. No more events are looked at than may come: any byte behind the last of them
- * gives 9. */
-static uint64_t sum_more(struct window *w) {
-    struct rpr_summary before = w->sum, behind;
-    size_t most = HEADER + EVENT * (size_t)(RPR_MOST_EVENTS - before.events);
-    uint64_t refusal = plain_summarize(w->bytes, w->length < most ? w->length : most, &behind, sizeof behind);
+/* The window, tested and summed behind those before: 0, or its refusal. One that is full may end within an item, of which the rest is still to come. */
+static uint64_t sum_window(struct window *w) {
+    uint64_t refusal = w->begun ? 0 : sum_header(w->bytes, w->length, &w->sum);
     if (refusal != 0) return refusal;
-    if (w->length > most) return RPR_MANY_EVENTS;
-    return plain_join(&before, sizeof before, &behind, sizeof behind, &w->sum, sizeof w->sum);
+    w->begun = 1;
+    refusal = sum_items(w->bytes + HEADER, w->length - HEADER, &w->sum, &w->end);
+    w->end += HEADER;
+    return refusal == RPR_BYTES && w->length == WINDOW && w->length - w->end < RUN ? 0 : refusal;
+}
+
+/* The window is to be filled anew, behind the item that it ends within. */
+static void move_on(struct window *w) {
+    memmove(w->bytes + HEADER, w->bytes + w->end, w->length - w->end);
+    w->length -= w->end - HEADER;
 }
 
 #endif

@@ -1,91 +1,133 @@
 /* Shaper records and their summaries in plain C. */
 #include "plain.h"
 
-#include <string.h>
+#include "plain_record.h"
 
-#include "rpr.h"
+enum { MOST_AMOUNT = 65535, MOST_SIZE = 9216 };
 
-enum { MOST_EVENTS = 1000000, MOST_AMOUNT = 65535, MOST_SIZE = 9216, HEADER = 14, EVENT = 6 };
+/* ---- summaries of records ---- */
 
-static uint32_t get16(const uint8_t *p) {
-    uint16_t v;
-    memcpy(&v, p, sizeof v);
-    return v;
-}
-
-static uint32_t get32(const uint8_t *p) {
-    uint32_t v;
-    memcpy(&v, p, sizeof v);
-    return v;
-}
-
-static int settings_ok(const struct rpr_summary *s) {
-    return s->mtu >= 64 && s->mtu <= 9216 && s->lo_limit >= s->mtu && s->lo_limit <= 65536 && s->hi_limit > s->lo_limit &&
-           s->hi_limit <= 1048576;
-}
-
-/* What the events of a record so far come to. */
-struct tally {
-    int64_t accrued, sent, ceiling, need;
-};
-
-/* Events one by one, up to the last that may come: 0, or what the first with a fault is refused with. */
-static uint64_t sum_each(const uint8_t *record, size_t from, size_t to, const struct rpr_summary *s, struct tally *sum) {
-    int64_t hi = s->hi_limit, lo = s->lo_limit, mtu = s->mtu;
-    struct tally t = *sum;
-    for (size_t i = from; i < to; i++) {
-        const uint8_t *event = record + HEADER + EVENT * i;
-        uint32_t kind = get16(event + 2);
-        int64_t number = get16(event + 4);
-        if (get16(event) != EVENT) return 2;
-        if (kind == 1 || kind == 2) {
-            int64_t cut = kind == 1 ? hi : lo;
-            t.accrued += number;
-            t.ceiling = t.ceiling + number < cut ? t.ceiling + number : cut;
-        } else if (kind == 3) {
-            if (number < 16 || number > mtu) return 3;
-            int64_t asked = t.ceiling <= lo ? hi + 1 : lo + 1 - t.accrued + t.sent;
-            if (asked > t.need) t.need = asked;
-            t.sent += number;
-            t.ceiling -= number;
-        } else {
-            return 2;
-        }
-    }
-    *sum = t;
-    return 0;
-}
-
-#ifdef SAME_ALGORITHM
-#include "same_record.h"
-#endif
-
-/* The summary of a record, event by event. A byte after the millionth event, or a piece of an event at the end, is a fault
- * that stands behind those of the events before it. */
 uint64_t plain_summarize(const void *lent, size_t length, void *room, size_t room_length) {
     const uint8_t *record = lent;
+    struct sum sum;
+    size_t end;
     if (room_length != RPR_SUMMARY_LENGTH) return 2;
-    if (length < HEADER || get16(record) != HEADER || get16(record + 2) != 16) return 2;
-    struct rpr_summary s = {get16(record + 4), get32(record + 6), get32(record + 10), 0, 0, 0, 0, 0};
-    if (!settings_ok(&s)) return 1;
-    size_t whole = (length - HEADER) / EVENT, events = whole < MOST_EVENTS ? whole : MOST_EVENTS, done = 0;
-    struct tally t = {0, 0, s.hi_limit, 0};
-#ifdef SAME_ALGORITHM
-    done = sum_blocks(record, events, &s, &t);
-#endif
-    uint64_t refusal = sum_each(record, done, events, &s, &t);
+    uint64_t refusal = sum_header(record, length, &sum);
+    if (refusal == 0) refusal = sum_items(record + HEADER, length - HEADER, &sum, &end);
     if (refusal != 0) return refusal;
-    if (length > HEADER + EVENT * events) return events == MOST_EVENTS ? 9 : 2;
-    int64_t never = (int64_t)s.hi_limit + 1, need = t.need < never ? t.need : never;
-    s = (struct rpr_summary){s.mtu, s.lo_limit, s.hi_limit, (uint32_t)events, (uint64_t)t.accrued, (uint64_t)t.sent, t.ceiling, (uint64_t)need};
+    struct rpr_summary s = summary_of(&sum);
     memcpy(room, &s, sizeof s);
     return 0;
 }
 
+/* ---- shorter records, and the way back: tested and measured first, then written ---- */
+
+static void put16(uint8_t *p, uint32_t v) {
+    uint16_t low = (uint16_t)v;
+    memcpy(p, &low, sizeof low);
+}
+
+/* The answer of a call that wrote so many bytes. */
+static uint64_t wrote(size_t bytes) { return (uint64_t)bytes << 32; }
+
+/* A record of the old form: 0, or its first fault; and the bytes that it takes in runs. The second of equal ticks makes a run of the first, and no other of the
+ * run takes a byte. */
+static uint64_t measure_rolled(const uint8_t *record, size_t length, size_t *bytes) {
+    struct sum sum;
+    uint64_t refusal = sum_header(record, length, &sum);
+    if (refusal != 0) return refusal;
+    size_t run = 0, taken = HEADER;
+    for (size_t at = HEADER; at < length; at += EVENT) {
+        struct item item;
+        refusal = read_event(record + at, length - at, sum.events++, sum.mtu, &item);
+        if (refusal != 0) return refusal;
+        if (item.kind == RPR_SEND) run = 0;
+        else if (run > 0 && run < RPR_MOST_COUNT && memcmp(record + at, record + at - EVENT, EVENT) == 0) run++;
+        else run = 1;
+        taken += run < 2 ? EVENT : run == 2 ? RUN - EVENT : 0;
+    }
+    *bytes = taken;
+    return 0;
+}
+
+/* How many equal ticks begin with this event, at most as many as a run counts; a send is alone. */
+static size_t equal_ticks(const uint8_t *event, const uint8_t *end) {
+    size_t count = 1;
+    if (get16(event + 2) == RPR_SEND) return count;
+    for (const uint8_t *next = event + EVENT; next < end && count < RPR_MOST_COUNT && memcmp(next, event, EVENT) == 0; next += EVENT) count++;
+    return count;
+}
+
+uint64_t plain_roll(const void *lent, size_t length, void *room, size_t room_length) {
+    const uint8_t *event = lent, *end = event + length;
+    uint8_t *to = room;
+    size_t bytes;
+    uint64_t refusal = measure_rolled(lent, length, &bytes);
+    if (refusal != 0) return refusal;
+    if (room_length < bytes) return 12;
+    memcpy(to, event, HEADER);
+    to += HEADER, event += HEADER;
+    while (event < end) {
+        size_t count = equal_ticks(event, end);
+        if (count == 1) {
+            memcpy(to, event, EVENT);
+            to += EVENT;
+        } else {
+            put16(to, RUN), put16(to + 2, RPR_RUN);
+            memcpy(to + 4, event + 2, EVENT - 2);
+            put16(to + 8, (uint32_t)count);
+            to += RUN;
+        }
+        event += EVENT * count;
+    }
+    return wrote(bytes);
+}
+
+/* A record of either form: 0, or its first fault; and the bytes that it takes without runs. */
+static uint64_t measure_unrolled(const uint8_t *record, size_t length, size_t *bytes) {
+    struct sum sum;
+    struct item item;
+    uint64_t refusal = sum_header(record, length, &sum);
+    if (refusal != 0) return refusal;
+    for (size_t at = HEADER; at < length; at += item.length) {
+        refusal = read_item(record + at, length - at, sum.events, sum.mtu, &item);
+        if (refusal != 0) return refusal;
+        sum.events += item.count;
+    }
+    *bytes = HEADER + EVENT * (size_t)sum.events;
+    return 0;
+}
+
+uint64_t plain_unroll(const void *lent, size_t length, void *room, size_t room_length) {
+    const uint8_t *item = lent, *end = item + length;
+    uint8_t *to = room;
+    size_t bytes;
+    uint64_t refusal = measure_unrolled(lent, length, &bytes);
+    if (refusal != 0) return refusal;
+    if (room_length < bytes) return 12;
+    memcpy(to, item, HEADER);
+    to += HEADER, item += HEADER;
+    while (item < end) {
+        if (get16(item) == EVENT) {
+            memcpy(to, item, EVENT);
+            to += EVENT, item += EVENT;
+            continue;
+        }
+        uint8_t tick[EVENT];
+        put16(tick, EVENT);
+        memcpy(tick + 2, item + 4, EVENT - 2);
+        for (size_t count = get16(item + 8); count > 0; count--, to += EVENT) memcpy(to, tick, EVENT);
+        item += RUN;
+    }
+    return wrote(bytes);
+}
+
+/* ---- summaries ---- */
+
 static int64_t gain_of(const struct rpr_summary *s) { return (int64_t)s->accrued - (int64_t)s->sent; }
 
 static int summary_ok(const struct rpr_summary *s) {
-    if (!settings_ok(s) || s->events > MOST_EVENTS) return 0;
+    if (!settings_ok(s->mtu, s->lo_limit, s->hi_limit) || s->events > MOST_EVENTS) return 0;
     if (s->accrued > (uint64_t)MOST_AMOUNT * s->events || s->sent > (uint64_t)MOST_SIZE * s->events) return 0;
     int64_t hi = s->hi_limit, gain = gain_of(s);
     if (s->ceiling > hi || s->ceiling > hi + gain || s->ceiling < -(int64_t)MOST_SIZE * s->events) return 0;

@@ -7,7 +7,7 @@
 
 #include <fcntl.h>
 
-enum { DONE = 0, REFUSED = 1, BLOCK = 65536 };
+enum { DONE = 0, REFUSED = 1, AT_ONCE = 65536 };
 
 /* What a character of hex text is: the value of a digit, or one of these. */
 enum { BLANK = 16, OTHER = 17 };
@@ -15,7 +15,6 @@ enum { BLANK = 16, OTHER = 17 };
 static const char *name = "standard input";
 static int file = STDIN_FILENO;
 static struct window record;
-static int begun;        /* whether a window was summed */
 static uint64_t refusal; /* of the windows so far */
 
 static _Noreturn void refuse(uint64_t number, const char *words) {
@@ -24,11 +23,11 @@ static _Noreturn void refuse(uint64_t number, const char *words) {
     end_refused(name, number, words, REFUSED);
 }
 
-/* The window at hand is full, or the record's last. */
-static void sum_window(void) {
-    if (refusal == 0) refusal = begun ? sum_more(&record) : sum_front(&record);
-    begun = 1;
-    record.length = HEADER;
+/* The window at hand is full, or the record's last. Behind a refusal none is summed. */
+static void sum_more(void) {
+    if (refusal == 0) refusal = sum_window(&record);
+    if (refusal == 0) move_on(&record);
+    else record.length = HEADER;
 }
 
 static size_t read_some(uint8_t *room, size_t length) {
@@ -40,7 +39,7 @@ static size_t read_some(uint8_t *room, size_t length) {
 static void read_bytes(void) {
     for (size_t got; refusal == 0 && (got = read_some(record.bytes + record.length, WINDOW - record.length)) > 0;) {
         record.length += got;
-        if (record.length == WINDOW) sum_window();
+        if (record.length == WINDOW) sum_more();
     }
 }
 
@@ -48,9 +47,9 @@ static _Noreturn void refuse_text(void) { refuse(RPR_BYTES, "hex is expected, an
 
 /* Other text is refused before all that the record may be refused for, so the whole of it is looked at. */
 static void read_text(const uint8_t meaning[256]) {
-    static uint8_t block[BLOCK];
+    static uint8_t block[AT_ONCE];
     unsigned high = BLANK;
-    for (size_t got; (got = read_some(block, BLOCK)) > 0;) {
+    for (size_t got; (got = read_some(block, AT_ONCE)) > 0;) {
         for (size_t i = 0; i < got; i++) {
             unsigned digit = meaning[block[i]];
             if (digit == BLANK) continue;
@@ -61,7 +60,7 @@ static void read_text(const uint8_t meaning[256]) {
             }
             record.bytes[record.length++] = (uint8_t)(high << 4 | digit);
             high = BLANK;
-            if (record.length == WINDOW) sum_window();
+            if (record.length == WINDOW) sum_more();
         }
     }
     if (high != BLANK) refuse_text();
@@ -80,7 +79,7 @@ int main(int count, char **words) {
     }
     if (bytes) read_bytes();
     else read_text(meaning);
-    sum_window();
+    sum_more();
     if (refusal != 0) refuse(refusal, record_words(refusal));
     put_summary(&record.sum);
     flush();

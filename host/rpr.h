@@ -9,7 +9,7 @@
  * Answers.   Every call but rpr_version and rpr_station_length answers one uint64_t, read as eight bytes, byte 0 the
  *            lowest. Byte 0 is 0 where the call was carried out, else the number of a refusal, and then every lent byte
  *            is as it was and every other byte 0, but that a 6 says how far short: compare byte 0 with a number, not
- *            the whole answer. The functions at the end of this header take an answer apart.
+ *            the whole answer. rpr_answer.h has the refusals, and the functions that take an answer apart.
  * Memory.    The library keeps, allocates and prints nothing. A station is RPR_STATION_LENGTH bytes of the host's. It
  *            holds no address: between calls it may be copied, moved and stored. Its layout is the library's own.
  * Threads.   There is no global state: calls may run at the same time, as long as no byte that one of them may write
@@ -24,6 +24,8 @@
 
 #include <stddef.h>
 #include <stdint.h>
+
+#include "rpr_answer.h"
 
 #ifdef __cplusplus
 extern "C" {
@@ -46,38 +48,12 @@ extern "C" {
 /* The version of this interface. The first number grows where a host has to change what it calls or lends: from 2.0 on
  * a station is longer, from 3.0 on settings name the number of stations, which no frame's hops may reach, from 4.0 on
  * the method. What a host of an earlier version lends is refused with 2, and nothing is touched: compile it anew with
- * `stations`, `round_trip`, `ramp_dn` (0 is refused with 1) and `method` (0 is as before); start its stations anew. */
-#define RPR_VERSION "4.0"
+ * `stations`, `round_trip`, `ramp_dn` (0 is refused with 1) and `method` (0 is as before); start its stations anew.
+ * From 4.1 on records may have runs; a host that lends none goes on as it is. */
+#define RPR_VERSION "4.1"
 
 /* The version of the library that is linked: 256 times the first number and the second. Nothing is refused. */
 RPR_ANSWERS uint64_t rpr_version(void);
-
-/* ---- refusals ---- */
-
-/* Why a call was refused. Where several apply the order is 2, 1, 3, 13, 11, 10, 9, 4, 5, 6, 7, 8, and the first is
- * given; within a record the earliest fault counts instead, header first. */
-enum rpr_refusal {
-    RPR_CARRIED_OUT = 0, /* no refusal */
-
-    /* What was lent or said makes no sense: the host has a fault, or passes on somebody else's. */
-    RPR_SETTING = 1,      /* a setting, or a lent station's state, is outside its range */
-    RPR_BYTES = 2,        /* bytes are not a whole record, frame or station: another length, or another form */
-    RPR_RANGE = 3,        /* a frame, station index, summary (its settings too), starting credit or coded choice is
-                             outside its range */
-    RPR_BEYOND_RING = 13, /* a frame's hops reach the number of stations or more */
-
-    /* Not now: the same call may be carried out after a tick, a selection, an aging interval or a fairness frame. */
-    RPR_NO_ROOM = 4,    /* a frame's size exceeds the queue's space */
-    RPR_STAGE_FULL = 5, /* the stage already holds a frame */
-    RPR_NO_PERMIT = 6,  /* a needed shaper doesn't permit; rpr_shortfall_of says how far short */
-    RPR_FAIR_RATE = 7,  /* the congested fair rate would be passed */
-
-    /* About the ring, records and frames as they are. */
-    RPR_NO_WAY = 8,           /* no usable way */
-    RPR_MANY_EVENTS = 9,      /* over 1,000,000 events */
-    RPR_SETTINGS_DIFFER = 10, /* joined summaries have different settings */
-    RPR_OWN_ADDRESS = 11      /* a fairness frame bears this station's own address */
-};
 
 /* ---- codes ---- */
 
@@ -136,7 +112,8 @@ enum {
     RPR_FRAME_LENGTH = 12,         /* a fairness frame */
     RPR_SUMMARY_LENGTH = 48,       /* struct rpr_summary */
     RPR_RECORD_HEADER_LENGTH = 14, /* the header of a shaper record */
-    RPR_RECORD_EVENT_LENGTH = 6    /* each of its events */
+    RPR_RECORD_EVENT_LENGTH = 6,   /* each of its events */
+    RPR_RECORD_RUN_LENGTH = 10     /* each of its runs, whatever their counts */
 };
 
 /* ---- settings ---- */
@@ -294,17 +271,25 @@ RPR_ANSWERS uint64_t rpr_path(uint64_t stations, uint64_t own, uint64_t target, 
 
 /* ---- shaper records ---- */
 
-/* A record is a header and then events, little-endian. Header: length 14, kind 16, mtu (2 bytes each), lo_limit and
- * hi_limit (4 bytes each). Event: length 6, kind, and the amount or size (2 bytes each). A piece of a cut record is its
- * header and then the piece's events. */
+/* A record is a header and then items, little-endian. Header: length 14, kind 16, mtu (2 bytes each), lo_limit and
+ * hi_limit (4 bytes each). An item is an event: length 6, kind, and the amount or size (2 bytes each); or, from 4.1 on,
+ * a run, which stands for so many equal ticks: length 10, kind 4, the ticks' kind, 1 or 2, their amount, and their
+ * count, 2 to 65,535 (2 bytes each). The old form has no runs. Wherever a record is read it may be of either form, and
+ * its events are counted unrolled. A piece of a cut record is its header and then the piece's items; a cut within a run
+ * leaves a shorter run, or a single tick, on each side. */
 enum rpr_kind {
     RPR_WAITING_TICK = 1, /* a tick while traffic waits, and its amount */
     RPR_IDLE_TICK = 2,    /* a tick while none waits, and its amount */
     RPR_SEND = 3,         /* a send, and its size: 16 to mtu */
+    RPR_RUN = 4,          /* a run: the kind of its ticks, their amount, their count */
     RPR_HEADER = 16
 };
 
-enum { RPR_MOST_EVENTS = 1000000 }; /* the most events of a record, and of a summary */
+enum {
+    RPR_MOST_EVENTS = 1000000, /* the most events of a record, and of a summary */
+    RPR_MOST_COUNT = 65535,    /* the most ticks of a run */
+    RPR_RECORD_MOST = RPR_RECORD_HEADER_LENGTH + RPR_RECORD_EVENT_LENGTH * RPR_MOST_EVENTS /* bytes: 6,000,014 */
+};
 
 /* A summary of a shaper record: what its events do to any starting credit. */
 struct rpr_summary {
@@ -318,8 +303,11 @@ struct rpr_summary {
 RPR_HOLDS(sizeof(struct rpr_summary) == RPR_SUMMARY_LENGTH);
 RPR_HOLDS(offsetof(struct rpr_summary, accrued) == 16 && offsetof(struct rpr_summary, need) == 40);
 
-/* Leaves in the room the summary of a record's bytes. Refuses 2 (a room that is not RPR_SUMMARY_LENGTH bytes), then the
- * record's earliest fault: 2, 1, 3 or 9. */
+/* Leaves in the room the summary of a record's bytes, of either form: a record and its rolled or unrolled form have the
+ * same summary. Refuses 2 (a room that is not RPR_SUMMARY_LENGTH bytes), then the record's earliest fault, header first
+ * and then item by item: 2, 1, 3 or 9. At an item: 9 (any byte behind 1,000,000 events), 2 (cut short, another length
+ * than its kind's, no known kind), 3 (a send's size), 2 (the ticks' kind or the count of a run), 9 (a run that passes
+ * 1,000,000 events). */
 RPR_LENT uint64_t rpr_summarize(const void *record, size_t record_length, void *room, size_t room_length);
 
 /* Leaves in the room the summary of the first's events and then the second's: of the whole record, where they are
@@ -331,66 +319,24 @@ RPR_LENT uint64_t rpr_join(const void *first, size_t first_length, const void *s
  * rpr_settled_permitted, rpr_settled_end_credit. Refuses 2, 3 (the summary or the credit outside its range). */
 RPR_LENT uint64_t rpr_settle(const void *summary, size_t summary_length, uint64_t start);
 
-/* ---- taking an answer apart ---- */
+/* ---- shorter records, and the way back ---- */
 
-/* Of any call's answer: the number of the refusal, or RPR_CARRIED_OUT. The functions below look at it first. */
-static inline unsigned rpr_refusal_of(uint64_t answer) { return (unsigned)(answer & 0xff); }
-#define RPR_IF(number) (rpr_refusal_of(answer) == (number) ? answer : 0) /* the answer that has this number */
+/* Leaves in the room a record of the old form with its equal ticks in runs: from the front, always the longest run that
+ * can be, up to RPR_MOST_COUNT; a tick left alone stays a tick, and so does every send. Answers the bytes written,
+ * rpr_written_of; bytes of the room behind them stay. They are never more than the record's own: as long a room is
+ * enough. Refuses the record's earliest fault: 2 (a run too, whatever it holds), 1, 3 or 9; then 12, and then nothing
+ * is written. */
+RPR_LENT uint64_t rpr_roll(const void *record, size_t record_length, void *room, size_t room_length);
 
-/* rpr_offer_client refused with 6: the bytes missing, 1 to 65,537; 0 of any other answer, and up to version 1.2. It is
- * the least amount whose addition would make the credit of each needed shaper exceed its lo_limit: A for class A, C and
- * D for class C, and for class B too, which was tried as excess; its own share, B and D, may permit it sooner. */
-static inline uint32_t rpr_shortfall_of(uint64_t answer) { return (uint32_t)(RPR_IF(RPR_NO_PERMIT) >> 32); }
-
-/* The others read the answer of the call that they are named for; of a refusal they give 0.
- * rpr_offer_client: RPR_YES where the frame is marked fairness eligible. */
-static inline unsigned rpr_mark_of(uint64_t answer) { return (unsigned)(RPR_IF(0) >> 32 & 0xff); }
-
-/* rpr_select: the frame's origin (enum rpr_origin), class (enum rpr_class), hops, fairness eligible mark and size. */
-static inline unsigned rpr_selected_origin(uint64_t answer) { return (unsigned)(RPR_IF(0) >> 8 & 0xff); }
-static inline unsigned rpr_selected_class(uint64_t answer) { return (unsigned)(RPR_IF(0) >> 16 & 0xff); }
-static inline unsigned rpr_selected_hops(uint64_t answer) { return (unsigned)(RPR_IF(0) >> 24 & 0xff); }
-static inline unsigned rpr_selected_eligible(uint64_t answer) { return (unsigned)(RPR_IF(0) >> 32 & 0xff); }
-static inline unsigned rpr_selected_size(uint64_t answer) { return (unsigned)(RPR_IF(0) >> 48); }
-
-/* rpr_choose: RPR_LEFT or RPR_RIGHT, the hops to the target on that side, the ttl, and RPR_YES for the wrap mark. */
-static inline unsigned rpr_choice_side(uint64_t answer) { return (unsigned)(RPR_IF(0) >> 8 & 0xff); }
-static inline unsigned rpr_choice_distance(uint64_t answer) { return (unsigned)(RPR_IF(0) >> 16 & 0xff); }
-static inline unsigned rpr_choice_ttl(uint64_t answer) { return (unsigned)(RPR_IF(0) >> 24 & 0xff); }
-static inline unsigned rpr_choice_wrap_mark(uint64_t answer) { return (unsigned)(RPR_IF(0) >> 32 & 0xff); }
-
-/* rpr_path: RPR_YES where delivered, and the hops moved. */
-static inline unsigned rpr_path_delivered(uint64_t answer) { return (unsigned)(RPR_IF(0) >> 8 & 0xff); }
-static inline unsigned rpr_path_hops(uint64_t answer) { return (unsigned)(RPR_IF(0) >> 16 & 0xff); }
-
-/* rpr_settle: RPR_YES where every send was permitted, and the credit at the end, 0 where not permitted. */
-static inline unsigned rpr_settled_permitted(uint64_t answer) { return (unsigned)(RPR_IF(0) >> 8 & 0xff); }
-static inline uint32_t rpr_settled_end_credit(uint64_t answer) { return (uint32_t)(RPR_IF(0) >> 32); }
-
-/* What a refusal says, in short: of an answer, or of a refusal's number. */
-static inline const char *rpr_refusal_text(uint64_t answer) {
-    switch (rpr_refusal_of(answer)) {
-        case RPR_CARRIED_OUT: return "carried out";
-        case RPR_SETTING: return "a setting, or a lent station's state, is outside its range";
-        case RPR_BYTES: return "bytes are not a whole record, frame or station";
-        case RPR_RANGE: return "a frame, station index, summary, starting credit or coded choice is outside its range";
-        case RPR_BEYOND_RING: return "a frame's hops reach the number of stations or more";
-        case RPR_NO_ROOM: return "a frame's size exceeds the queue's space";
-        case RPR_STAGE_FULL: return "the stage already holds a frame";
-        case RPR_NO_PERMIT: return "a needed shaper doesn't permit";
-        case RPR_FAIR_RATE: return "the congested fair rate would be passed";
-        case RPR_NO_WAY: return "no usable way";
-        case RPR_MANY_EVENTS: return "over 1,000,000 events";
-        case RPR_SETTINGS_DIFFER: return "joined summaries have different settings";
-        case RPR_OWN_ADDRESS: return "a fairness frame bears this station's own address";
-        default: return "no number of this library";
-    }
-}
+/* Leaves in the room a record, of either form, in the old form: each run as its ticks, one by one, all else as it is.
+ * What rpr_roll left comes back byte for byte. Answers the bytes written, rpr_written_of; bytes of the room behind them
+ * stay. They are 14 and 6 for each event that rpr_summarize counts: RPR_RECORD_MOST are enough for any record. Refuses
+ * the record's earliest fault, as rpr_summarize: 2, 1, 3 or 9; then 12, and then nothing is written. */
+RPR_LENT uint64_t rpr_unroll(const void *record, size_t record_length, void *room, size_t room_length);
 
 #undef RPR_HOLDS
 #undef RPR_ANSWERS
 #undef RPR_LENT
-#undef RPR_IF
 
 #ifdef __cplusplus
 }

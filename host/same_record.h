@@ -1,8 +1,8 @@
 /*
- * Records in C with the library's own algorithm; part of plain_record.c where it is compiled with SAME_ALGORITHM. Whole blocks of 64 events are summed without a
+ * Records in C with the library's own algorithm; part of plain_record.h where it is compiled with SAME_ALGORITHM. Whole blocks of 64 events are summed without a
  * branch on what the events hold: eight parts of eight events each, every part from a neutral start, so that they run beside each other in the lanes of
- * vectors, and then the parts one behind the other. A block with a fault, and all behind it, is left to the loop over single events. A low that comes too late is 0 at once
- * here, where the library counts such lows and asks at the end.
+ * vectors, and then the parts one behind the other. A block with a fault or a run, and what follows up to that item, is left to the loop over single events; behind a
+ * run blocks begin anew. A low that comes too late is 0 at once here, where the library counts such lows and asks at the end.
  */
 #ifndef SAME_RECORD_H
 #define SAME_RECORD_H
@@ -18,7 +18,7 @@ enum { WAITING = 1 << 16 | EVENT, IDLE = 2 << 16 | EVENT, SEND = 3 << 16 | EVENT
 enum { ROOM = 1 << 20, UNSENT = 1 << 24 };
 
 /*
- * What a run of events does to the level, which is what ticks brought less what was sent. hiLimit less the ceiling is how far the level lies below the top: the
+ * What a stretch of events does to the level, which is what ticks brought less what was sent. hiLimit less the ceiling is how far the level lies below the top: the
  * highest that it was behind an event, where an idle tick counts as `rise` higher, hiLimit less loLimit. The top is kept less `rise`: a send at it or below comes when
  * the ceiling is at most loLimit.
  */
@@ -87,14 +87,18 @@ static inline int add_block(struct chain *sum, struct cuts c, const uint8_t *blo
     return 1;
 }
 
-/* The whole blocks up to the first with a fault. How many events they hold. */
-static size_t sum_blocks(const uint8_t *record, size_t events, const struct rpr_summary *s, struct tally *sum) {
-    int64_t hi = s->hi_limit, lo = s->lo_limit;
-    struct cuts c = {(int32_t)(hi - lo), (int32_t)s->mtu - 16};
-    struct chain t = {.accrued = 0, .level = LEVEL, .top = LEVEL, .low = LEVEL + lo + 1};
+/* The whole blocks of these events, at most so many events, up to the first with a fault or a run. How many events they hold. */
+static inline size_t sum_blocks(const uint8_t *items, size_t most, struct sum *sum) {
+    int64_t hi = sum->hi, lo = sum->lo, level = LEVEL + sum->accrued - sum->sent;
+    struct cuts c = {(int32_t)(hi - lo), (int32_t)sum->mtu - 16};
+    struct chain t = {.accrued = sum->accrued, .level = level, .top = level + hi - sum->ceiling, .low = LEVEL + lo + 1 - sum->need};
     size_t done = 0;
-    while (events - done >= BLOCK && add_block(&t, c, record + HEADER + EVENT * done)) done += BLOCK;
-    *sum = (struct tally){t.accrued, t.accrued + LEVEL - t.level, hi - (t.top - t.level), LEVEL + lo + 1 - t.low};
+    while (most - done >= BLOCK && add_block(&t, c, items + EVENT * done)) done += BLOCK;
+    sum->events += (int64_t)done;
+    sum->accrued = t.accrued;
+    sum->sent = t.accrued + LEVEL - t.level;
+    sum->ceiling = hi - (t.top - t.level);
+    sum->need = LEVEL + lo + 1 - t.low;
     return done;
 }
 

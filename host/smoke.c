@@ -1,34 +1,9 @@
-/* Calls each function about records and rings as a host would, and says what differs from document 01. */
+/* Calls each function about records of the old form and about rings as a host would, and says what differs from documents 01 and 02. */
 #include <stdlib.h>
 
-#include "smoke.h"
-
-enum { RECORD, FIRST, SECOND, ROOM };
-
-/* Document 01's limits, mtu 64, loLimit 100, hiLimit 300, and events. */
-#define HEADER 14, 0, 16, 0, 64, 0, 100, 0, 0, 0, 44, 1, 0, 0
-#define WAITING(amount) 6, 0, 1, 0, (amount), 0
-#define IDLE(amount) 6, 0, 2, 0, (amount), 0
-#define SEND(size) 6, 0, 3, 0, (size), 0
+#include "smoke_record.h"
 
 /* ---- records ---- */
-
-static void summarize(const char *what, const uint8_t *bytes, size_t length, uint64_t want) {
-    lend(RECORD, bytes, length);
-    lend_filled(ROOM, 0xaa, RPR_SUMMARY_LENGTH);
-    answered(what, rpr_summarize(LENT(RECORD), LENT(ROOM)), ROOM, want);
-}
-
-/* The room holds a summary with document 01's limits. */
-static void holds(const char *what, uint32_t events, uint64_t accrued, uint64_t sent, int64_t ceiling, uint64_t need) {
-    struct rpr_summary got, want = {64, 100, 300, events, accrued, sent, ceiling, need};
-    memcpy(&got, slices[ROOM].memory + GUARD, sizeof got);
-    if (memcmp(&got, &want, sizeof got) == 0) return;
-    printf("%s: events %u accrued %llu sent %llu ceiling %lld need %llu\n", what, got.events,
-           (unsigned long long)got.accrued, (unsigned long long)got.sent, (long long)got.ceiling,
-           (unsigned long long)got.need);
-    failures++;
-}
 
 /* P1 to P5, and the record that the summary program prints. */
 static void good_records(void) {
@@ -58,12 +33,12 @@ static void bad_records(void) {
     summarize("loLimit below the mtu", BYTES(14, 0, 16, 0, 64, 0, 63, 0, 0, 0, 44, 1, 0, 0), RPR_SETTING);
     summarize("hiLimit equal to loLimit", BYTES(14, 0, 16, 0, 64, 0, 100, 0, 0, 0, 100, 0, 0, 0), RPR_SETTING);
     summarize("an event of another length", BYTES(HEADER, 7, 0, 1, 0, 150, 0, 0), RPR_BYTES);
-    summarize("an unknown kind", BYTES(HEADER, 6, 0, 4, 0, 150, 0), RPR_BYTES);
+    summarize("an unknown kind", BYTES(HEADER, 6, 0, 5, 0, 150, 0), RPR_BYTES);
     summarize("a second header", BYTES(HEADER, HEADER), RPR_BYTES);
     summarize("a send of 15", BYTES(HEADER, SEND(15)), RPR_RANGE);
     summarize("a send over the mtu", BYTES(HEADER, SEND(65)), RPR_RANGE);
-    summarize("3, then 2", BYTES(HEADER, SEND(65), 6, 0, 4, 0, 0, 0), RPR_RANGE);
-    summarize("2, then 3", BYTES(HEADER, 6, 0, 4, 0, 0, 0, SEND(65)), RPR_BYTES);
+    summarize("3, then 2", BYTES(HEADER, SEND(65), 6, 0, 5, 0, 0, 0), RPR_RANGE);
+    summarize("2, then 3", BYTES(HEADER, 6, 0, 5, 0, 0, 0, SEND(65)), RPR_BYTES);
     lend(RECORD, good, sizeof good);
     for (size_t length = 0; length < 2 * RPR_SUMMARY_LENGTH; length++) {
         if (length == RPR_SUMMARY_LENGTH) continue;
@@ -74,18 +49,7 @@ static void bad_records(void) {
 
 /* ---- summaries ---- */
 
-/* Lends the summary of a record. */
-static void lend_summary(int slice, const uint8_t *bytes, size_t length) {
-    summarize("a piece", bytes, length, 0);
-    lend(slice, LENT(ROOM));
-}
-
 static void lend_made_up(int slice, struct rpr_summary summary) { lend(slice, &summary, sizeof summary); }
-
-static void join(const char *what, uint64_t want) {
-    lend_filled(ROOM, 0xaa, RPR_SUMMARY_LENGTH);
-    answered(what, rpr_join(LENT(FIRST), LENT(SECOND), LENT(ROOM)), ROOM, want);
-}
 
 static void joins(void) {
     lend_summary(FIRST, BYTES(HEADER, WAITING(150), SEND(60)));

@@ -1,7 +1,7 @@
 -- Parts of a record's events: their bounds, and that the events of a good part are passed.
 -- Assumes nothing.
 use Prim.Native.Nat.{ℕ, zero, suc, _+_, _-_, _*_, _≤_, _<_}
-use mathlib.Core.Bool.{true}
+use mathlib.Core.Bool.{Bool, true}
 use mathlib.Core.List.{List}
 use mathlib.Core.Path.{_≡_, refl}
 use native.Mathlib.Numerals.{add-one}
@@ -43,7 +43,7 @@ part-within rise mtu xs from (suc n) hr b h = rw (← add-one n) (after-within r
 
 -- ---- events passed
 
-module _ (l : Limits) (xs : List ℕ) (b : Bytes xs) where
+module _ (runs : Bool) (l : Limits) (xs : List ℕ) (b : Bytes xs) where
   abbrev rise : ℕ
   rise = l .hi - l .lo
 
@@ -71,12 +71,12 @@ module _ (l : Limits) (xs : List ℕ) (b : Bytes xs) where
 
   module _ (from n : ℕ) (t : Tally) (p : Ready l n t) (s : Steady rise t) where
     pub part-passed : (m : ℕ) → m ≤ 8 → n + m ≤ mostEvents → from + 6 * m ≤ length xs → made from m .good ≡ true →
-        Passed l xs from n t m (from + 6 * m) (appliedTo rise t (made from m)) × Steady rise (appliedTo rise t (made from m))
+        Passed runs l xs from n t m (from + 6 * m) (appliedTo rise t (made from m)) × Steady rise (appliedTo rise t (made from m))
     unfolding partOf
     part-passed zero h few room g =
         let hr = rise-max l n t p in
         let e = applied-none rise t hr (omega (arith, hr, p .within .level-min, p .few)) (p .within .peak-min) s in
-        rw (e, add-zero) (passed-none l xs from n t p, s)
+        rw (e, add-zero) (passed-none runs l xs from n t p, s)
     part-passed (suc m) h few room g =
         let at = from + 6 * m in
         let k = le 2 xs (at + 2) in
@@ -87,14 +87,14 @@ module _ (l : Limits) (xs : List ℕ) (b : Bytes xs) where
         let u = appliedTo rise t (made from m) in
         let hr = rise-max l n t p in
         let hv : v ≤ mostAmount = omega (arith, le-bound 2 xs (at + 4) b) in
-        let one = passed-one l xs at (n + m) u q (omega arith) b (omega arith) (before .1) in
+        let one = passed-one runs l xs at (n + m) u q (omega arith) b (omega arith) (before .1) in
         let kind = kind-by at (before .1) in
         let e =
         applied-grown rise v t (made from m) (omega (arith, hr, p .within .level-min, p .few)) (p .within .peak-min) k
         (test (good (l .mtu) (le 2 xs at) k v)) m (omega arith) hr hv (part-within rise (l .mtu) xs from m hr b (omega arith)) (q .within .peak-min) in
         let more : suc m ≡ m + 1 = omega arith in
         let behind : from + 6 * (m + 1) ≡ at + 6 = omega arith in
-        rw (kind .0, kind .1, e, more, behind) (passed-then l xs from n t m at u 1 (at + 6) _ (was .0) one, step-steady rise k v u hv (omega (arith, q .within .level-min, q .few)) (q .within .peak-min) (was .1))
+        rw (kind .0, kind .1, e, more, behind) (passed-then runs l xs from n t m at u 1 (at + 6) _ (was .0) one, step-steady rise k v u (λ e. hv) (omega (arith, q .within .level-min, q .few)) (q .within .peak-min) (was .1))
 
   -- part behind part
   module _ (from n : ℕ) (t : Tally) (p : Ready l n t) (s : Steady rise t) where
@@ -102,9 +102,9 @@ module _ (l : Limits) (xs : List ℕ) (b : Bytes xs) where
     row j = made (from + 48 * j) 8
 
     pub row-passed : (k : ℕ) → n + 8 * k ≤ mostEvents → from + 48 * k ≤ length xs → ((j : ℕ) → j < k → row j .good ≡ true) →
-        Passed l xs from n t (8 * k) (from + 48 * k) (appliedBy rise t row k) × Steady rise (appliedBy rise t row k)
+        Passed runs l xs from n t (8 * k) (from + 48 * k) (appliedBy rise t row k) × Steady rise (appliedBy rise t row k)
     unfolding appliedBy
-    row-passed zero few room g = rw add-zero (passed-none l xs from n t p, s)
+    row-passed zero few room g = rw add-zero (passed-none runs l xs from n t p, s)
     row-passed (suc k) few room g =
         let was = row-passed k (omega arith) (omega arith) (λ j h. g j (omega arith)) in
         let at = from + 48 * k in
@@ -112,4 +112,12 @@ module _ (l : Limits) (xs : List ℕ) (b : Bytes xs) where
         let one = part-passed at (n + 8 * k) u (was .0 .ready) (was .1) 8 (omega arith) (omega arith) (omega arith) (g k (omega arith)) in
         let more : 8 * suc k ≡ 8 * k + 8 = omega arith in
         let behind : from + 48 * suc k ≡ at + 48 = omega arith in
-        rw (more, behind) (passed-then l xs from n t (8 * k) at u 8 (at + 48) _ (was .0) (one .0), one .1)
+        rw (more, behind) (passed-then runs l xs from n t (8 * k) at u 8 (at + 48) _ (was .0) (one .0), one .1)
+
+-- in either form: what is passed holds no run
+pub rows-passed : (l : Limits) (xs : List ℕ) (b : Bytes xs) (from n : ℕ) (t : Tally) (p : Ready l n t) (s : Steady (l .hi - l .lo) t) (k : ℕ) → n + 8 * k ≤ mostEvents →
+    from + 48 * k ≤ length xs → ((j : ℕ) → j < k → partOf (l .hi - l .lo) (l .mtu) xs (from + 48 * j) 8 .good ≡ true) →
+    ((runs : Bool) → Passed runs l xs from n t (8 * k) (from + 48 * k) (appliedBy (l .hi - l .lo) t (λ j. partOf (l .hi - l .lo) (l .mtu) xs (from + 48 * j) 8) k))
+    × Steady (l .hi - l .lo) (appliedBy (l .hi - l .lo) t (λ j. partOf (l .hi - l .lo) (l .mtu) xs (from + 48 * j) 8) k)
+rows-passed l xs b from n t p s k few room g =
+    (λ runs. row-passed runs l xs b from n t p s k few room g .0, row-passed true l xs b from n t p s k few room g .1)

@@ -1,8 +1,9 @@
--- What a summary says of a record: it is given exactly for what a writer writes, and each fault of a record is its refusal.
+-- What a summary says of a record: it is given exactly for what a writer writes, and each fault of a record is its refusal. And either form has the same.
 -- Assumes nothing.
 use Prim.Native.Nat.{ℕ, _<_}
+use mathlib.Core.Bool.{Bool, true}
 use mathlib.Core.List.{List, []}
-use mathlib.Core.Path.{_≡_, refl, ap}
+use mathlib.Core.Path.{_≡_, refl, sym, ap, _∙_}
 use native.Mathlib.Omega.{arith}
 use Rattle.shaper.specs.declared.Limits.{Limits}
 use Rattle.shaper.specs.declared.Event.{Event}
@@ -11,49 +12,63 @@ use Rattle.summary.specs.declared.Summary.{Summary}
 use Rattle.summary.specs.declared.Answer.{Answer}
 use Rattle.summary.specs.Summary.{summaryOf}
 use Rattle.record.specs.Record.{written, WellFormed}
-use Rattle.record.specs.Read.{Read, unreadable, whole, readRecord}
+use Rattle.record.specs.Items.{Item, writtenItems, unrolled, Formed}
+use Rattle.record.specs.Read.{Read, unreadable, whole, readIn}
 use Rattle.record.specs.Cause.{Cause}
-use Rattle.record.proofs.Written.{written-read, read-written}
+use Rattle.record.proofs.Written.{items-read, written-read}
+use Rattle.record.proofs.Wrote.{read-items, formed-events}
 use Rattle.record.proofs.Earliest.{no-bytes}
 use Rattle.record.proofs.Means.{unreadable-means, means-unreadable}
-use Rattle.account.specs.Account.{summarized, summarizeOf, Accounted}
+use Rattle.account.specs.Account.{summarized, summarizeIn, Accounted}
 
 -- ---- refused
 
-module _ (xs : List ℕ) (n : ℕ) where
-  number-read : (r : Read) → readRecord xs ≡ r → summarized r ≡ Answer.Refused n → readRecord xs ≡ unreadable n
+module _ (runs : Bool) (xs : List ℕ) (n : ℕ) where
+  number-read : (r : Read) → readIn runs xs ≡ r → summarized r ≡ Answer.Refused n → readIn runs xs ≡ unreadable n
   number-read (unreadable m) e h = cc
   number-read (whole l es) e h = let z : _≡_ {A = ℕ} 0 1 = cc in absurd (omega arith)
 
   -- The record's number is the answer's. So each law of its faults is one of the summary.
-  pub summarize-unreadable : (summarizeOf xs ≡ Answer.Refused n → readRecord xs ≡ unreadable n)
-      × (readRecord xs ≡ unreadable n → summarizeOf xs ≡ Answer.Refused n)
-  unfolding summarizeOf
-  summarize-unreadable = (λ h. number-read (readRecord xs) refl h, λ e. ap summarized e)
+  pub summarize-unreadable : (summarizeIn runs xs ≡ Answer.Refused n → readIn runs xs ≡ unreadable n)
+      × (readIn runs xs ≡ unreadable n → summarizeIn runs xs ≡ Answer.Refused n)
+  unfolding summarizeIn
+  summarize-unreadable = (λ h. number-read (readIn runs xs) refl h, λ e. ap summarized e)
 
-  -- A number is given exactly when it has its cause: in the header, or behind events without fault.
-  pub summarize-refused-exactly : Bytes xs → 0 < n → (summarizeOf xs ≡ Answer.Refused n → Cause xs n) × (Cause xs n → summarizeOf xs ≡ Answer.Refused n)
+  -- A number is given exactly when it has its cause: in the header, or behind items without fault.
+  pub summarize-refused-exactly : Bytes xs → 0 < n → (summarizeIn runs xs ≡ Answer.Refused n → Cause runs xs n) × (Cause runs xs n → summarizeIn runs xs ≡ Answer.Refused n)
   summarize-refused-exactly b p =
-      (λ h. unreadable-means xs n b (summarize-unreadable .0 h), λ c. summarize-unreadable .1 (means-unreadable xs n p c))
+      (λ h. unreadable-means runs xs n b (summarize-unreadable .0 h), λ c. summarize-unreadable .1 (means-unreadable runs xs n p c))
 
 -- Zero bytes are no record.
-pub summarize-none : summarizeOf [] ≡ Answer.Refused 2
-summarize-none = summarize-unreadable [] 2 .1 no-bytes
+pub summarize-none : (runs : Bool) → summarizeIn runs [] ≡ Answer.Refused 2
+summarize-none runs = summarize-unreadable runs [] 2 .1 (no-bytes runs)
 
 -- ---- summed
 
--- a record that a writer wrote has the summary of its events, event by event
-pub summarize-written : (l : Limits) (es : List Event) → WellFormed l es → summarizeOf (written l es) ≡ Answer.Summed (summaryOf l es)
-unfolding summarizeOf
-summarize-written l es w = ap summarized (written-read l es w)
+-- a record that a writer wrote has the summary of its events, event by event: of items,
+pub summarize-items : (runs : Bool) (l : Limits) (is : List Item) → Formed runs l is → summarizeIn runs (writtenItems l is) ≡ Answer.Summed (summaryOf l (unrolled is))
+unfolding summarizeIn
+summarize-items runs l is w = ap summarized (items-read runs l is w)
 
-summed-read : (xs : List ℕ) (s : Summary) → Bytes xs → (r : Read) → readRecord xs ≡ r → summarized r ≡ Answer.Summed s → Accounted xs s
-summed-read xs s b (unreadable n) e h = let z : _≡_ {A = ℕ} 0 1 = cc in absurd (omega arith)
-summed-read xs s b (whole l es) e h =
-    let w = read-written xs l es b e in
-    record { settings = l; events = es; well-formed = w .1; bytes = w .0; sums = cc }
+-- and in the old form
+pub summarize-written : (runs : Bool) (l : Limits) (es : List Event) → WellFormed l es → summarizeIn runs (written l es) ≡ Answer.Summed (summaryOf l es)
+unfolding summarizeIn
+summarize-written runs l es w = ap summarized (written-read runs l es w)
+
+summed-read : (runs : Bool) (xs : List ℕ) (s : Summary) → Bytes xs → (r : Read) → readIn runs xs ≡ r → summarized r ≡ Answer.Summed s → Accounted runs xs s
+summed-read runs xs s b (unreadable n) e h = let z : _≡_ {A = ℕ} 0 1 = cc in absurd (omega arith)
+summed-read runs xs s b (whole l es) e h =
+    let w = read-items runs xs l es b e in
+    let sums : s ≡ summaryOf l es = cc in
+    record { settings = l; items = w .items; formed = w .formed; bytes = w .same; sums = sums ∙ ap (summaryOf l) (w .gives) }
 
 -- and only such a record has a summary
-pub summarized-written : (xs : List ℕ) (s : Summary) → Bytes xs → summarizeOf xs ≡ Answer.Summed s → Accounted xs s
-unfolding summarizeOf
-summarized-written xs s b h = summed-read xs s b (readRecord xs) refl h
+pub summarized-written : (runs : Bool) (xs : List ℕ) (s : Summary) → Bytes xs → summarizeIn runs xs ≡ Answer.Summed s → Accounted runs xs s
+unfolding summarizeIn
+summarized-written runs xs s b h = summed-read runs xs s b (readIn runs xs) refl h
+
+-- ---- either form
+
+-- Events are counted unrolled: a record and its unrolled form have the same summary.
+pub either-form : (l : Limits) (is : List Item) → Formed true l is → summarizeIn true (writtenItems l is) ≡ summarizeIn true (written l (unrolled is))
+either-form l is w = summarize-items true l is w ∙ sym (summarize-written true l (unrolled is) (formed-events true l is w))

@@ -1,15 +1,16 @@
 // The account of a shaper record: its summary, read from lent bytes.
 ghost use mathlib.Core.Path.{_≡_};
-ghost use mathlib.Core.Bool.{true};
+ghost use mathlib.Core.Bool.{Bool, true};
 ghost use Prim.Native.Nat.{_+_, _-_, _*_, _≤_};
 ghost use lib.ListN.{length, drop};
 ghost use Rattle.decide.specs.Test.{Holds, test};
 ghost use Rattle.decide.specs.Size.{sizeOk};
-ghost use Rattle.shaper.specs.Limits.{limitsOk, mostEvents};
-ghost use Rattle.tally.specs.Tally.{Ready};
+ghost use Rattle.shaper.specs.Limits.{limitsOk, mostAmount, mostEvents};
+ghost use Rattle.tally.specs.Tally.{plainAt, Ready};
+ghost use Rattle.summary.specs.Plain.{signedFrom};
 ghost use Rattle.tally.specs.Part.{Roomy, Lanes, Steady, goodOf};
-ghost use Rattle.account.specs.Account.{summarizeOf, eventsOf};
-ghost use Rattle.account.specs.Rest.{restOf, Passed};
+ghost use Rattle.account.specs.Account.{summarizeIn, eventsOf};
+ghost use Rattle.account.specs.Rest.{Passed, Blocked, Goes};
 ghost use Rattle.account.specs.Lanes.{partAfter, partOf};
 use record::Header;
 use record::Step;
@@ -23,9 +24,6 @@ use tally::Tally;
 // The most events that a record may have.
 const MAX_EVENTS: u64 = Summary::MAX_EVENTS as u64;
 
-// How many blocks of 64 events that is.
-const MAX_BLOCKS: u64 = MAX_EVENTS / 64;
-
 // The smallest size of a send.
 const MIN_SIZE: u32 = Summary::MIN_SIZE;
 
@@ -38,52 +36,102 @@ const IDLE: u32 = 6 + 2 * 65536;
 // and of a send.
 const SEND: u32 = 6 + 3 * 65536;
 
+// How many items are walked at once: as many as a block has events.
+const ITEMS: u64 = 64;
+
 // A block that was tallied: the tally behind it, and whether none of its events has a fault.
 struct Tallied {
     tally: Tally,
     good: bool,
 }
 
-// The summary of a record, or the number of its earliest fault.
-pub fn summarize(s: &[u8]) -> Answer
-    ensures { λ r. ⌜ r ≡ summarizeOf (now (s .entry)) ⌝ }
+// How far events are tallied: the place behind them, how many they are, and their tally.
+struct Reach {
+    at: usize,
+    n: u64,
+    tally: Tally,
+}
+
+// What a walk comes to: the answer, or how far it went.
+enum Walked {
+    Ended(Answer),
+    On(Reach),
+}
+
+// The summary of a record, or the number of its earliest fault. `runs` says whether runs may stand: in a record of the old form none may.
+pub fn summarize(s: &[u8], runs: bool) -> Answer
+    ensures { λ r. ⌜ r ≡ summarizeIn runs (now (s .entry)) ⌝ }
 {
     match record::header_of(s) {
-        Header::Settings(limits) => events(&s[14..], limits),
+        Header::Settings(limits) => events(&s[14..], limits, MAX_EVENTS, runs),
         Header::Unreadable(fault) => Answer::Refused(fault),
     }
 }
 
-// The summary of all events that stand behind a header with these settings, or the number of their earliest fault: block by block, and event by event from
-// the first block with a fault on, or behind the last whole block.
-pub fn events(s: &[u8], limits: Limits) -> Answer
-    requires { ⌜ Holds (limitsOk limits) ⌝ }
-    ensures { λ r. ⌜ r ≡ eventsOf limits (now (s .entry)) ⌝ }
+// The summary of all events that stand behind a header with these settings, or the number of their earliest fault, where so many may come: block by block, and item by item
+// from a block with a fault or a run on, until 64 items are passed, or behind the last whole block.
+pub fn events(s: &[u8], limits: Limits, most: u64, runs: bool) -> Answer
+    requires { ⌜ Holds (limitsOk limits) × (most ≤ mostEvents) ⌝ }
+    ensures { λ r. ⌜ r ≡ eventsOf runs limits most (now (s .entry)) ⌝ }
 {
-    let count = decide::lesser(s.len() as u64 / 384, MAX_BLOCKS);
-    let mut b: u64 = 0;
     let mut at: usize = 0;
     let mut n: u64 = 0;
     let mut t = tally::start(limits.lo);
+    loop {
+        let far = blocks(s, at, limits, n, t, most);
+        if s.len() <= far.at {
+            return summed(limits, far.n, far.tally);
+        }
+        match walk(s, far, limits, most - far.n, 9, runs) {
+            Walked::Ended(answer) => {
+                return answer;
+            }
+            Walked::On(next) => {
+                at = next.at;
+                n = next.n;
+                t = next.tally;
+            }
+        }
+    }
+}
+
+// How far whole blocks go from a place on without a fault and without a run.
+fn blocks(s: &[u8], from: usize, limits: Limits, done: u64, start: Tally, most: u64) -> Reach
+    requires { ⌜ (from ≤ length (now s)) × Ready limits done start × Steady (limits .hi - limits .lo) start × (done ≤ most) × (most ≤ mostEvents) ⌝ }
+    ensures { λ r. ⌜ Blocked limits (now (s .entry)) from done start most r ⌝ }
+{
+    let count = decide::lesser((s.len() - from) as u64 / 384, (most - done) / 64);
+    let mut b: u64 = 0;
+    let mut at = from;
+    let mut n = done;
+    let mut t = start;
     while b < count {
         let next = block(s, at, limits, n, t);
         let good = next.good;
         if !good {
-            return walk(s, at, limits, n, t, MAX_EVENTS - n, 9);
+            return Reach {
+                at: at,
+                n: n,
+                tally: t,
+            };
         }
         t = next.tally;
         at += 384;
         n += 64;
         b += 1;
     }
-    walk(s, at, limits, n, t, MAX_EVENTS - n, 9)
+    Reach {
+        at: at,
+        n: n,
+        tally: t,
+    }
 }
 
 // The tally of the 64 events from a place on, with no branch on what they hold: eight parts of eight events each, made side by side, and then the tally over them.
 fn block(s: &[u8], from: usize, limits: Limits, n: u64, start: Tally) -> Tallied
     requires { ⌜ (from + 384 ≤ length (now s)) × Ready limits n start × (n + 64 ≤ mostEvents) × Steady (limits .hi - limits .lo) start ⌝ }
     ensures { λ r. ⌜ r .good ≡ goodOf (λ j. partOf (limits .hi - limits .lo) (limits .mtu) (now (s .entry)) (from + 48 * j) 8) 8 ⌝ }
-    ensures { λ r. ⌜ (r .good ≡ true → Passed limits (now (s .entry)) from n start 64 (from + 384) (r .tally) × Steady (limits .hi - limits .lo) (r .tally)) ⌝ }
+    ensures { λ r. ⌜ (r .good ≡ true → ((runs : Bool) → Passed runs limits (now (s .entry)) from n start 64 (from + 384) (r .tally)) × Steady (limits .hi - limits .lo) (r .tally)) ⌝ }
 {
     let rise = limits.hi - limits.lo;
     let made = parts(s, from, rise, limits.mtu - MIN_SIZE);
@@ -166,47 +214,63 @@ fn sized(v: u32, span: u32) -> bool
     !decide::below(span, (v + 65520) % 65536)
 }
 
-// The answer to a record of which so many events stand in a tally and the rest begins at a place: one item at a time, to the end or the first fault. So many
-// more events may come, and any byte after the last of them gives `late`.
-fn walk(
-    s: &[u8],
-    from: usize,
-    limits: Limits,
-    done: u64,
-    start: Tally,
-    budget: u64,
-    late: u64,
-) -> Answer
-    requires { ⌜ Ready limits done start × (done + budget ≤ mostEvents) ⌝ }
-    ensures { λ r. ⌜ r ≡ restOf late limits budget done start (drop from (now (s .entry))) ⌝ }
+// The answer to a record that is tallied so far: one item at a time, to the end or the first fault, or how far 64 items go. So many
+// more events may come, and any byte after the last of them gives `late`; an item stands for as many events as it says, in one step.
+fn walk(s: &[u8], far: Reach, limits: Limits, budget: u64, late: u64, runs: bool) -> Walked
+    requires { ⌜ (far .at ≤ length (now s)) × Ready limits (far .n) (far .tally) × Steady (limits .hi - limits .lo) (far .tally) × (far .n + budget ≤ mostEvents) ⌝ }
+    ensures { λ r. ⌜ Goes runs late limits (now (s .entry)) (far .at) (far .n) (far .tally) budget r ⌝ }
 {
     let mtu = limits.mtu;
     let rise = limits.hi as u64 - limits.lo as u64;
-    let mut at = from;
-    let mut n = done;
+    let mut k: u64 = 0;
+    let mut at = far.at;
+    let mut n = far.n;
     let mut left = budget;
-    let mut t = start;
-    loop {
-        match record::event_within(s, at, mtu, left, late) {
+    let mut t = far.tally;
+    while k < ITEMS {
+        match record::event_within(s, at, mtu, left, late, runs) {
             Step::Stands {
                 kind,
                 number,
                 count,
                 next,
             } => {
-                t = tally::step(t, rise, wide(kind), wide(number));
-                n += count as u64;
-                left -= count as u64;
+                let many = count as u64;
+                t = tally::step(t, rise, wide(kind), brought(wide(number), many));
+                n += many;
+                left -= many;
                 at = next;
+                k += 1;
             }
             Step::End => {
-                return Answer::Summed(summary::signed(tally::finish(limits, n, t)));
+                return Walked::Ended(summed(limits, n, t));
             }
             Step::Faulty(fault) => {
-                return Answer::Refused(fault);
+                return Walked::Ended(Answer::Refused(fault));
             }
         }
     }
+    Walked::On(Reach {
+        at: at,
+        n: n,
+        tally: t,
+    })
+}
+
+// The summary of the n events that stand in a tally.
+fn summed(limits: Limits, n: u64, t: Tally) -> Answer
+    requires { ⌜ Ready limits n t ⌝ }
+    ensures { λ r. ⌜ r ≡ Answer.Summed (signedFrom (plainAt limits n t)) ⌝ }
+{
+    Answer::Summed(summary::signed(tally::finish(limits, n, t)))
+}
+
+// What so many equal events bring.
+fn brought(number: u64, count: u64) -> u64
+    requires { ⌜ (number ≤ mostAmount) × (count ≤ mostEvents) ⌝ }
+    ensures { λ r. ⌜ (r ≡ count * number) × (r ≤ mostAmount * mostEvents) ⌝ }
+{
+    count * number
 }
 
 // The same number in a wider type.

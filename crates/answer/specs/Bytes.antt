@@ -28,6 +28,10 @@ movedBytes delivered hops = 0 ∷ bitOf delivered ∷ hops ∷ 0 ∷ 0 ∷ 0 ∷
 abbrev pub permittedBytes : ℕ → List ℕ
 permittedBytes credit = (0 ∷ 1 ∷ 0 ∷ 0 ∷ []) ++ digits 4 credit
 
+-- rpr_roll and rpr_unroll. Bytes 4 to 7: the bytes written.
+abbrev pub writtenBytes : ℕ → List ℕ
+writtenBytes n = (0 ∷ 0 ∷ 0 ∷ 0 ∷ []) ++ digits 4 n
+
 -- rpr_offer_client. Byte 4: the mark that the frame got, eligible or not.
 abbrev pub markBytes : ℕ → List ℕ
 markBytes mark = 0 ∷ 0 ∷ 0 ∷ 0 ∷ mark ∷ 0 ∷ 0 ∷ 0 ∷ []

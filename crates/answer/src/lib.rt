@@ -2,7 +2,7 @@
 // value is cut to the bytes that it has, so that none runs into another's, whatever is given.
 ghost use mathlib.Core.Path.{_≡_};
 ghost use mathlib.Core.List.{[], _∷_};
-ghost use Rattle.answer.specs.Bytes.{packed, bitOf, chosenBytes, movedBytes, permittedBytes, markBytes, refusedBytes, selectedBytes};
+ghost use Rattle.answer.specs.Bytes.{packed, bitOf, chosenBytes, movedBytes, permittedBytes, writtenBytes, markBytes, refusedBytes, selectedBytes};
 use queue::Frame;
 
 // A one at byte 1.
@@ -39,6 +39,13 @@ pub fn permitted(credit: u64) -> u64
     ensures { λ r. ⌜ r ≡ packed (permittedBytes credit) ⌝ }
 {
     BYTE_1 + BYTE_4 * (credit % 4294967296)
+}
+
+// A record that was moved: bytes 4 to 7 how many bytes were written.
+pub fn written(n: u64) -> u64
+    ensures { λ r. ⌜ r ≡ packed (writtenBytes n) ⌝ }
+{
+    BYTE_4 * (n % 4294967296)
 }
 
 // A client's frame that was taken: byte 4 the mark that it got.

@@ -1,8 +1,10 @@
 pub mod Rows
 pub mod Lengths
-pub mod Fits
-pub mod Stacked
+pub mod Turns
+pub mod Walked
+pub mod Quick
+pub mod Passes
+pub mod Onward
 pub mod Grows
 pub mod Listed
-pub mod Paged
 pub mod Windows

@@ -1,50 +1,65 @@
--- The list of two records window by window: what is printed of two windows, and of all of them.
+-- Pages of two windows: so many turns of a walk, and what they list.
 -- Assumes nothing.
-use Prim.Native.Nat.{ℕ, zero, suc, _+_}
-use mathlib.Core.Bool.{cond}
-use mathlib.Core.List.{List, [], _∷_, _++_}
-use Rattle.shaper.specs.declared.Event.{Event}
-use Rattle.summary.specs.declared.Answer.{Answer}
-use Rattle.report.specs.Report.{printedOf}
-use Rattle.window.specs.Window.{mostIn}
-use Rattle.window.specs.Events.{eventIn, eventsIn}
-use Rattle.apart.specs.Told.{differ, listFrom}
-use Rattle.apart.specs.Text.{bothText, onlyText, listText, openingText, closingText}
+use Prim.Native.Nat.{ℕ, zero, suc, _+_, _-_, _*_, _/_, _≤_, min}
+use mathlib.Core.Bool.{true, _&&_, cond}
+use mathlib.Core.List.{List, [], _++_}
+use mathlib.Core.Path.{_≡_}
+use lib.Dec.{eqb}
+use lib.ListN.{length, drop}
+use Rattle.record.specs.Read.{Events, readItems}
+use Rattle.apart.specs.declared.Side.{Side}
+use Rattle.apart.specs.declared.Place.{Place}
+use Rattle.apart.specs.declared.Walk.{Walk}
+use Rattle.apart.specs.declared.Reached.{Reached}
+use Rattle.apart.specs.declared.Begun.{Begun}
+use Rattle.apart.specs.Turn.{turnOf, lineText}
 
--- the lines of two windows whose first events stand at position n: the list of their events
-unfoldable pub pageText : ℕ → List ℕ → List ℕ → List ℕ
-pageText n w v = listText (listFrom n (eventsIn w) (eventsIn v))
+-- the walk behind so many turns
+unfoldable pub walkOf : ℕ → Side → Side → List ℕ → List ℕ → Walk → Walk
+walkOf zero a b w v walk = walk
+walkOf (suc k) a b w v walk = walkOf k a b w v (turnOf a b w v walk .walk)
 
--- the pages of two records' windows, one behind the other; where one record has no more windows, those of the other alone
-unfoldable pub pagesFrom : ℕ → List (List ℕ) → List (List ℕ) → List ℕ
-pagesFrom n [] [] = []
-pagesFrom n (w ∷ ws) [] = pageText n w [] ++ pagesFrom (n + mostIn) ws []
-pagesFrom n [] (v ∷ vs) = pageText n [] v ++ pagesFrom (n + mostIn) [] vs
-pagesFrom n (w ∷ ws) (v ∷ vs) = pageText n w v ++ pagesFrom (n + mostIn) ws vs
+-- what they list
+unfoldable pub walkText : ℕ → Side → Side → List ℕ → List ℕ → Walk → List ℕ
+walkText zero a b w v walk = []
+walkText (suc k) a b w v walk = lineText (walk .position) (turnOf a b w v walk .line) ++ walkText k a b w v (turnOf a b w v walk .walk)
 
--- What is printed of two files, by what their windows come to: the refusal of the first before that of the second; else the settings that differ, the pages
--- and both summaries, each a write of its own (`compare-printed`, proofs/Windows.antt, says that this is `compareOf`).
-abbrev pub printedBy : Answer → Answer → List (List ℕ) → List (List ℕ) → List ℕ
-printedBy (Answer.Refused n) b ws vs = printedOf (Answer.Refused n)
-printedBy (Answer.Summed s) (Answer.Refused n) ws vs = printedOf (Answer.Refused n)
-printedBy (Answer.Summed s) (Answer.Summed t) ws vs =
-    openingText (s .limits) (t .limits) ++ pagesFrom 0 ws vs ++ closingText (Answer.Summed s) (Answer.Summed t)
+-- both, where the text is written from a place on
+abbrev pub reachedOf : ℕ → Side → Side → List ℕ → List ℕ → Walk → ℕ → Reached
+reachedOf k a b w v walk at = record { walk = walkOf k a b w v walk; end = at + length (walkText k a b w v walk) }
 
--- ---- a page as it is filled, a line behind the other
+-- the turns of a page
+abbrev pub mostTurns : ℕ
+mostTurns = 5000
 
--- the line of two events at a position, where they differ
-unfoldable pub lineIf : ℕ → Event → Event → List ℕ
-lineIf n e f = cond (differ e f) (bothText n e f) []
+abbrev pub pageOf : Side → Side → List ℕ → List ℕ → Walk → Reached
+pageOf a b w v walk = record { walk = walkOf mostTurns a b w v walk; end = length (walkText mostTurns a b w v walk) }
 
--- the texts of the first k numbers, one behind the other
-unfoldable pub stacked : (ℕ → List ℕ) → ℕ → List ℕ
-stacked text zero = []
-stacked text (suc k) = stacked text k ++ text k
+-- ---- the quick way
 
--- what two windows' events behind so many others print, where they differ
-abbrev pub pairText : ℕ → List ℕ → List ℕ → ℕ → List ℕ
-pairText n w v k = lineIf (n + k) (eventIn w k) (eventIn v k)
+-- how many events of 6 bytes may stand from both places on; none where an item has begun to go by
+unfoldable pub levelOf : List ℕ → List ℕ → Place → Place → ℕ
+levelOf w v p q = cond (eqb (p .gone) 0 && eqb (q .gone) 0) (min (min ((length w - p .at) / 6) ((length v - q .at) / 6)) mostTurns) 0
 
--- and a window's event alone, behind the i that both have and k more
-abbrev pub restText : List ℕ → ℕ → List ℕ → ℕ → ℕ → List ℕ
-restText words n w i k = onlyText words (n + (i + k)) (eventIn w (i + k))
+-- the walk behind so many events of each window
+abbrev pub passedOf : Walk → ℕ → Walk
+passedOf walk k =
+    record {
+      first = record { at = walk .first .at + 6 * k; gone = walk .first .gone };
+      second = record { at = walk .second .at + 6 * k; gone = walk .second .gone };
+      position = walk .position + k;
+    }
+
+-- the first turns of a page
+pub record Begins (a b : Side) (w v : List ℕ) (walk : Walk) (r : Begun) : Type 0 where
+  pub few : r .turns ≤ mostTurns
+  pub goes : r .walk ≡ walkOf (r .turns) a b w v walk
+  pub near : r .walk .position ≡ walk .position + r .turns
+  pub fills : r .end ≡ length (walkText (r .turns) a b w v walk)
+  pub short : r .end ≤ 88 * r .turns
+
+-- ---- what stands from a place on
+
+-- The events of a file's bytes from a place on, where `left` more may come, or the fault; any byte after the last of them gives `late`.
+abbrev pub fromPlace : ℕ → ℕ → ℕ → List ℕ → Place → Events
+fromPlace late mtu left xs p = readItems true late mtu left (p .gone) (drop (p .at) xs)

@@ -4,6 +4,8 @@ ghost use Prim.Native.Nat.{_+_, _≤_};
 ghost use lib.ListN.{length};
 ghost use Rattle.wire.specs.Wire.{put};
 ghost use Rattle.apart.specs.Text.{named, settingText, headText, eventText, bothText, onlyText};
+ghost use Rattle.apart.specs.Turn.{lineText};
+use crate::Finding;
 use shaper::Event;
 
 // Writes the line of a setting, `WORDS A, B`, where the two differ.
@@ -17,6 +19,20 @@ pub fn put_setting(s: &mut [u8], at: usize, words: &[u8], a: u64, b: u64) -> usi
     }
     let comma = put_named(s, at, words, a);
     report::put_line(s, comma, b", ", b)
+}
+
+// Writes what is listed of a position: one line, or nothing.
+pub fn put_line(s: &mut [u8], at: usize, n: u64, line: Finding) -> usize
+    requires { ⌜ at + length (lineText n line) ≤ length (now s) ⌝ }
+    ensures { λ r. ⌜ r ≡ at + length (lineText n line) ⌝ }
+    ensures { λ _. ⌜ now (s .exit) ≡ put (now (s .entry)) at (lineText n line) ⌝ }
+{
+    match line {
+        Finding::Nothing => at,
+        Finding::Both(e, f) => put_both(s, at, n, e, f),
+        Finding::First(e) => put_only(s, at, b"first only, event ", n, e),
+        Finding::Second(f) => put_only(s, at, b"second only, event ", n, f),
+    }
 }
 
 // Writes the line of a position at which two events differ.
@@ -33,7 +49,7 @@ pub fn put_both(s: &mut [u8], at: usize, n: u64, e: Event, f: Event) -> usize
 }
 
 // Writes the line of a position at which only one record has an event; the words say which.
-pub fn put_only(s: &mut [u8], at: usize, words: &[u8], n: u64, e: Event) -> usize
+fn put_only(s: &mut [u8], at: usize, words: &[u8], n: u64, e: Event) -> usize
     requires { ⌜ at + length (onlyText (now words) n e) ≤ length (now s) ⌝ }
     ensures { λ r. ⌜ r ≡ at + length (onlyText (now (words .entry)) n e) ⌝ }
     ensures { λ _. ⌜ now (s .exit) ≡ put (now (s .entry)) at (onlyText (now (words .entry)) n e) ⌝ }

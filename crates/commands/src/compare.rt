@@ -1,25 +1,18 @@
-// `rpr compare FIRST SECOND`: where two records part, two record files as bytes. Both are read twice, window by window: first to test them, then to list. What is
-// printed is what `apart` puts into its room; what a file comes to is what `window` says of its windows.
-ghost use mathlib.Core.Path.{_≡_};
-ghost use lib.ListN.{length};
-use crate::pairs::Ends;
+// `rpr compare FIRST SECOND`: where two records part, two record files as bytes, in either form. Both are read twice, window by window: first to test them, then to list.
+// What is printed is what `apart` puts into its room; what a file comes to is what `feed` says of its bytes.
+use crate::listing::list;
+use crate::pairs;
 use crate::pairs::Reach;
-use crate::pairs::WINDOW;
-use crate::pairs::front;
+use crate::pairs::Want;
 use crate::pairs::further;
-use crate::pairs::goes_on;
+use crate::pairs::unread;
 use console::files;
 use console::status::TROUBLE;
-use console::status::same_status;
 use console::tell;
 use console::words;
 use summary::Answer;
-use summary::Summary;
-use window::Both;
 
-// How many events a window may have, and the most windows of a record: 200 that are full, and a last one that is not.
-const EVENTS: u32 = window::EVENTS as u32;
-
+// The most windows of a record: 200 that are full, and a last one that is not.
 const WINDOWS: u32 = 201;
 
 pub fn run() -> u64 {
@@ -58,21 +51,32 @@ fn compare(first: &[u8], second: &[u8]) -> u64 {
         return TROUBLE;
     }
     let reach = tested(a, b);
-    let ends = reach.ends;
-    if ends.lost_first {
+    judged(reach, a, b, first, second)
+}
+
+// Lists where they part, or says what is wrong with one of them: with the first before the second, as far as it was read.
+fn judged(reach: Reach, a: i32, b: i32, first: &[u8], second: &[u8]) -> u64 {
+    let fed = reach.fed;
+    let x = reach.first;
+    let y = reach.second;
+    if x.lost {
         tell::trouble(first);
         return TROUBLE;
     }
-    let sums = reach.sums;
-    let one = sums.first;
-    let two = sums.second;
-    match one {
+    let one = fed.first;
+    let two = fed.second;
+    // Where the second cannot be read the first is read no further.
+    if y.lost & !x.last & !one.ends() {
+        tell::trouble(second);
+        return TROUBLE;
+    }
+    match one.finish() {
         Answer::Summed(s) => {
-            if ends.lost_second {
+            if y.lost {
                 tell::trouble(second);
                 return TROUBLE;
             }
-            match two {
+            match two.finish() {
                 Answer::Summed(t) => list(a, b, first, second, s, t),
                 Answer::Refused(n) => refuse(n, second),
             }
@@ -104,127 +108,45 @@ fn opened(name: &[u8]) -> i32 {
 
 // The first reading: both files, to their ends or to the first fault that counts.
 fn tested(a: i32, b: i32) -> Reach {
-    let mut first = [0u8; 30014];
-    let mut second = [0u8; 30014];
-    let mut reach = front(a, b, &mut first, &mut second);
+    let mut w = [0u8; 30000];
+    let mut v = [0u8; 30000];
+    let mut reach = unread();
     let mut k: u32 = 0;
     while k < WINDOWS {
-        if !goes_on(reach) {
+        let one = tests_first(reach);
+        let two = tests_second(reach);
+        if !one.more & !two.more {
             return reach;
         }
-        reach = further(a, b, &mut first, &mut second, reach);
+        reach = further(a, b, &mut w, &mut v, reach, one, two);
         k += 1;
     }
     reach
 }
 
-// The second reading: a page for each pair of windows, each written before the next is read, and both summaries in the end. The records are the same where all
-// windows are, headers too.
-fn list(a: i32, b: i32, first: &[u8], second: &[u8], s: Summary, t: Summary) -> u64 {
-    if !apart::print_opening(s.limits, t.limits) {
-        tell::unwritten();
-        return TROUBLE;
-    }
-    libc::lseek(a, 0, libc::SEEK_SET);
-    libc::lseek(b, 0, libc::SEEK_SET);
-    let mut room = room();
-    let mut w = [0u8; 30014];
-    let mut v = [0u8; 30014];
-    let mut reach = front(a, b, &mut w, &mut v);
-    let mut same = true;
-    let mut k: u32 = 0;
-    while k < WINDOWS {
-        if !stands(reach, first, second, s, t, k) {
-            return TROUBLE;
-        }
-        let ends = reach.ends;
-        let n = ends.first;
-        let m = ends.second;
-        if !apart::print_page(&w[..n], &v[..m], k * EVENTS, &mut room) {
-            tell::unwritten();
-            return TROUBLE;
-        }
-        same = same & window::alike(&w[..n], &v[..m]);
-        let sums = reach.sums;
-        if (n < WINDOW) & (m < WINDOW) {
-            return finish(sums, first, second, s, t, same);
-        }
-        reach = further(a, b, &mut w, &mut v, reach);
-        k += 1;
-    }
-    TROUBLE
-}
-
-// The room for a page.
-fn room() -> [u8; 440000]
-    ensures { λ r. ⌜ 440000 ≡ length r ⌝ }
-{
-    [0u8; 440000]
-}
-
-// Prints both summaries, where the second reading's are the first's.
-fn finish(sums: Both, first: &[u8], second: &[u8], s: Summary, t: Summary, same: bool) -> u64 {
-    let one = sums.first;
-    let two = sums.second;
-    if !window::same_answer(one, Answer::Summed(s)) {
-        changed(first);
-        return TROUBLE;
-    }
-    if !window::same_answer(two, Answer::Summed(t)) {
-        changed(second);
-        return TROUBLE;
-    }
-    if !apart::print_closing(one, two) {
-        tell::unwritten();
-        return TROUBLE;
-    }
-    same_status(same)
-}
-
-// Whether both files are as they were at the first reading, up to the window with this number; what is not is said.
-fn stands(reach: Reach, first: &[u8], second: &[u8], s: Summary, t: Summary, k: u32) -> bool {
-    let ends = reach.ends;
-    if lost(ends, first, second) {
-        return false;
-    }
-    let sums = reach.sums;
-    let one = sums.first;
-    let two = sums.second;
-    if !kept(one, s, k) {
-        changed(first);
-        return false;
-    }
-    if !kept(two, t, k) {
-        changed(second);
-        return false;
-    }
-    true
-}
-
-// Whether a file's windows so far have the settings that the first reading found, and as many events.
-fn kept(sum: Answer, whole: Summary, k: u32) -> bool {
-    match sum {
-        Answer::Summed(now) => {
-            let l = now.limits;
-            let m = whole.limits;
-            let events = decide::lesser(whole.events as u64, (k as u64 + 1) * EVENTS as u64);
-            l.same(m) & (now.events as u64 == events)
-        }
-        Answer::Refused(_) => false,
+// Whether more of the first file has to be read: not behind its end or a fault. None of its bytes is kept.
+fn tests_first(reach: Reach) -> Want {
+    let fed = reach.fed;
+    let x = reach.first;
+    let y = reach.second;
+    let one = fed.first;
+    Want {
+        more: !x.last & !x.lost & !y.lost & !one.ends(),
+        keep: pairs::WINDOW,
     }
 }
 
-// Whether a read failed; which file's, and why, is said.
-fn lost(ends: Ends, first: &[u8], second: &[u8]) -> bool {
-    if ends.lost_first {
-        tell::trouble(first);
-        return true;
+// Whether more of the second has to be: nor behind a fault of the first.
+fn tests_second(reach: Reach) -> Want {
+    let fed = reach.fed;
+    let x = reach.first;
+    let y = reach.second;
+    let one = fed.first;
+    let two = fed.second;
+    Want {
+        more: !y.last & !x.lost & !y.lost & !one.ends() & !two.ends(),
+        keep: pairs::WINDOW,
     }
-    if ends.lost_second {
-        tell::trouble(second);
-        return true;
-    }
-    false
 }
 
 // Prints a refusal's number, and says which file is refused.
@@ -235,8 +157,4 @@ fn refuse(n: u64, name: &[u8]) -> u64 {
     }
     tell::refused_record(name, n);
     TROUBLE
-}
-
-fn changed(name: &[u8]) {
-    tell::say(name, b"changed while it was read");
 }

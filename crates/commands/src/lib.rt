@@ -1,7 +1,9 @@
-// The commands of `rpr`: reading, printing, and what is said on standard error. What is printed is what `report`, `sheet` and `apart` put into their rooms; what a
+// The commands of `rpr`: reading, printing, and what is said on standard error. What is printed is what `report`, `sheet`, `apart` and `roll` put into their rooms; what a
 // record comes to is what `hex`, `feed` and `window` say of it. Each command answers its exit status.
 mod compare;
 mod join;
+mod listing;
+mod movers;
 mod pairs;
 mod summarize;
 
@@ -21,4 +23,17 @@ pub extern "C" fn rpr_main_join() -> u64 {
 #[no_mangle]
 pub extern "C" fn rpr_main_compare() -> u64 {
     compare::run()
+}
+
+// `rpr roll`: 0 where the record is written in runs, 1 where it is refused, 2 where there is trouble. The caller lends at least 6,000,018 bytes to read the record into and
+// 6,000,014 for what is written; what they hold does not matter.
+#[no_mangle]
+pub extern "C" fn rpr_main_roll(record: &mut [u8], room: &mut [u8]) -> u64 {
+    movers::run(true, record, room)
+}
+
+// `rpr unroll`: the same of a record in either form, which is written without runs.
+#[no_mangle]
+pub extern "C" fn rpr_main_unroll(record: &mut [u8], room: &mut [u8]) -> u64 {
+    movers::run(false, record, room)
 }

@@ -1,140 +1,128 @@
-// Two files read in step, a window of each at a time, and what their windows come to.
+// Two files read in step: a window of each, refilled where no whole item of it is left, and both records fed what was read.
 ghost use mathlib.Core.Path.{_≡_};
 ghost use Prim.Native.Nat.{_≤_};
 ghost use lib.ListN.{length};
-use console::files::Got;
 use console::files::fill;
-use summary::Answer;
-use window::Both;
+use window::Pair;
 
-// The bytes of a window and of its header.
-pub const WINDOW: usize = window::LENGTH;
+// The bytes of a window.
+pub const WINDOW: usize = 30000;
 
-const HEADER: usize = window::HEADER;
-
-// A window of each file: how many bytes it has, and whether it could not be read.
-pub struct Ends {
-    pub first: usize,
-    pub second: usize,
-    pub lost_first: bool,
-    pub lost_second: bool,
+// What a window holds of a file: where its bytes end, and where those begin that were read last; whether no byte stands behind them, and whether a read failed.
+pub struct Held {
+    pub from: usize,
+    pub end: usize,
+    pub last: bool,
+    pub lost: bool,
 }
 
-// How far both files are read: what their windows so far come to, and the last ones.
+// Both files as far as they are read: what their bytes come to so far, and their windows.
 pub struct Reach {
-    pub sums: Both,
-    pub ends: Ends,
+    pub fed: Pair,
+    pub first: Held,
+    pub second: Held,
 }
 
-// Whether more of the files has to be read: not behind a fault of the first file, nor behind the end of the first and a fault of the second.
-pub fn goes_on(reach: Reach) -> bool {
-    let ends = reach.ends;
-    if ends.lost_first | ends.lost_second {
-        return false;
-    }
-    let sums = reach.sums;
-    let one = sums.first;
-    let two = sums.second;
-    match one {
-        Answer::Summed(_) => {
-            if ends.first == WINDOW {
-                return true;
-            }
-            match two {
-                Answer::Summed(_) => ends.second == WINDOW,
-                Answer::Refused(_) => false,
-            }
-        }
-        Answer::Refused(_) => false,
-    }
+// Whether more of a file is wanted, and from where on its window's bytes are kept.
+pub struct Want {
+    pub more: bool,
+    pub keep: usize,
 }
 
-// The first window of each file, and what they come to.
-pub fn front(a: i32, b: i32, first: &mut [u8], second: &mut [u8]) -> Reach
-    requires { ⌜ (length (now first) ≡ 30014) × (length (now second) ≡ 30014) ⌝ }
-    ensures { λ r. ⌜ (r .ends .first ≤ 30014) × (r .ends .second ≤ 30014) ⌝ }
+// Two files of which nothing is read.
+pub fn unread() -> Reach
+    ensures { λ r. ⌜ (r .first .end ≤ 30000) × (r .second .end ≤ 30000) ⌝ }
 {
-    let unread = Ends {
-        first: WINDOW,
-        second: WINDOW,
-        lost_first: false,
-        lost_second: false,
+    let none = Held {
+        from: 0,
+        end: 0,
+        last: false,
+        lost: false,
     };
-    let ends = read_both(a, b, first, second, unread, 0);
-    let n = ends.first;
-    let m = ends.second;
-    let sums = window::both_begin(&first[..n], &second[..m]);
+    let fed = window::both();
     Reach {
-        sums: sums,
-        ends: ends,
+        fed: fed,
+        first: none,
+        second: none,
     }
 }
 
-// The next window of each file, behind its header, and what the files come to with it.
-pub fn further(a: i32, b: i32, first: &mut [u8], second: &mut [u8], before: Reach) -> Reach
-    requires { ⌜ (length (now first) ≡ 30014) × (length (now second) ≡ 30014) ⌝ }
-    ensures { λ r. ⌜ (r .ends .first ≤ 30014) × (r .ends .second ≤ 30014) ⌝ }
+// Both files with the next bytes of those of which more is wanted. Where the first cannot be read the second is left, so that the reason stands.
+pub fn further(
+    a: i32,
+    b: i32,
+    first: &mut [u8],
+    second: &mut [u8],
+    before: Reach,
+    one: Want,
+    two: Want,
+) -> Reach
+    requires { ⌜ (length (now first) ≡ 30000) × (length (now second) ≡ 30000) × (before .first .end ≤ 30000) × (before .second .end ≤ 30000) ⌝ }
+    ensures { λ r. ⌜ (r .first .end ≤ 30000) × (r .second .end ≤ 30000) ⌝ }
 {
-    let sums = before.sums;
-    let two = sums.second;
-    let last = before.ends;
-    let unread = Ends {
-        first: last.first,
-        second: bytes_before(two, last.second),
-        lost_first: false,
-        lost_second: false,
-    };
-    let ends = read_both(a, b, first, second, unread, HEADER);
-    let n = ends.first;
-    let m = ends.second;
-    let next = window::both_more(sums, &first[..n], &second[..m]);
-    Reach {
-        sums: next,
-        ends: ends,
-    }
-}
-
-// How many bytes a file's last window counts for: none behind a fault, so that no more of the file is read.
-fn bytes_before(sum: Answer, last: usize) -> usize {
-    match sum {
-        Answer::Summed(_) => last,
-        Answer::Refused(_) => 0,
-    }
-}
-
-// Reads a window of each file behind its first bytes. Where the first cannot be read the second is left, so that the reason stands.
-fn read_both(a: i32, b: i32, first: &mut [u8], second: &mut [u8], last: Ends, from: usize) -> Ends
-    requires { ⌜ (length (now first) ≡ 30014) × (length (now second) ≡ 30014) × (from ≤ 30014) ⌝ }
-    ensures { λ r. ⌜ (r .first ≤ 30014) × (r .second ≤ 30014) ⌝ }
-{
-    let one = next(a, first, last.first, from);
-    if one.failed {
-        return Ends {
-            first: one.end,
-            second: from,
-            lost_first: true,
-            lost_second: false,
+    let fed = before.fed;
+    let x = before.first;
+    let y = before.second;
+    let x = next(a, first, x, one);
+    if x.lost {
+        return Reach {
+            fed: fed,
+            first: x,
+            second: y,
         };
     }
-    let two = next(b, second, last.second, from);
-    Ends {
-        first: one.end,
-        second: two.end,
-        lost_first: false,
-        lost_second: two.failed,
+    let y = next(b, second, y, two);
+    let i = x.from;
+    let n = x.end;
+    let j = y.from;
+    let m = y.end;
+    let fed = window::fed(fed, &first[i..n], &second[j..m]);
+    Reach {
+        fed: fed,
+        first: x,
+        second: y,
     }
 }
 
-// The next window of a file whose last one had so many bytes. One that was not full is the file's last: behind it stands the header alone, and nothing is read.
-fn next(fd: i32, window: &mut [u8], last: usize, from: usize) -> Got
-    requires { ⌜ (length (now window) ≡ 30014) × (from ≤ 30014) ⌝ }
-    ensures { λ r. ⌜ r .end ≤ 30014 ⌝ }
+// What a window holds once it is refilled, where more is wanted and the file has not ended.
+fn next(fd: i32, window: &mut [u8], held: Held, want: Want) -> Held
+    requires { ⌜ (length (now window) ≡ 30000) × (held .end ≤ 30000) ⌝ }
+    ensures { λ r. ⌜ (r .from ≤ r .end) × (r .end ≤ 30000) ⌝ }
 {
-    if last < WINDOW {
-        return Got {
-            end: HEADER,
-            failed: false,
+    let end = held.end;
+    if held.last | !want.more {
+        return Held {
+            from: end,
+            end: end,
+            last: held.last,
+            lost: false,
         };
     }
-    fill(fd, window, from)
+    let kept = keep(window, want.keep, end);
+    let got = fill(fd, window, kept);
+    let end = got.end;
+    Held {
+        from: decide::lesser(kept as u64, end as u64) as usize,
+        end: end,
+        last: end < WINDOW,
+        lost: got.failed,
+    }
+}
+
+// Moves the bytes from a place on to a window's front, and answers how many they are.
+fn keep(window: &mut [u8], at: usize, end: usize) -> usize
+    requires { ⌜ end ≤ length (now window) ⌝ }
+    ensures { λ r. ⌜ r ≤ end ⌝ }
+{
+    if end <= at {
+        return 0;
+    }
+    let n = end - at;
+    let mut k = 0;
+    while k < n {
+        let byte = window[at + k];
+        window[k] = byte;
+        k += 1;
+    }
+    n
 }

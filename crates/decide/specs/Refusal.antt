@@ -14,9 +14,9 @@ pub record Fault : Type 0 where
   pub number : ℕ
   pub applies : Bool
 
--- Where several apply the order is 2, 1, 3, 11, 10, 9, 4, 5, 6, 7, 8; 13 stands right after 3 and before 11 (document 02, A5).
+-- Where several apply the order is 2, 1, 3, 11, 10, 9, 4, 5, 6, 7, 8; 13 stands right after 3 and before 11 (document 02, A5), and 12 last (A8).
 abbrev pub order : List ℕ
-order = 2 ∷ 1 ∷ 3 ∷ 13 ∷ 11 ∷ 10 ∷ 9 ∷ 4 ∷ 5 ∷ 6 ∷ 7 ∷ 8 ∷ []
+order = 2 ∷ 1 ∷ 3 ∷ 13 ∷ 11 ∷ 10 ∷ 9 ∷ 4 ∷ 5 ∷ 6 ∷ 7 ∷ 8 ∷ 12 ∷ []
 
 -- how many stand before n
 abbrev pub place : ℕ → List ℕ → ℕ

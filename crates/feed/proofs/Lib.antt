@@ -1,6 +1,5 @@
 pub mod Rows
-pub mod More
 pub mod Fronts
-pub mod AtOnce
-pub mod Reached
+pub mod Held
+pub mod Items
 pub mod Promises

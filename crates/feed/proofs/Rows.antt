@@ -1,56 +1,68 @@
 -- What a byte does and what the end says, row by row: each by the stage, and by a test on what is held or counted.
 -- Assumes nothing.
 use Prim.Native.Nat.{ℕ, _+_, _-_, _≤_, _<_}
-use mathlib.Core.Bool.{true, false}
-use mathlib.Core.List.{List, [], _∷_}
+use mathlib.Core.Bool.{true, false, _&&_}
+use mathlib.Core.List.{List, [], _∷_, _++_}
 use mathlib.Core.Path.{_≡_, refl, ap, _∙_}
 use native.Mathlib.Omega.{arith}
-use borrow.Author.Tests.{le-leb, lt-leb, le-ltb, lt-ltb, eq-eqb, ne-eqb}
+use borrow.Author.Tests.{le-leb, lt-leb, le-ltb, lt-ltb, leb-true, eq-eqb, ne-eqb, eqb-true}
 use native.Mathlib.Numerals.{add-one}
+use lib.Dec.{eqb, leb}
 use lib.ListN.{length, getD, set, take, drop, drop-of-length-le}
 use lib.Seq.{drop-cons}
+use Rattle.decide.specs.Test.{both}
+use Rattle.decide.proofs.Cases.{of-each}
+use Rattle.wire.proofs.Numbers.{le-append-left}
 use Rattle.shaper.specs.declared.Limits.{Limits}
-use Rattle.shaper.specs.declared.Event.{Event}
-use Rattle.shaper.specs.declared.Event.the-variants.{Send}
 use Rattle.shaper.specs.Limits.{mostEvents}
 use Rattle.shaper.specs.Kind.{eventOf}
 use Rattle.summary.specs.declared.Summary.{Summary}
 use Rattle.summary.specs.declared.Answer.{Answer}
-use Rattle.summary.specs.Answer.{emptyAnswer, singleAnswer, joinOf, andThen}
+use Rattle.summary.specs.Range.{inRange}
+use Rattle.summary.specs.Answer.{emptyAnswer, countedAnswer, joinNext}
 use Rattle.record.specs.declared.Header.the-variants.{Settings, Unreadable}
 use Rattle.record.specs.declared.Step.the-variants.{Stands, End, Faulty}
+use Rattle.record.specs.Read.{isRun}
 use Rattle.record.specs.Step.{headerOf, stepWithin}
 use Rattle.feed.specs.declared.Stage.{Stage}
 use Rattle.feed.specs.declared.Stage.the-variants.{Heading, Summing, Stopped}
 use Rattle.feed.specs.declared.Feed.{Feed}
-use Rattle.feed.specs.Feed.{stageOf, oneMore, countedOf, nextStage, heldByte, stoppedAt, fedByte, fedOf, endsOf, finishOf}
+use Rattle.feed.specs.Feed.{stageOf, itemSize, nextStage, noneHeld, heldByte, stoppedAt, fedByte, fedOf, maySum, endsOf, finishOf}
 
--- ---- one event more
+-- ---- how many bytes an item has
 
--- Kind 3 send.
-pub event-send : (k n : ℕ) → (k ≡ 1 → ⊥) → (k ≡ 2 → ⊥) → eventOf k n ≡ Send n
-unfolding eventOf
-event-send k n p q = rw (ne-eqb k 1 p, ne-eqb k 2 q)
+module _ (xs : List ℕ) where
+  pub size-run : isRun xs ≡ true → itemSize xs ≡ 10
+  unfolding itemSize
+  size-run r = rw r
 
-module _ (s : Summary) (e : Event) where
-  pub one-more-joins : (t : Summary) → singleAnswer (s .limits) e ≡ Answer.Summed t → oneMore s e ≡ joinOf s t
-  one-more-joins t p = rw p
+  pub size-event : isRun xs ≡ false → itemSize xs ≡ 6
+  unfolding itemSize
+  size-event r = rw r
 
-  pub one-more-refused : (n : ℕ) → singleAnswer (s .limits) e ≡ Answer.Refused n → oneMore s e ≡ Answer.Refused n
-  one-more-refused n p = rw p
+  pub size-bounds : (6 ≤ itemSize xs) × (itemSize xs ≤ 10)
+  unfolding itemSize
+  size-bounds = of-each (λ n. (6 ≤ n) × (n ≤ 10)) (isRun xs) 10 6 (λ r. omega arith) (λ r. omega arith)
 
-  -- as many as an item stands for
-  pub counted-none : countedOf 0 s e ≡ Answer.Summed s
-  unfolding countedOf
-  counted-none = refl
+pub size-within : (xs : List ℕ) (n : ℕ) → n ≡ itemSize xs → (6 ≤ n) × (n ≤ 10)
+size-within xs n e = rw e (size-bounds xs)
 
-  pub counted-next : (count : ℕ) → countedOf (count + 1) s e ≡ andThen (countedOf count s e) (λ t. oneMore t e)
-  unfolding countedOf
-  counted-next count = rw add-one
+-- its first four bytes say so, whatever stands behind them
+pub run-front : (q ys : List ℕ) → 4 ≤ length q → isRun (q ++ ys) ≡ isRun q
+unfolding isRun
+run-front q ys h = rw (le-append-left 2 q ys 2 (omega arith))
 
-  pub counted-one : countedOf 1 s e ≡ oneMore s e
-  unfolding countedOf
-  counted-one = refl
+pub size-front : (q ys : List ℕ) → 4 ≤ length q → itemSize (q ++ ys) ≡ itemSize q
+unfolding itemSize
+size-front q ys h = rw (run-front q ys h)
+
+-- ---- items summed at once
+
+pub may-sum-means : (s : Summary) (held n : ℕ) → maySum s held n ≡ true → (held ≡ 0) × (10 ≤ n) × (inRange s ≡ true)
+may-sum-means s held n e =
+    let a = both (eqb held 0) (leb 10 n && inRange s) e in
+    let b = both (leb 10 n) (inRange s) (a .1) in
+    (eqb-true held 0 (a .0), leb-true 10 n (b .0), b .1)
 
 -- ---- what is held is whole
 
@@ -61,33 +73,35 @@ module _ (g : Stage) (xs : List ℕ) where
   pub next-unreadable : (n : ℕ) → g ≡ Heading → headerOf xs ≡ Unreadable n → nextStage g xs ≡ Stopped n
   next-unreadable n p q = rw (p, q)
 
-  pub next-stands : (s : Summary) (k v c m : ℕ) → g ≡ Summing s → stepWithin 9 (mostEvents - s .events) (s .limits .mtu) (take 6 xs) 0 ≡ Stands k v c m → nextStage g xs ≡ stageOf (countedOf c s (eventOf k v))
-  next-stands s k v c m p q = rw (p, q)
-
-  pub next-end : (s : Summary) → g ≡ Summing s → stepWithin 9 (mostEvents - s .events) (s .limits .mtu) (take 6 xs) 0 ≡ End → nextStage g xs ≡ Summing s
-  next-end s p q = rw (p, q)
-
-  pub next-faulty : (s : Summary) (n : ℕ) → g ≡ Summing s → stepWithin 9 (mostEvents - s .events) (s .limits .mtu) (take 6 xs) 0 ≡ Faulty n → nextStage g xs ≡ Stopped n
-  next-faulty s n p q = rw (p, q)
-
   pub next-stopped : (n : ℕ) → g ≡ Stopped n → nextStage g xs ≡ Stopped n
   next-stopped n p = rw p
 
+  module _ (s : Summary) (p : g ≡ Summing s) where
+    pub next-stands : (k v c m : ℕ) → stepWithin 9 (mostEvents - s .events) (s .limits .mtu) (take (itemSize xs) xs) 0 ≡ Stands k v c m →
+        nextStage g xs ≡ stageOf (joinNext s (countedAnswer (s .limits) (eventOf k v) c))
+    next-stands k v c m q = rw (p, q)
+
+    pub next-end : stepWithin 9 (mostEvents - s .events) (s .limits .mtu) (take (itemSize xs) xs) 0 ≡ End → nextStage g xs ≡ Summing s
+    next-end q = rw (p, q)
+
+    pub next-faulty : (n : ℕ) → stepWithin 9 (mostEvents - s .events) (s .limits .mtu) (take (itemSize xs) xs) 0 ≡ Faulty n → nextStage g xs ≡ Stopped n
+    next-faulty n q = rw (p, q)
+
 -- ---- a byte more
 
-module _ (last : ℕ) (f : Feed) (b : ℕ) where
-  pub hold-more : f .held < last → heldByte last f b ≡ record { stage = f .stage; pending = set (f .pending) (f .held) b; held = f .held + 1 }
+module _ (size : ℕ) (f : Feed) (b : ℕ) where
+  pub hold-more : f .held + 1 < size → heldByte size f b ≡ record { stage = f .stage; pending = set (f .pending) (f .held) b; held = f .held + 1 }
   unfolding heldByte
-  hold-more h = rw (lt-ltb (f .held) last h)
+  hold-more h = rw (lt-ltb (f .held + 1) size h)
 
-  pub hold-whole : last ≤ f .held →
-      heldByte last f b ≡ record { stage = nextStage (f .stage) (set (f .pending) (f .held) b); pending = set (f .pending) (f .held) b; held = 0 }
+  pub hold-whole : size ≤ f .held + 1 →
+      heldByte size f b ≡ record { stage = nextStage (f .stage) (set (f .pending) (f .held) b); pending = noneHeld; held = 0 }
   unfolding heldByte
-  hold-whole h = rw (le-ltb (f .held) last h)
+  hold-whole h = rw (le-ltb (f .held + 1) size h)
 
 module _ (f : Feed) (b : ℕ) where
   -- a header has 14 bytes
-  pub byte-heading : f .stage ≡ Heading → fedByte f b ≡ heldByte 13 f b
+  pub byte-heading : f .stage ≡ Heading → fedByte f b ≡ heldByte 14 f b
   unfolding fedByte
   byte-heading p = rw p
 
@@ -96,10 +110,10 @@ module _ (f : Feed) (b : ℕ) where
   unfolding fedByte
   byte-over s p h = rw (p, le-leb mostEvents (s .events) h)
 
-  -- an event has 6 bytes
-  pub byte-event : (s : Summary) → f .stage ≡ Summing s → s .events < mostEvents → fedByte f b ≡ heldByte 5 f b
+  -- an item has 6 bytes or 10
+  pub byte-item : (s : Summary) → f .stage ≡ Summing s → s .events < mostEvents → fedByte f b ≡ heldByte (itemSize (f .pending)) f b
   unfolding fedByte
-  byte-event s p h = rw (p, lt-leb mostEvents (s .events) h)
+  byte-item s p h = rw (p, lt-leb mostEvents (s .events) h)
 
   -- a byte after a fault changes nothing
   pub byte-stopped : (n : ℕ) → f .stage ≡ Stopped n → fedByte f b ≡ f

@@ -1,13 +1,12 @@
 // A shaper record fed in chunks of any sizes, in constant memory.
+ghost use mathlib.Core.Bool.{true};
 ghost use mathlib.Core.Path.{_≡_};
-ghost use lib.ListN.{set};
-ghost use Prim.Native.Nat.{_<_, _≤_};
-ghost use Rattle.summary.specs.Answer.{singleAnswer, andThen};
-ghost use Rattle.shaper.specs.Kind.{eventOf};
-ghost use Rattle.feed.specs.Feed.{startOf, stageOf, oneMore, countedOf, nextStage, heldByte, stoppedAt, fedByte, fedOf, AtOnce, endsOf, finishOf};
+ghost use lib.ListN.{length, drop, set};
+ghost use Prim.Native.Nat.{_+_, _<_, _≤_};
+ghost use Rattle.summary.specs.Range.{inRange};
+ghost use Rattle.feed.specs.Feed.{startOf, stageOf, itemSize, nextStage, heldByte, stoppedAt, fedByte, fedOf, withItems, maySum, AtOnce, endsOf, finishOf};
 use record::Header;
 use record::Step;
-use shaper::Limits;
 use summary::Answer;
 use summary::Summary;
 
@@ -18,7 +17,7 @@ pub enum Stage {
     Stopped(u64),
 }
 
-// A record's bytes so far: the stage, and the bytes of a header or an event that is not yet whole.
+// A record's bytes so far: the stage, and the bytes of a header or an item that is not yet whole.
 pub struct Feed {
     pub stage: Stage,
     pub pending: [u8; 14],
@@ -26,10 +25,12 @@ pub struct Feed {
 }
 
 impl Feed {
-    // The place of a header's last byte, and of an event's.
-    pub const HEADER_LAST: u8 = 13;
+    // How many bytes a header has, an event, and a run.
+    pub const HEADER: u8 = 14;
 
-    pub const EVENT_LAST: u8 = 5;
+    pub const EVENT: u8 = 6;
+
+    pub const RUN: u8 = 10;
 
     // A record of which no byte has come.
     pub fn new() -> Feed
@@ -49,24 +50,32 @@ impl Feed {
     {
         let stage = self.stage;
         match stage {
-            Stage::Heading => self.hold(Feed::HEADER_LAST, b),
+            Stage::Heading => self.hold(Feed::HEADER, b),
             Stage::Summing(sum) => {
                 if Summary::MAX_EVENTS <= sum.events {
                     return self.stopped(9);
                 }
-                self.hold(Feed::EVENT_LAST, b)
+                let pending = self.pending;
+                self.hold(held_size(pending), b)
             }
             Stage::Stopped(_) => self,
         }
     }
 
-    // The record with all bytes of a chunk more: one by one to where an event begins, and from there whole events at once.
+    // The record with all bytes of a chunk more: one by one to where an item begins, and from there whole items at once.
     pub fn feed(self, chunk: &[u8]) -> Feed
         ensures { λ r. ⌜ r ≡ fedOf self (now (chunk .entry)) ⌝ }
     {
-        let lead = decide::lesser(self.missing(), chunk.len() as u64) as usize;
-        let next = self.bytes(&chunk[..lead]);
-        next.events(&chunk[lead..])
+        let mut next = self;
+        let mut i = 0;
+        while i < chunk.len() {
+            if next.is_between() {
+                return next.items(&chunk[i..]);
+            }
+            next = next.byte(chunk[i]);
+            i += 1;
+        }
+        next
     }
 
     // Whether a fault was seen: no byte more changes what the record comes to.
@@ -98,16 +107,14 @@ impl Feed {
         }
     }
 
-    // How many bytes more make what is held whole: none where an event begins, and none past a fault.
-    fn missing(self) -> u64
-        ensures { λ r. ⌜ r ≤ 14 ⌝ }
-    {
-        let held = self.held as u64;
+    // Whether an item begins here, or a fault was seen: from here on a chunk need not go byte by byte.
+    fn is_between(self) -> bool {
+        let held = self.held;
         let stage = self.stage;
         match stage {
-            Stage::Heading => decide::less(14, held),
-            Stage::Summing(_) => decide::less(6, held) % 6,
-            Stage::Stopped(_) => 0,
+            Stage::Heading => false,
+            Stage::Summing(_) => held == 0,
+            Stage::Stopped(_) => true,
         }
     }
 
@@ -124,22 +131,23 @@ impl Feed {
         next
     }
 
-    // The same, the events that stand whole before another summed at once. Where one of them has a fault, it is found byte by byte.
-    fn events(self, chunk: &[u8]) -> Feed
+    // The same, the items that stand whole at its front summed at once. Where one of them has a fault, it is found byte by byte.
+    fn items(self, chunk: &[u8]) -> Feed
         ensures { λ r. ⌜ r ≡ fedOf self (now (chunk .entry)) ⌝ }
     {
         let stage = self.stage;
         match stage {
             Stage::Heading => self.bytes(chunk),
             Stage::Summing(sum) => {
-                let count = at_once(sum, self.held, chunk.len());
-                if count == 0 {
+                if !may_sum(sum, self.held, chunk.len()) {
                     return self.bytes(chunk);
                 }
-                let end = 6 * count as usize;
-                match sum.join_next(account::events(&chunk[..end], sum.limits)) {
+                let front = at_once(sum, chunk);
+                let end = front.end;
+                let answer = front.answer;
+                match answer {
                     Answer::Summed(all) => {
-                        let pending = self.pending;
+                        let pending = [0u8; 14];
                         let next = Feed {
                             stage: Stage::Summing(all),
                             pending: pending,
@@ -154,15 +162,15 @@ impl Feed {
         }
     }
 
-    // The byte held; the one at the last place makes the header or the event whole.
-    fn hold(self, last: u8, b: u8) -> Feed
-        ensures { λ r. ⌜ r ≡ heldByte last self b ⌝ }
+    // The byte held; the last of so many makes the header or the item whole.
+    fn hold(self, size: u8, b: u8) -> Feed
+        ensures { λ r. ⌜ r ≡ heldByte size self b ⌝ }
     {
         let held = self.held;
         let before = self.pending;
         let pending = placed(before, held, b);
         let stage = self.stage;
-        if held < last {
+        if held as u64 + 1 < size as u64 {
             return Feed {
                 stage: stage,
                 pending: pending,
@@ -170,6 +178,7 @@ impl Feed {
             };
         }
         let stage = next_stage(stage, pending);
+        let pending = [0u8; 14];
         Feed {
             stage: stage,
             pending: pending,
@@ -190,19 +199,78 @@ impl Feed {
     }
 }
 
-// How many events of a chunk of so many bytes are summed at once: all that stand whole and may come, but the last, whose bytes take the place of those held.
-// None where the chunk begins within an event, or the summary is out of range.
-fn at_once(sum: Summary, held: u8, length: usize) -> u64
-    ensures { λ r. ⌜ (0 < r → AtOnce sum held length r) ⌝ }
+// Items at the front of a chunk that were summed at once: the summary with them or a refusal, and where they end.
+struct Front {
+    answer: Answer,
+    end: usize,
+}
+
+// Whether items of a chunk of so many bytes may be summed at once: it begins with an item, one of either size stands in it, and the summary so far is in range.
+fn may_sum(sum: Summary, held: u8, length: usize) -> bool
+    ensures { λ r. ⌜ r ≡ maySum sum held length ⌝ }
 {
-    if 0 < held {
-        return 0;
+    (held == 0) & ((10 <= length) & sum.in_range())
+}
+
+// The items at the front of a chunk summed at once. In a record of the old form each has 6 bytes; where they are refused so, their kinds say how many each has.
+fn at_once(sum: Summary, chunk: &[u8]) -> Front
+    requires { ⌜ (inRange sum ≡ true) × (10 ≤ length (now chunk)) ⌝ }
+    ensures { λ r. ⌜ AtOnce sum (now (chunk .entry)) r ⌝ }
+{
+    let end = chunk.len() / 6 * 6;
+    match with_items(sum, &chunk[..end]) {
+        Answer::Summed(all) => Front {
+            answer: Answer::Summed(all),
+            end: end,
+        },
+        Answer::Refused(_) => {
+            let end = items_end(chunk);
+            let answer = with_items(sum, &chunk[..end]);
+            Front {
+                answer: answer,
+                end: end,
+            }
+        }
     }
-    if !sum.in_range() {
-        return 0;
-    }
+}
+
+// The summary with all items of some bytes more, or the number of their earliest fault.
+fn with_items(sum: Summary, items: &[u8]) -> Answer
+    requires { ⌜ inRange sum ≡ true ⌝ }
+    ensures { λ r. ⌜ r ≡ withItems sum (now (items .entry)) ⌝ }
+{
     let may = record::may_come(sum.events as u64);
-    decide::less(decide::lesser(length as u64 / 6, may), 1)
+    sum.join_next(account::events(items, sum.limits, may, true))
+}
+
+// Where items at the front of a chunk end, by their kinds: fewer than the 10 bytes that the longest has are left behind them.
+fn items_end(chunk: &[u8]) -> usize
+    requires { ⌜ 10 ≤ length (now chunk) ⌝ }
+    ensures { λ r. ⌜ (0 < r) × (r ≤ length (now (chunk .entry))) ⌝ }
+{
+    let mut at = 0;
+    while 10 <= chunk.len() - at {
+        at += item_size(chunk, at) as usize;
+    }
+    at
+}
+
+// How many bytes the item at a place has, by its kind.
+fn item_size(s: &[u8], at: usize) -> u8
+    requires { ⌜ at + 4 ≤ length (now s) ⌝ }
+    ensures { λ r. ⌜ r ≡ itemSize (drop at (now (s .entry))) ⌝ }
+{
+    if wire::get16(s, at + 2) == 4 {
+        return Feed::RUN;
+    }
+    Feed::EVENT
+}
+
+// How many bytes the item has that these begin.
+fn held_size(bytes: [u8; 14]) -> u8
+    ensures { λ r. ⌜ r ≡ itemSize bytes ⌝ }
+{
+    item_size(&bytes, 0)
 }
 
 // The bytes with one at a place, where there is such a place.
@@ -216,7 +284,7 @@ fn placed(mut bytes: [u8; 14], at: u8, b: u8) -> [u8; 14]
     bytes
 }
 
-// The stage after the bytes of a header or of an event.
+// The stage after the bytes of a header or of an item.
 fn next_stage(stage: Stage, bytes: [u8; 14]) -> Stage
     ensures { λ r. ⌜ r ≡ nextStage stage bytes ⌝ }
 {
@@ -225,22 +293,20 @@ fn next_stage(stage: Stage, bytes: [u8; 14]) -> Stage
             Header::Settings(limits) => stage_of(Summary::empty(limits)),
             Header::Unreadable(n) => Stage::Stopped(n),
         },
-        Stage::Summing(sum) => match record::event_within(
-            &bytes[0..6],
-            0,
-            sum.limits.mtu,
-            record::may_come(sum.events as u64),
-            9,
-        ) {
-            Step::Stands {
-                kind,
-                number,
-                count,
-                next: _,
-            } => stage_of(counted(sum, kind, number, count)),
-            Step::End => Stage::Summing(sum),
-            Step::Faulty(n) => Stage::Stopped(n),
-        },
+        Stage::Summing(sum) => {
+            let end = held_size(bytes) as usize;
+            let may = record::may_come(sum.events as u64);
+            match record::event_within(&bytes[..end], 0, sum.limits.mtu, may, 9, true) {
+                Step::Stands {
+                    kind,
+                    number,
+                    count,
+                    next: _,
+                } => stage_of(sum.join_next(Summary::counted(sum.limits, kind, number, count))),
+                Step::End => Stage::Summing(sum),
+                Step::Faulty(n) => Stage::Stopped(n),
+            }
+        }
         Stage::Stopped(n) => Stage::Stopped(n),
     }
 }
@@ -253,47 +319,4 @@ fn stage_of(answer: Answer) -> Stage
         Answer::Summed(sum) => Stage::Summing(sum),
         Answer::Refused(n) => Stage::Stopped(n),
     }
-}
-
-// The summary with so many equal events more.
-fn counted(sum: Summary, kind: u16, number: u16, count: u32) -> Answer
-    ensures { λ r. ⌜ r ≡ countedOf count sum (eventOf kind number) ⌝ }
-{
-    let mut all = Answer::Summed(sum);
-    let mut i = 0;
-    while i < count {
-        all = onto(all, kind, number);
-        i += 1;
-    }
-    all
-}
-
-// The summary with one event more, or the refusal that was before it.
-fn onto(all: Answer, kind: u16, number: u16) -> Answer
-    ensures { λ r. ⌜ r ≡ andThen all (λ s. oneMore s (eventOf kind number)) ⌝ }
-{
-    match all {
-        Answer::Summed(sum) => one_more(sum, kind, number),
-        Answer::Refused(n) => Answer::Refused(n),
-    }
-}
-
-// The summary with one event more.
-fn one_more(sum: Summary, kind: u16, number: u16) -> Answer
-    ensures { λ r. ⌜ r ≡ oneMore sum (eventOf kind number) ⌝ }
-{
-    sum.join_next(single(sum.limits, kind, number))
-}
-
-// The summary of one event, by its kind and number.
-fn single(limits: Limits, kind: u16, number: u16) -> Answer
-    ensures { λ r. ⌜ r ≡ singleAnswer limits (eventOf kind number) ⌝ }
-{
-    if kind == 1 {
-        return Summary::waiting_tick(limits, number);
-    }
-    if kind == 2 {
-        return Summary::idle_tick(limits, number);
-    }
-    Summary::send(limits, number as u32)
 }

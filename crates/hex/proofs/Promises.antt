@@ -6,8 +6,13 @@ use mathlib.Core.List.{List, [], _∷_, _++_, flatten}
 use mathlib.Core.Logic.{inl, inr, ⊎-elim}
 use mathlib.Core.Path.{_≡_, refl, sym, ap, _∙_}
 use Rattle.decide.proofs.Cases.{by-cases, true-or-false}
+use Rattle.shaper.specs.declared.Limits.{Limits}
 use Rattle.summary.specs.declared.Answer.{Answer}
+use Rattle.record.specs.Record.{written}
+use Rattle.record.specs.Items.{Item, writtenItems, unrolled, Formed}
+use Rattle.account.specs.Account.{summarizeOf}
 use Rattle.account.proofs.Promises.{summarize-refused-exactly}
+use Rattle.account.proofs.Promises as account
 use Rattle.feed.specs.Feed as Feeding
 use Rattle.feed.proofs.Promises.{fed-once}
 use Rattle.hex.specs.declared.Hex.{Hex}
@@ -38,6 +43,20 @@ text-read cs =
 pub text-whole : (chunks : List (List ℕ)) → finishOf (readChunks startOf chunks) ≡ textOf (flatten chunks)
 text-whole chunks = ap finishOf (text-chunks-all startOf chunks) ∙ text-read (flatten chunks)
 
+-- ---- either form
+
+-- hex whose bytes are these comes to what they come to
+text-record : (chunks : List (List ℕ)) (xs : List ℕ) → isHex (flatten chunks) ≡ true → pairs (digitsOf (flatten chunks)) ≡ xs → finishOf (readChunks startOf chunks) ≡ summarizeOf xs
+unfolding textOf
+text-record chunks xs h e = text-whole chunks ∙ rw (h, e)
+
+-- Events are counted unrolled: a record's text comes to what that of its unrolled form comes to, each in chunks of any sizes.
+pub either-form : (l : Limits) (is : List Item) → Formed true l is → (chunks unrolls : List (List ℕ)) → isHex (flatten chunks) ≡ true → isHex (flatten unrolls) ≡ true →
+    pairs (digitsOf (flatten chunks)) ≡ writtenItems l is → pairs (digitsOf (flatten unrolls)) ≡ written l (unrolled is) →
+    finishOf (readChunks startOf chunks) ≡ finishOf (readChunks startOf unrolls)
+either-form l is w chunks unrolls h k p q =
+    text-record chunks (writtenItems l is) h p ∙ account.either-form l is w ∙ sym (text-record unrolls (written l (unrolled is)) k q)
+
 -- ---- before the end
 
 itself : (b : Bool) → cond b true false ≡ b
@@ -60,7 +79,7 @@ module _ (cs : List ℕ) (n : ℕ) (p : 0 < n) where
   unfolding textOf
   means h =
       by-cases (true-or-false (isHex cs))
-      (λ e. inr (e, summarize-refused-exactly (pairs (digitsOf cs)) n (text-bytes cs) p .0 (sym (rw e) ∙ h)))
+      (λ e. inr (e, summarize-refused-exactly true (pairs (digitsOf cs)) n (text-bytes cs) p .0 (sym (rw e) ∙ h)))
       (λ e. inl (e, number (sym (sym (rw e) ∙ h))))
     where
       number : Answer.Refused n ≡ Answer.Refused 2 → n ≡ 2
@@ -71,7 +90,7 @@ module _ (cs : List ℕ) (n : ℕ) (p : 0 < n) where
   meant c =
       ⊎-elim
       (λ x. rw (x .0) (ap Answer.Refused (sym (x .1))))
-      (λ x. rw (x .0) (summarize-refused-exactly (pairs (digitsOf cs)) n (text-bytes cs) p .1 (x .1)))
+      (λ x. rw (x .0) (summarize-refused-exactly true (pairs (digitsOf cs)) n (text-bytes cs) p .1 (x .1)))
       c
 
 -- A number is given exactly when it has its cause in the text.

@@ -71,4 +71,4 @@ textOf cs = cond (isHex cs) (summarizeOf (pairs (digitsOf cs))) (Answer.Refused 
 
 -- what a text can be refused for: 2 where it is no hex, before all else; otherwise what its record is refused for
 abbrev pub TextCause : List ℕ → ℕ → Type 0
-TextCause cs n = ((isHex cs ≡ false) × (n ≡ 2)) ⊎ ((isHex cs ≡ true) × Cause (pairs (digitsOf cs)) n)
+TextCause cs n = ((isHex cs ≡ false) × (n ≡ 2)) ⊎ ((isHex cs ≡ true) × Cause true (pairs (digitsOf cs)) n)

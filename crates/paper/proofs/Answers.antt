@@ -9,6 +9,7 @@ use Rattle.paper.proofs.OfTally as OfTally
 use Rattle.paper.proofs.OfSummary as OfSummary
 use Rattle.paper.proofs.OfRecord as OfRecord
 use Rattle.paper.proofs.OfAccount as OfAccount
+use Rattle.paper.proofs.OfRoll as OfRoll
 use Rattle.paper.proofs.OfReport as OfReport
 use Rattle.paper.proofs.OfWindow as OfWindow
 use Rattle.paper.proofs.OfApart as OfApart
@@ -45,6 +46,7 @@ answers-determined =
       of-summary = OfSummary.functions;
       of-record = OfRecord.functions;
       of-account = OfAccount.functions;
+      of-roll = OfRoll.functions;
       of-report = OfReport.functions;
       of-window = OfWindow.functions;
       of-apart = OfApart.functions;

@@ -1,68 +1,43 @@
--- A record is refused for its earliest fault: the cause that `record` names is the reason that holds, in the header, at an event, or behind the millionth.
--- Assumes nothing.
+-- A record is refused for its earliest fault: the cause that `record` names is the reason that holds, in the header, at an item, behind the millionth event, or
+-- where a run passes it. Assumes nothing.
 use Prim.Native.Nat.{ℕ, _+_, _%_, _<_}
-use mathlib.Core.Bool.{not, _&&_}
-use mathlib.Core.List.{List}
+use mathlib.Core.Bool.{Bool, true, false}
+use mathlib.Core.List.{List, _++_}
 use mathlib.Core.Logic.{_↔_}
 use mathlib.Core.Path.{_≡_, refl, sym, ap, subst, _∙_}
 use native.Mathlib.Omega.{arith}
-use borrow.Author.Tests.{leb-true, le-leb, lt-leb}
-use lib.Dec.{eqb, leb}
 use lib.ListN.{length, drop}
-use Rattle.decide.specs.Test.{test}
-use Rattle.decide.specs.Refusal.{Given}
-use Rattle.decide.specs.Size.{sizeOk}
+use Rattle.decide.specs.Refusal.{firstOf}
+use Rattle.decide.proofs.Cases.{by-cases, true-or-false}
 use Rattle.wire.specs.Wire.{le, Bytes}
-use Rattle.shaper.specs.Limits.{limitsOk}
-use Rattle.shaper.proofs.Ranges.{limits-exactly}
+use Rattle.shaper.specs.Limits.{mostEvents}
+use Rattle.shaper.specs.declared.Limits.{Limits}
 use Rattle.summary.specs.declared.Answer.{Answer}
 use Rattle.summary.specs.Answer.{answerNumber}
 use Rattle.record.specs.declared.Header.{Header}
 use Rattle.record.specs.declared.Step.the-variants.{Stands}
-use Rattle.record.specs.Step.{headerOf, stepAt}
-use Rattle.record.specs.Read.{limitsAt, headerFaults, eventFaults}
-use Rattle.record.proofs.Rows.{count-one, event-end, within-stands, within-over, within-end, within-faulty, within-none}
+use Rattle.record.specs.Record.{written, WellFormed}
+use Rattle.record.specs.Items.{Item, writtenItems, unrolled, Formed}
+use Rattle.record.specs.Step.{headerOf, itemAt}
+use Rattle.record.specs.Read.{limitsAt, headerFaults, isRun, itemFaults, itemCount}
+use Rattle.record.specs.Cause.{Why, too-many, has-fault, passes, Cause, in-header, behind-items}
+use Rattle.record.proofs.Rows.{run-there, run-nowhere, kind-there, told-event, told-run, free-stands, item-end, within-stands, within-over, within-end, within-faulty, within-none}
 use Rattle.record.proofs.Steps.{step-stands}
-use Rattle.record.proofs.Refused.{header-refused-exactly, event-refused-exactly}
+use Rattle.record.proofs.Written.{ones, ones-unrolled, ones-written, ones-formed}
+use Rattle.record.proofs.Wrote.{only-ones, formed-events}
+use Rattle.record.proofs.Refused.{header-refused-exactly, item-refused-exactly}
 use Rattle.reader.proofs.Rows.{next-settings, next-unreadable}
-use Rattle.record.specs.Cause.{Cause, in-header, behind-events, too-many, has-fault}
-use Rattle.account.specs.Account.{summarizeOf}
+use Rattle.account.specs.Account.{summarizeIn, summarizeOf}
 use Rattle.account.proofs.Promises.{summarize-refused-exactly}
 use Rattle.rpr.specs.Calls.{summarizeAnswer}
 use Rattle.rpr.proofs.Rows.{summarize-room, summarize-rows}
 use Rattle.rpr.proofs.Promises.{summarize-leaves}
 use Rattle.paper.specs.Reasons as reasons
-use Rattle.paper.specs.Reasons.{headerRefused, eventRefused, RecordRefused}
+use Rattle.paper.specs.Reasons.{headerRefused, itemRefused, RecordRefused, OldRecordRefused}
 use Rattle.paper.specs.First.{RefusesRecord}
 use Rattle.paper.specs.Third.{Finding}
-use Rattle.paper.proofs.Reasons.{Meant, none, row, number-of, given-for, denies, tests, equal, below, both-exactly, refuses-alone}
-
--- ---- rows
-
-header-meant : (xs : List ℕ) → Meant (headerFaults xs) (headerRefused xs)
-header-meant xs =
-    row (below (length xs) 14)
-    (row (denies (eqb (le 2 xs 0) 14) (equal (le 2 xs 0) 14))
-    (row (denies (eqb (le 2 xs 2) 16) (equal (le 2 xs 2) 16))
-    (row (denies (test (limitsOk (limitsAt xs))) (limits-exactly (limitsAt xs)))
-    none)))
-
-event-meant : (mtu : ℕ) (xs : List ℕ) → Meant (eventFaults mtu xs) (eventRefused mtu xs)
-event-meant mtu xs =
-    let kind = le 2 xs 2 in
-    let size = le 2 xs 4 in
-    row (below (length xs) 6)
-    (row (denies (eqb (le 2 xs 0) 6) (equal (le 2 xs 0) 6))
-    (row (denies (leb 1 kind && leb kind 3) (both-exactly (leb 1 kind) (leb kind 3) (leb-true 1 kind, le-leb 1 kind) (leb-true kind 3, le-leb kind 3)))
-    (row (both-exactly (eqb kind 3) (not (test (sizeOk size mtu))) (equal kind 3) (denies (test (sizeOk size mtu)) (tests (sizeOk size mtu))))
-    none)))
-
--- the reasons of a number are its cause
-pub header-given : (xs : List ℕ) (n : ℕ) → 0 < n → headerRefused xs n → Given (headerFaults xs) n
-header-given xs n p = given-for (headerFaults xs) (header-meant xs) refl refl n p .1
-
-pub event-given : (mtu : ℕ) (xs : List ℕ) (n : ℕ) → 0 < n → eventRefused mtu xs n → Given (eventFaults mtu xs) n
-event-given mtu xs n p = given-for (eventFaults mtu xs) (event-meant mtu xs) refl refl n p .1
+use Rattle.paper.proofs.Reasons.{number-of, refuses-alone}
+use Rattle.paper.proofs.Items.{header-meant, header-given, item-number, item-free, item-given, event-number, event-free, event-given, event-kind, run-many}
 
 -- ---- what stands in any bytes
 
@@ -72,44 +47,73 @@ module _ (xs : List ℕ) where
   header-settings h = rw (number-of (headerFaults xs) (header-meant xs) refl 0 h)
 
   module _ (mtu at : ℕ) (some : at < length xs) where
-    event-there : eventRefused mtu (drop at xs) 0 → stepAt mtu xs at ≡ Stands (le 2 (drop at xs) 2) (le 2 (drop at xs) 4) 1 (at + le 2 (drop at xs) 0)
-    unfolding stepAt
-    event-there h = rw (lt-leb (length xs) at some, number-of (eventFaults mtu (drop at xs)) (event-meant mtu (drop at xs)) refl 0 h, count-one (drop at xs))
+    -- an event ends 6 bytes on,
+    event-there : (runs : Bool) → firstOf (itemFaults runs mtu (drop at xs)) ≡ 0 → isRun (drop at xs) ≡ false
+        → itemAt runs mtu xs at ≡ Stands (le 2 (drop at xs) 2) (le 2 (drop at xs) 4) 1 (at + 6)
+    event-there runs free e =
+        let t = told-event (drop at xs) e in
+        let here = rw (t .kind, t .number, t .count) at (free-stands runs mtu xs at some free) in
+        let six = by-cases (step-stands runs mtu xs at _ _ _ _ here .there) (λ s. s .six) (λ s. absurd (omega (arith, s .1 .many))) in
+        here ∙ ap (Stands (le 2 (drop at xs) 2) (le 2 (drop at xs) 4) 1) six
 
-    event-stands : eventRefused mtu (drop at xs) 0 → stepAt mtu xs at ≡ Stands (le 2 (drop at xs) 2) (le 2 (drop at xs) 4) 1 (at + 6)
-    event-stands h = let here = event-there h in here ∙ ap (Stands (le 2 (drop at xs) 2) (le 2 (drop at xs) 4) 1) (step-stands mtu xs at _ _ _ _ here .six)
+    -- and a run 10
+    run-stands : itemRefused mtu (drop at xs) 0 → le 2 (drop at xs) 2 ≡ 4
+        → itemAt true mtu xs at ≡ Stands (le 2 (drop at xs) 4) (le 2 (drop at xs) 6) (le 2 (drop at xs) 8) (at + 10)
+    run-stands h four =
+        let ys = drop at xs in
+        let t = told-run ys (run-there ys four) in
+        let here = rw (t .kind, t .number, t .count) at (free-stands true mtu xs at some (item-number mtu ys 0 h)) in
+        let ten = by-cases (step-stands true mtu xs at _ _ _ _ here .there) (λ s. absurd (omega (arith, s .one, run-many mtu ys h four))) (λ s. s .1 .ten) in
+        here ∙ ap (Stands (le 2 ys 4) (le 2 ys 6) (le 2 ys 8)) ten
 
   pub finds : Finding xs
   finds =
       record {
         settings = header-settings;
-        unreadable = λ n p h. header-refused-exactly xs n p .1 (header-given xs n p h);
-        end = λ mtu at. event-end mtu xs at;
-        stands = event-stands;
-        faulty = λ mtu at n some p h. event-refused-exactly mtu xs at n some p .1 (event-given mtu (drop at xs) n p h);
-        none-left = λ late mtu at n here. within-none late 0 mtu xs at n here refl;
-        some-left = λ late left mtu at n. within-faulty late left mtu xs at n;
-        all-passed = λ late left mtu at. within-end late left mtu xs at;
-        few = λ late left mtu at. within-stands late left mtu xs at;
-        many = λ late left mtu at. within-over late left mtu xs at;
+        unreadable = λ n p h. header-refused-exactly xs n p .1 (header-given xs n p .1 h);
+        end = λ mtu at. item-end true mtu xs at;
+        event = λ mtu at some h other. event-there mtu at some true (item-number mtu (drop at xs) 0 h) (run-nowhere (drop at xs) other);
+        run = run-stands;
+        faulty = λ mtu at n some p h. item-refused-exactly true mtu xs at n some p .1 (item-given mtu (drop at xs) n p .1 h);
+        old-end = λ mtu at. item-end false mtu xs at;
+        old-event = λ mtu at some h. event-there mtu at some false (event-number mtu (drop at xs) 0 h) (run-nowhere (drop at xs) (event-kind mtu (drop at xs) h));
+        old-faulty = λ mtu at n some p h. item-refused-exactly false mtu xs at n some p .1 (event-given mtu (drop at xs) n p .1 h);
+        none-left = λ runs late mtu at n here. within-none runs late 0 mtu xs at n here refl;
+        some-left = λ runs late left mtu at n. within-faulty runs late left mtu xs at n;
+        all-passed = λ runs late left mtu at. within-end runs late left mtu xs at;
+        few = λ runs late left mtu at. within-stands runs late left mtu xs at;
+        many = λ runs late left mtu at. within-over runs late left mtu xs at;
         read = λ l p. next-settings xs p l;
         not-read = λ n p. next-unreadable xs p n;
       }
 
 -- ---- the cause
 
-module _ (xs : List ℕ) (n : ℕ) (p : 0 < n) where
-  named : Cause xs n → RecordRefused xs n
-  named (in-header g) = reasons.in-header (given-for (headerFaults xs) (header-meant xs) refl refl n p .0 g)
-  named (behind-events l es q e w some (too-many full nine)) = reasons.after-million l es q e w full some nine
-  named (behind-events l es q e w some (has-fault few g)) =
-      reasons.at-event l es q e w few some (given-for (eventFaults (l .mtu) q) (event-meant (l .mtu) q) refl refl n p .0 g)
+-- an item that stands for more than one event is a run, of as many as its count
+many-run : (q : List ℕ) (done most : ℕ) → done < most → most < done + itemCount q → (le 2 q 2 ≡ 4) × (itemCount q ≡ le 2 q 8)
+many-run q done most few over =
+    by-cases (true-or-false (isRun q))
+    (λ r. (kind-there q r, told-run q r .count))
+    (λ r. absurd (omega (arith, told-event q r .count)))
 
-  caused : RecordRefused xs n → Cause xs n
-  caused (reasons.in-header g) = in-header (header-given xs n p g)
-  caused (reasons.at-event l es q e w few some g) =
-      behind-events l es q e w some (has-fault few (event-given (l .mtu) q n p g))
-  caused (reasons.after-million l es q e w full some nine) = behind-events l es q e w some (too-many full nine)
+module _ (xs : List ℕ) (n : ℕ) (p : 0 < n) where
+  named : Cause true xs n → RecordRefused xs n
+  named (in-header g) = reasons.RecordRefused.in-header (header-given xs n p .0 g)
+  named (behind-items l is q e f some (too-many full nine)) = reasons.RecordRefused.after-million l is q e f full some nine
+  named (behind-items l is q e f some (has-fault few g)) = reasons.at-item l is q e f few some (item-given (l .mtu) q n p .0 g)
+  named (behind-items l is q e f some (passes few free over nine)) =
+      let run = many-run q (length (unrolled is)) mostEvents few over in
+      reasons.past-million l is q e f few some (item-free (l .mtu) q free) (run .0) (rw (← run .1) over) nine
+
+  caused : RecordRefused xs n → Cause true xs n
+  caused (reasons.RecordRefused.in-header g) = in-header (header-given xs n p .1 g)
+  caused (reasons.RecordRefused.after-million l is q e f full some nine) = behind-items l is q e f some (too-many full nine)
+  caused (reasons.at-item l is q e f few some g) = behind-items l is q e f some (has-fault few (item-given (l .mtu) q n p .1 g))
+  caused (reasons.past-million l is q e f few some free four over nine) =
+      behind-items l is q e f some (passes few (item-number (l .mtu) q 0 free) (rw (told-run q (run-there q four) .count) over) nine)
+
+  pub causes : Cause true xs n ↔ RecordRefused xs n
+  causes = (named, caused)
 
   -- a number that is answered, and a refusal with it
   told : (a : Answer) → (answerNumber a ≡ n) ↔ (a ≡ Answer.Refused n)
@@ -119,8 +123,42 @@ module _ (xs : List ℕ) (n : ℕ) (p : 0 < n) where
 -- A record has the number of its earliest fault.
 pub record-faults : (xs : List ℕ) → Bytes xs → (n : ℕ) → 0 < n → (summarizeOf xs ≡ Answer.Refused n) ↔ RecordRefused xs n
 record-faults xs bytes n p =
-    let exactly = summarize-refused-exactly xs n bytes p in
+    let exactly = summarize-refused-exactly true xs n bytes p in
     (λ e. named xs n p (exactly .0 e), λ c. exactly .1 (caused xs n p c))
+
+-- ---- in the old form
+
+-- items among which no run may stand are the events that they stand for
+old-items : (l : Limits) (is : List Item) → Formed false l is → writtenItems l is ≡ written l (unrolled is)
+old-items l is f = ap (writtenItems l) (only-ones l is (f .items)) ∙ ones-written l (unrolled is)
+
+module _ (xs : List ℕ) (n : ℕ) (p : 0 < n) where
+  old-named : Cause false xs n → OldRecordRefused xs n
+  old-named (in-header g) = reasons.OldRecordRefused.in-header (header-given xs n p .0 g)
+  old-named (behind-items l is q e f some why) =
+      by (e ∙ ap (λ (ys : List ℕ). ys ++ q) (old-items l is f)) (formed-events false l is f) why
+    where
+      by : xs ≡ written l (unrolled is) ++ q → WellFormed l (unrolled is) → Why false 9 (l .mtu) mostEvents (length (unrolled is)) q n → OldRecordRefused xs n
+      by same w (too-many full nine) = reasons.OldRecordRefused.after-million l (unrolled is) q same w full some nine
+      by same w (has-fault few g) = reasons.at-event l (unrolled is) q same w few some (event-given (l .mtu) q n p .0 g)
+      by same w (passes few free over nine) =
+          absurd (event-kind (l .mtu) q (event-free (l .mtu) q free) (many-run q (length (unrolled is)) mostEvents few over .0))
+
+  old-caused : OldRecordRefused xs n → Cause false xs n
+  old-caused (reasons.OldRecordRefused.in-header g) = in-header (header-given xs n p .1 g)
+  old-caused (reasons.OldRecordRefused.after-million l es q e w full some nine) =
+      behind-items l (ones es) q (rw (ones-written l es) e) (ones-formed false l es w) some (too-many (rw (ones-unrolled es) full) nine)
+  old-caused (reasons.at-event l es q e w few some g) =
+      behind-items l (ones es) q (rw (ones-written l es) e) (ones-formed false l es w) some (has-fault (rw (ones-unrolled es) few) (event-given (l .mtu) q n p .1 g))
+
+  pub old-causes : Cause false xs n ↔ OldRecordRefused xs n
+  old-causes = (old-named, old-caused)
+
+  -- A record in the old form has the number of its earliest fault.
+  pub old-record-faults : Bytes xs → (summarizeIn false xs ≡ Answer.Refused n) ↔ OldRecordRefused xs n
+  old-record-faults b =
+      let exactly = summarize-refused-exactly false xs n b p in
+      (λ e. old-named (exactly .0 e), λ c. exactly .1 (old-caused c))
 
 -- ---- rpr_summarize
 

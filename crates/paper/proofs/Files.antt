@@ -1,5 +1,7 @@
 -- Files of summaries are joined so, by the laws of `sheet`; the pieces of a well-formed record are well formed.
 -- Assumes nothing.
+use Prim.Native.Nat.{_+_, _≤_}
+use mathlib.Core.Bool.{true}
 use mathlib.Core.List.{List, [], _∷_, _++_, map, flatten}
 use mathlib.Core.Path.{_≡_, refl, sym, ap, _∙_}
 use native.Mathlib.Omega.{arith}
@@ -7,32 +9,73 @@ use borrow.Author.Tests.{eq-eqb, ne-eqb}
 use lib.ListN.{length, length-append}
 use Rattle.shaper.specs.declared.Limits.{Limits}
 use Rattle.shaper.specs.declared.Event.{Event}
-use Rattle.record.specs.Record.{written, WellFormed}
+use Rattle.shaper.specs.Limits.{mostEvents}
+use Rattle.summary.specs.declared.Answer.{Answer}
+use Rattle.summary.specs.Summary.{summaryOf}
+use Rattle.record.specs.Items.{Item, writtenItems, unrolled, ItemsOk, Formed}
+use Rattle.record.proofs.Written.{unrolled-append}
+use Rattle.record.proofs.Wrote.{formed-events}
 use Rattle.account.specs.Account.{summarizeOf}
-use Rattle.account.proofs.Pieces.{part-left, part-right}
-use Rattle.account.proofs.Promises.{summarize-written}
+use Rattle.account.proofs.Promises.{summarize-items}
 use Rattle.sheet.specs.Sheet.{sheetLength}
 use Rattle.sheet.specs.Files.{joinedFrom, joinedOf, fileOf}
 use Rattle.sheet.proofs.Files.{open-2, open-3, opens, pieceFile, ValidPieces, files-joined}
 use Rattle.paper.specs.Program.{JoinsFiles}
 
-pieces-valid : (l : Limits) (pieces : List (List Event)) → WellFormed l (flatten pieces) → ValidPieces l pieces
+-- the parts of items in range are in range
+pub parts-ok : (l : Limits) (is js : List Item) → ItemsOk true l (is ++ js) → ItemsOk true l is × ItemsOk true l js
+parts-ok l [] js v = (tt, v)
+parts-ok l (i ∷ is) js v = let r = parts-ok l is js (v .1) in ((v .0, r .0), r .1)
+
+-- and so are the parts of a record
+module _ (l : Limits) (is js : List Item) (w : Formed true l (is ++ js)) where
+  many : length (unrolled is) + length (unrolled js) ≤ mostEvents
+  many = omega (arith, w .few, ap length (unrolled-append is js), length-append (unrolled is) (unrolled js))
+
+  front : Formed true l is
+  front = record { settings = w .settings; items = parts-ok l is js (w .items) .0; few = omega (arith, many) }
+
+  behind : Formed true l js
+  behind = record { settings = w .settings; items = parts-ok l is js (w .items) .1; few = omega (arith, many) }
+
+-- the events of the pieces
+all-unrolled : (pieces : List (List Item)) → unrolled (flatten pieces) ≡ flatten (map unrolled pieces)
 unfolding flatten
-pieces-valid l [] w = tt
-pieces-valid l (es ∷ pieces) w =
-    (part-left l es (flatten pieces) w .valid, pieces-valid l pieces (part-right l es (flatten pieces) w))
+all-unrolled [] = refl
+all-unrolled (is ∷ pieces) = unrolled-append is (flatten pieces) ∙ ap (λ (es : List Event). unrolled is ++ es) (all-unrolled pieces)
 
--- the files of the pieces, from their bytes
 module _ (l : Limits) where
-  from-bytes : (es : List Event) → WellFormed l es → fileOf (summarizeOf (written l es)) ≡ pieceFile l es
-  from-bytes es w = ap fileOf (summarize-written l es w)
+  pieces-valid : (pieces : List (List Item)) → Formed true l (flatten pieces) → ValidPieces l (map unrolled pieces)
+  unfolding flatten
+  pieces-valid [] w = tt
+  pieces-valid (is ∷ pieces) w =
+      (formed-events true l is (front l is (flatten pieces) w) .valid, pieces-valid pieces (behind l is (flatten pieces) w))
 
-  all-from-bytes : (pieces : List (List Event)) → WellFormed l (flatten pieces) →
-      map (λ piece. fileOf (summarizeOf (written l piece))) pieces ≡ map (pieceFile l) pieces
+  -- the files of the pieces, from their bytes
+  from-bytes : (is : List Item) → Formed true l is → fileOf (summarizeOf (writtenItems l is)) ≡ pieceFile l (unrolled is)
+  from-bytes is w = ap fileOf (summarize-items true l is w)
+
+  all-from-bytes : (pieces : List (List Item)) → Formed true l (flatten pieces) →
+      map (λ piece. fileOf (summarizeOf (writtenItems l piece))) pieces ≡ map (pieceFile l) (map unrolled pieces)
   unfolding flatten
   all-from-bytes [] w = refl
-  all-from-bytes (es ∷ pieces) w =
-      rw (from-bytes es (part-left l es (flatten pieces) w), all-from-bytes pieces (part-right l es (flatten pieces) w))
+  all-from-bytes (is ∷ pieces) w =
+      rw (from-bytes is (front l is (flatten pieces) w), all-from-bytes pieces (behind l is (flatten pieces) w))
+
+  -- joined in their order they come to the summary of all their events
+  pieces-joined : (is : List Item) (rest : List (List Item)) → Formed true l (is ++ flatten rest)
+      → joinedOf (fileOf (summarizeOf (writtenItems l is))) (map (λ piece. fileOf (summarizeOf (writtenItems l piece))) rest)
+      ≡ Answer.Summed (summaryOf l (unrolled (is ++ flatten rest)))
+  pieces-joined is rest w =
+      let p = front l is (flatten rest) w in
+      let q = behind l is (flatten rest) w in
+      let events : unrolled (is ++ flatten rest) ≡ unrolled is ++ flatten (map unrolled rest) =
+      unrolled-append is (flatten rest) ∙ ap (λ (es : List Event). unrolled is ++ es) (all-unrolled rest) in
+      ap (λ file. joinedOf file (map (λ piece. fileOf (summarizeOf (writtenItems l piece))) rest)) (from-bytes is p)
+      ∙ ap (joinedOf (pieceFile l (unrolled is))) (all-from-bytes rest q)
+      ∙ files-joined l (w .settings) (unrolled is) (map unrolled rest) (formed-events true l is p .valid) (pieces-valid rest q)
+      (omega (arith, many l is (flatten rest) w, ap length (all-unrolled rest)))
+      ∙ ap (λ (es : List Event). Answer.Summed (summaryOf l es)) (sym events)
 
 pub joins-files : JoinsFiles
 unfolding joinedFrom
@@ -48,11 +91,6 @@ joins-files =
       all = λ xs files. refl;
       written-file = λ s n. (refl, refl);
       pieces =
-          λ l es rest w.
-          let p = part-left l es (flatten rest) w in
-          let q = part-right l es (flatten rest) w in
-          ap (λ file. joinedOf file (map (λ piece. fileOf (summarizeOf (written l piece))) rest)) (from-bytes l es p)
-          ∙ ap (joinedOf (pieceFile l es)) (all-from-bytes l rest q)
-          ∙ files-joined l (w .settings) es rest (p .valid) (pieces-valid l rest q) (omega (arith, w .few, length-append es (flatten rest)))
-          ∙ sym (summarize-written l (es ++ flatten rest) w);
+          λ l whole is rest v w same.
+          pieces-joined l is rest w ∙ ap (λ (es : List Event). Answer.Summed (summaryOf l es)) (sym same) ∙ sym (summarize-items true l whole v);
     }

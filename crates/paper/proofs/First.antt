@@ -74,6 +74,7 @@ use Rattle.paper.specs.Reasons.{readRefused, roomRefused, Spaces, Carrie
 use Rattle.paper.specs.Acts.{YesNo}
 use Rattle.paper.specs.First.{Refuses, RefusesLent, ReturnsShort, RefusesClient, Tested, Condition1}
 use Rattle.paper.proofs.Earliest.{refuses-record}
+use Rattle.paper.proofs.Rolling.{refuses-roll, refuses-unroll}
 use Rattle.paper.proofs.Reasons.{refuses-alone, Meant, none, row, tried, denies, faulted, tests, tested, equal, below, both-exactly, flags-exactly}
 
 -- ---- by the rows
@@ -335,7 +336,7 @@ ranges-tested =
 pub first-condition : Condition1
 first-condition =
     record {
-      bounds = (refl, refl, refl);
+      bounds = (refl, refl, refl, refl);
       lengths = (refl, refl, refl, refl, omega arith);
       hops = λ h. (λ p. p, λ p. p);
       tested = ranges-tested;
@@ -357,4 +358,6 @@ first-condition =
       summarize = refuses-record;
       join = joined;
       settle = settled;
+      roll = refuses-roll;
+      unroll = refuses-unroll;
     }

@@ -1,8 +1,13 @@
 -- The definitions say what stands there, by what they are.
 -- Assumes nothing.
 use Prim.Native.Nat.{ℕ}
-use mathlib.Core.List.{List}
-use mathlib.Core.Path.{refl}
+use mathlib.Core.Bool.{true}
+use mathlib.Core.List.{List, _++_}
+use mathlib.Core.Path.{_≡_, refl}
+use Rattle.shaper.specs.declared.Limits.{Limits}
+use Rattle.shaper.specs.declared.Event.{Event}
+use Rattle.record.specs.Items.{Item, writtenItems, unrolled, ItemsOk}
+use Rattle.account.specs.Pieces.{Tree, piece, both, Cuts}
 use Rattle.wire.specs.Signed.{unsignedOf}
 use Rattle.summary.proofs.Integers.{pos-less}
 use Rattle.sheet.specs.Sheet.{sheetOf}
@@ -67,6 +72,16 @@ method-names mem =
       free = λ room s. (λ h. h, λ h. h);
     }
 
+-- a cut, by the tree that it is along
+module _ (l : Limits) where
+  cut-piece : {es : List Event} {bytes : List ℕ} → Cuts l es (piece bytes)
+      → (is : List Item) × ItemsOk true l is × (bytes ≡ writtenItems l is) × (es ≡ unrolled is)
+  cut-piece (Cuts.whole is bytes ok e) = (is, ok, e, refl)
+
+  cut-both : {es : List Event} {t u : Tree} → Cuts l es (both t u)
+      → (first : List Event) × ((second : List Event) × Cuts l first t × Cuts l second u × (es ≡ first ++ second))
+  cut-both (Cuts.parted first second t u a b) = (first, (second, a, b, refl))
+
 pieces : PieceNames
 pieces =
     record {
@@ -77,6 +92,8 @@ pieces =
       piece-carried = λ bytes room. (λ h. h, λ h. h);
       both-carried = λ t u room. (λ h. h, λ h. h);
       cut = λ l es t. (λ h. h, λ h. h);
+      piece-cut = λ l es bytes. (cut-piece l, λ h. rw (h .3) (Cuts.whole (h .0) bytes (h .1) (h .2)));
+      both-cut = λ l es t u. (cut-both l, λ h. rw (h .1 .3) (Cuts.parted (h .0) (h .1 .0) t u (h .1 .1) (h .1 .2)));
       piece-tree = λ bytes room. refl;
       both-tree = λ t u room. refl;
       piece-whole = λ bytes room. (λ h. h, λ h. h);

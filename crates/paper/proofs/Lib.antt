@@ -1,6 +1,7 @@
 pub mod Examples
 pub mod Reasons
 pub mod ByValue
+pub mod Items
 pub mod Earliest
 pub mod First
 pub mod Names
@@ -14,6 +15,8 @@ pub mod Summaries
 pub mod Files
 pub mod Program
 pub mod Parting
+pub mod Rolling
+pub mod Movers
 pub mod Third
 pub mod Determined
 pub mod OfDecide
@@ -24,6 +27,7 @@ pub mod OfTally
 pub mod OfSummary
 pub mod OfRecord
 pub mod OfAccount
+pub mod OfRoll
 pub mod OfReport
 pub mod OfWindow
 pub mod OfApart

@@ -6,6 +6,6 @@ use Rattle.paper.proofs.Determined.{by-equation}
 pub functions : Functions
 functions =
     record {
-      summarize = λ s. by-equation;
-      events = λ s limits. by-equation;
+      summarize = λ s runs. by-equation;
+      events = λ s limits most runs. by-equation;
     }

@@ -9,6 +9,7 @@ functions =
       chosen = λ side distance ttl mark. by-equation;
       moved = λ delivered hops. by-equation;
       permitted = λ credit. by-equation;
+      written = λ n. by-equation;
       marked = λ mark. by-equation;
       refused = λ number detail. by-equation;
       selected = λ origin frame. by-equation;

@@ -7,7 +7,7 @@ pub functions : Functions
 functions =
     record {
       header-of = λ s. by-equation;
-      event-at = λ s at mtu. by-equation;
-      event-within = λ s at mtu left late. by-equation;
+      event-at = λ s at mtu runs. by-equation;
+      event-within = λ s at mtu left late runs. by-equation;
       may-come = λ done. by-equation;
     }

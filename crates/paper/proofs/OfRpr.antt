@@ -21,6 +21,8 @@ functions =
       rpr-summarize = λ «record» room. both;
       rpr-join = λ first second room. both;
       rpr-settle = λ summary start. by-equation;
+      rpr-roll = λ «record» room. both;
+      rpr-unroll = λ «record» room. both;
       rpr-choose = λ stations own target links side protection ring. by-equation;
       rpr-path = λ stations own target links home. by-equation;
     }

@@ -10,6 +10,7 @@ functions =
       summary-waiting-tick = λ limits amount. by-equation;
       summary-idle-tick = λ limits amount. by-equation;
       summary-send = λ limits size. by-equation;
+      summary-counted = λ limits kind number count. by-equation;
       summary-in-range = λ self. by-equation;
       summary-join = λ self other. by-equation;
       summary-join-next = λ self next. by-equation;

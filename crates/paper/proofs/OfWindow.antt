@@ -6,11 +6,8 @@ use Rattle.paper.proofs.Determined.{by-equation}
 pub functions : Functions
 functions =
     record {
-      more = λ before window. by-equation;
-      both-begin = λ first second. by-equation;
-      both-more = λ before first second. by-equation;
+      both = by-equation;
+      fed = λ before first second. by-equation;
       same-answer = λ a b. by-equation;
       alike = λ first second. by-equation;
-      count = λ window. by-equation;
-      event-in = λ window i. by-equation;
     }

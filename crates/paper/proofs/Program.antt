@@ -14,8 +14,8 @@ use Rattle.wire.specs.Wire.{le}
 use Rattle.shaper.specs.Kind.{eventOf}
 use Rattle.summary.specs.declared.Answer.{Answer}
 use Rattle.summary.specs.Summary.{summaryOf, joined, ceilingOf, needℤ}
-use Rattle.record.specs.Read.{countAt, readFrom, readRecord}
-use Rattle.account.specs.Account.{summarizeOf}
+use Rattle.record.specs.Read.{isRun, itemFaults, itemKind, itemNumber, itemCount, readItems, readIn}
+use Rattle.account.specs.Account.{summarizeIn}
 use Rattle.feed.specs.Feed.{fedOf, fedChunks}
 use Rattle.feed.proofs.Promises.{fed-whole, ends-stands}
 use Rattle.hex.specs.Hex.{isWithin, glyphOf, textOf}
@@ -83,7 +83,7 @@ printed =
 
 -- the paper's record as hex text comes to its summary
 example-text : textOf (ascii "0e00 1000 4000 64000000 2c010000 060001009600 060003003c00 060003004000 060002003200") ≡ Answer.Summed example
-unfolding textOf glyphOf summarizeOf readRecord readFrom countAt eventOf first firstOf test le summaryOf joined ceilingOf needℤ
+unfolding textOf glyphOf summarizeIn readIn readItems isRun itemFaults itemKind itemNumber itemCount eventOf first firstOf test le summaryOf joined ceilingOf needℤ
 example-text = refl
 
 fed : FedBytes

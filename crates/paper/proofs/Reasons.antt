@@ -89,27 +89,35 @@ flags-exactly a b c = (
 abbrev pub Sole : (ℕ → Type 0) → Type 0
 Sole given = (m n : ℕ) → given m → given n → m ≡ n
 
-sole-when : {number : ℕ} {reason : Type 0} {others : ℕ → Type 0} → Sole others → Sole (RefusedWhen number reason others)
+pub sole-none : Sole CarriedOut
+sole-none m n e f = e ∙ sym f
+
+pub sole-when : {number : ℕ} {reason : Type 0} {others : ℕ → Type 0} → Sole others → Sole (RefusedWhen number reason others)
 sole-when s m n (refused r e) (refused q f) = e ∙ sym f
 sole-when s m n (refused r e) (passed q f) = absurd (q r)
 sole-when s m n (passed q f) (refused r e) = absurd (q r)
 sole-when s m n (passed q e) (passed p f) = s m n e f
 
 pub sole : {fs : List Fault} {given : ℕ → Type 0} → Meant fs given → Sole given
-sole none = λ m n e f. e ∙ sym f
+sole none = sole-none
 sole (row exactly rest) = sole-when (sole rest)
+
+-- the number of the row that counts is given
+pub first-given : {given : ℕ → Type 0} (fs : List Fault) → Meant fs given → inOrder fs ≡ true → given (firstOf fs)
+first-given {given} fs meant o = subst given (sym (in-order fs o)) (tried meant)
 
 -- the number of rows is the one that is given
 pub number-of : {given : ℕ → Type 0} (fs : List Fault) → Meant fs given → inOrder fs ≡ true → (n : ℕ) → given n → firstOf fs ≡ n
-number-of fs meant o n h = in-order fs o ∙ sole meant _ _ (tried meant) h
+number-of fs meant o n h = sole meant _ _ (first-given fs meant o) h
 
--- rows give a number exactly for their reasons
+-- rows give a number exactly for their reasons, where theirs is given and no other is
+pub given-exactly : {given : ℕ → Type 0} (fs : List Fault) → given (firstOf fs) → Sole given → ranked fs ≡ true → (n : ℕ) → 0 < n → Given fs n ↔ given n
+given-exactly {given} fs holds one r n p =
+    let exact = first-exact fs r n p in
+    (λ g. subst given (exact .is-given g) holds, λ h. exact .has-cause (one _ _ holds h))
+
 pub given-for : {given : ℕ → Type 0} (fs : List Fault) → Meant fs given → ranked fs ≡ true → inOrder fs ≡ true → (n : ℕ) → 0 < n → Given fs n ↔ given n
-given-for {given} fs meant r o n p =
-    let exact = first-exact fs r n p in (
-      λ g. subst given (sym (in-order fs o) ∙ exact .is-given g) (tried meant),
-      λ h. exact .has-cause (number-of fs meant o n h),
-    )
+given-for fs meant r o = given-exactly fs (first-given fs meant o) (sole meant) r
 
 -- ---- the bytes of an answer
 

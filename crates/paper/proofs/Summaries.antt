@@ -2,8 +2,9 @@
 -- Assumes nothing.
 use Prim.Native.Nat.{_%_, ℕ, _+_, _≤_}
 use mathlib.Core.Bool.{true, false}
-use mathlib.Core.List.{List, [], _∷_, _++_, append-assoc, append-nil}
+use mathlib.Core.List.{List, [], _∷_, _++_, map, append-assoc, append-nil}
 use mathlib.Core.Path.{_≡_, refl, sym, ap, _∙_}
+use native.Mathlib.Omega.{arith}
 use borrow.Author.Tests.{lt-ltb, le-ltb}
 use lib.IntN.{ℤ, pos, natAbs, _-ℤ_}
 use lib.Signed.{ltZ}
@@ -18,10 +19,11 @@ use Rattle.shaper.specs.declared.Limits.{Limits}
 use Rattle.shaper.specs.declared.Event.{Event}
 use Rattle.shaper.specs.declared.Shaper.{Shaper}
 use Rattle.shaper.specs.Limits.{limitsOk, LimitsOk, sameLimits}
-use Rattle.shaper.specs.Credit.{eventOk}
+use Rattle.shaper.specs.Credit.{eventOk, Valid}
 use Rattle.shaper.specs.Shaper.{chargeFaults}
 use Rattle.shaper.proofs.Ranges.{limits-exactly, same-exactly, valid-exactly}
 use Rattle.plain.specs.Plain.{plainNeed, plainEnd}
+use Rattle.plain.specs.Range.{countOk}
 use Rattle.plain.proofs.Laws.{in-range-sound}
 use Rattle.summary.specs.declared.Summary.{Summary}
 use Rattle.summary.specs.Summary.{smallerℤ, largerℤ, gain, emptyOf, singleOf, ceilingOf, needℤ, joined, summaryOf, endℤ}
@@ -36,12 +38,14 @@ use Rattle.summary.specs.Answer.{emptyFaults, emptyAnswer, singleFaults, single
 use Rattle.summary.proofs.Rows as rows
 use Rattle.summary.proofs.Rows.{settles, settles-not}
 use Rattle.record.specs.Record.{headerBytes, eventBytes, eventsBytes}
+use Rattle.record.specs.Items.{Item, one, runBytes, itemBytes, itemsBytes, writtenItems, unrolled}
+use Rattle.record.proofs.Written.{items-append, ones, ones-written, ones-unrolled}
 use Rattle.sheet.specs.Sheet.{summaryAt}
 use Rattle.rpr.proofs.Promises.{join-leaves, join-done, settle-permitted, settle-not-permitted}
 use Rattle.rpr.specs.Calls.{joinRows, joinAnswer}
 use Rattle.rpr.proofs.Station.{carried-said}
 use Rattle.paper.proofs.Reasons.{denied-by}
-use Rattle.paper.specs.Summaries.{Follows, OneShaper, Sums, RecordBytes, Formed, Singles, Constructs, JoinsTwo, SettlesFrom, Groups, LentSummaries, SummaryPlaces, SummaryRules}
+use Rattle.paper.specs.Summaries.{Follows, OneShaper, Sums, RecordBytes, ItemBytes, Unrolls, Formed, ItemsFormed, Singles, Constructs, JoinsTwo, SettlesFrom, Groups, LentSummaries, SummaryPlaces, SummaryRules}
 
 follows : (l : Limits) (c : ℕ) → Follows l c
 follows l c =
@@ -96,6 +100,45 @@ formed l =
       waiting = λ x. (λ h. h, λ h. h);
       idle = λ x. (λ h. h, λ h. h);
       send = λ z. (λ h. h, λ h. h);
+    }
+
+-- ---- items
+
+-- events alone, as items
+map-one : (es : List Event) → map one es ≡ ones es
+map-one [] = refl
+map-one (e ∷ es) = ap (λ (is : List Item). one e ∷ is) (map-one es)
+
+pub writes-items : (l : Limits) → ItemBytes l
+unfolding runBytes digits
+writes-items l =
+    record {
+      waiting = λ x count. refl;
+      idle = λ x count. refl;
+      event = λ e. refl;
+      run = λ e count. refl;
+      header = refl;
+      next = λ is i. rw (items-append is (i ∷ []), append-nil (itemBytes i)) (sym (append-assoc (headerBytes l) (itemsBytes is) (itemBytes i)));
+      old = λ es. ap (writtenItems l) (map-one es) ∙ ones-written l es;
+    }
+
+unrolls : Unrolls
+unrolls = record { none = refl; event = λ e is. refl; run = λ e count is. refl; old = λ es. ap unrolled (map-one es) ∙ ones-unrolled es }
+
+formed-items : (l : Limits) → ItemsFormed l
+formed-items l =
+    let exactly = limits-exactly l in
+    record {
+      exactly = λ is. (
+        λ w. (exactly .0 (passes (limitsOk l) (w .settings)), w .items, w .few),
+        λ h. record { settings = facts (limitsOk l) (exactly .1 (h .0)); items = h .1; few = h .2 },
+      );
+      none = tt;
+      more = λ i is. (λ h. h, λ h. h);
+      event = λ e. (λ h. h, λ h. h);
+      waiting = λ x count. (λ h. (h .2, h .3, h .4), λ h. (refl, omega arith, h .0, h .1, h .2));
+      idle = λ x count. (λ h. (h .2, h .3, h .4), λ h. (refl, omega arith, h .0, h .1, h .2));
+      send = λ z count h. omega (arith, h .1);
     }
 
 -- ---- summaries
@@ -157,12 +200,18 @@ unfolding emptyAnswer singleAnswer
 constructs l =
     let exactly = limits-exactly l in
     let out : (LimitsOk l → ⊥) → test (limitsOk l) ≡ false = λ n. failing (limitsOk l) (λ h. n (exactly .0 (passes (limitsOk l) h))) in
+    let wrong : (e : Event) → (Valid l e → ⊥) → test (eventOk l e) ≡ false = λ e n. failing (eventOk l e) (λ h. n (valid-exactly l e .0 (passes (eventOk l e) h))) in
     record {
       empty = λ ok. rw (in-order (emptyFaults l) refl, exactly .1 ok);
       empty-refused = λ n. rw (in-order (emptyFaults l) refl, out n);
       single = λ e ok v. rw (in-order (singleFaults l e) refl, exactly .1 ok, valid-exactly l e .1 v);
       settings-refused = λ e n. rw (in-order (singleFaults l e) refl, out n);
-      number-refused = λ e ok n. rw (in-order (singleFaults l e) refl, exactly .1 ok, failing (eventOk l e) (λ h. n (valid-exactly l e .0 (passes (eventOk l e) h))));
+      number-refused = λ e ok n. rw (in-order (singleFaults l e) refl, exactly .1 ok, wrong e n);
+      counted = λ e count ok v c n. rows.counted-made l e count (exactly .1 ok) (valid-exactly l e .1 v) (passes (countOk e count) c) n;
+      counted-settings = λ e count n. rows.counted-1 l e count (out n);
+      counted-number = λ e count ok n. rows.counted-3-number l e count (exactly .1 ok) (wrong e n);
+      counted-apart = λ e count ok v c. rows.counted-3-count l e count (exactly .1 ok) (failing (countOk e count) c);
+      counted-many = λ e count ok v c n. rows.counted-9 l e count (exactly .1 ok) (valid-exactly l e .1 v) (passes (countOk e count) c) n;
     }
 
 one-shaper : (s : Shaper) → OneShaper s
@@ -243,6 +292,9 @@ summary-rules =
       sums = sums;
       writes = writes;
       formed = formed;
+      writes-items = writes-items;
+      unrolls = unrolls;
+      formed-items = formed-items;
       gains = λ s. refl;
       smaller = λ x y. (λ e. rw e, λ e. rw e);
       larger = λ x y. (λ e. rw e, λ e. rw e);

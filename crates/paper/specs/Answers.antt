@@ -9,6 +9,7 @@ use Rattle.paper.specs.OfTally as OfTally
 use Rattle.paper.specs.OfSummary as OfSummary
 use Rattle.paper.specs.OfRecord as OfRecord
 use Rattle.paper.specs.OfAccount as OfAccount
+use Rattle.paper.specs.OfRoll as OfRoll
 use Rattle.paper.specs.OfReport as OfReport
 use Rattle.paper.specs.OfWindow as OfWindow
 use Rattle.paper.specs.OfApart as OfApart
@@ -43,6 +44,7 @@ pub record AnswersDetermined : Type 0 where
   pub of-summary : OfSummary.Functions
   pub of-record : OfRecord.Functions
   pub of-account : OfAccount.Functions
+  pub of-roll : OfRoll.Functions
   pub of-report : OfReport.Functions
   pub of-window : OfWindow.Functions
   pub of-apart : OfApart.Functions

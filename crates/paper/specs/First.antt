@@ -20,6 +20,7 @@ use Rattle.shaper.specs.declared.Limits.{Limits}
 use Rattle.shaper.specs.Limits.{mostEvents, mostAmount, mostSize, limitsOk, LimitsOk}
 use Rattle.summary.specs.declared.Summary.{Summary}
 use Rattle.summary.specs.Range.{inRange, InRange}
+use Rattle.record.specs.Items.{mostOfRun}
 use Rattle.settings.specs.declared.Settings.{Settings}
 use Rattle.settings.specs.Range.{settingsOk, AgeCoef, Coef, SettingsOk}
 use Rattle.flow.specs.declared.Flow.{Flow}
@@ -43,12 +44,13 @@ use Rattle.flow.specs.Offer.{queueFor}
 use Rattle.sheet.specs.Sheet.{sheetLength}
 use Rattle.layout.specs.Reading.{readingLength}
 use Rattle.rpr.specs.Calls.{summarizeAnswer, summarizeAfter, joinAnswer, joinAfter, settleAnswer}
+use Rattle.rpr.specs.Movers.{rollAnswer, rollAfter, unrollAnswer, unrollAfter}
 use Rattle.rpr.specs.Ways.{chooseAnswer, pathAnswer}
 use Rattle.rpr.specs.Station.{startAnswer, startAfter, tickAnswer, tickAfter, ageAnswer, ageAfter}
 use Rattle.rpr.specs.Station.{offerClientAnswer, offerClientAfter, offerTransitAnswer, offerTransitAfter, offerControlAnswer, offerControlAfter}
 use Rattle.rpr.specs.Station.{selectAnswer, selectAfter, readFrameAnswer, readFrameAfter, writeFrameAnswer, writeFrameAfter, showAnswer, showAfter}
 use Rattle.paper.specs.Reasons.{CarriedOut, placeRefused, OtherLength, Spaces, startRefused, tickRefused, offerRefused, controlRefused, clientRefused, stationRefused, readRefused, roomRefused}
-use Rattle.paper.specs.Reasons.{chooseRefused, pathRefused, RecordRefused, joinRefused, settleRefused}
+use Rattle.paper.specs.Reasons.{chooseRefused, pathRefused, RecordRefused, RollRefused, UnrollRefused, joinRefused, settleRefused}
 
 -- Byte 0 of the answer is the number that is given. Each returns its number alone, but a client's 6 (`RefusesClient`): where it is not 0, every other byte is 0.
 pub record Refuses (given : ℕ → Type 0) (answer : ℕ) : Type 0 where
@@ -88,6 +90,12 @@ pub record RefusesRecord (bytes room : List ℕ) : Type 0 where
   pub alone : 0 < summarizeAnswer bytes room % 256 → digits 8 (summarizeAnswer bytes room) ≡ summarizeAnswer bytes room % 256 ∷ 0 ∷ 0 ∷ 0 ∷ 0 ∷ 0 ∷ 0 ∷ 0 ∷ []
   pub stays : 0 < summarizeAnswer bytes room % 256 → summarizeAfter bytes room ≡ room
 
+-- rpr_roll and rpr_unroll: the record's earliest fault, then 12 where the room is too short.
+pub record RefusesMover (given : ℕ → Type 0) (answer : ℕ) (room after : List ℕ) : Type 0 where
+  pub number : (n : ℕ) → 0 < n → (answer % 256 ≡ n) ↔ given n
+  pub alone : 0 < answer % 256 → digits 8 answer ≡ answer % 256 ∷ 0 ∷ 0 ∷ 0 ∷ 0 ∷ 0 ∷ 0 ∷ 0 ∷ []
+  pub stays : 0 < answer % 256 → after ≡ room
+
 -- the tests of ranges that refusals rest on, and the ranges
 pub record Tested : Type 0 where
   pub limits : (l : Limits) → (test (limitsOk l) ≡ true) ↔ LimitsOk l
@@ -108,8 +116,8 @@ pub record Tested : Type 0 where
 
 -- A row for each exported call; `rpr_station_length` and `rpr_version` refuse nothing.
 pub record Condition1 : Type 0 where
-  -- The numbers that bound a record's events, which the ranges below name: 1,000,000 events, amount 65,535, size 9,216.
-  pub bounds : (mostEvents ≡ 1000000) × (mostAmount ≡ 65535) × (mostSize ≡ 9216)
+  -- The numbers that bound a record's events, which the ranges below name: 1,000,000 events, amount 65,535, size 9,216, and 65,535 equal ticks in a run.
+  pub bounds : (mostEvents ≡ 1000000) × (mostAmount ≡ 65535) × (mostSize ≡ 9216) × (mostOfRun ≡ 65535)
   -- The lengths that a slice of another length is refused for: settings 34 words, a summary 48 bytes, a reading 31 words, a frame 12 bytes. A station's is
   -- the library's own, and one that a host can lend.
   pub lengths : (settingsLength ≡ 136) × (sheetLength ≡ 48) × (readingLength ≡ 124) × (advertLength ≡ 12) × (stationLength < 65536)
@@ -141,3 +149,5 @@ pub record Condition1 : Type 0 where
   pub summarize : (bytes room : List ℕ) → Bytes bytes → RefusesRecord bytes room
   pub join : (first second room : List ℕ) → RefusesLent (joinRefused first second room) (joinAnswer first second room) room (joinAfter first second room)
   pub settle : (summary : List ℕ) (start : ℕ) → Refuses (settleRefused summary start) (settleAnswer summary start)
+  pub roll : (bytes room : List ℕ) → Bytes bytes → RefusesMover (RollRefused bytes room) (rollAnswer bytes room) room (rollAfter bytes room)
+  pub unroll : (bytes room : List ℕ) → Bytes bytes → RefusesMover (UnrollRefused bytes room) (unrollAnswer bytes room) room (unrollAfter bytes room)

@@ -1,6 +1,7 @@
 -- The small definitions of lent memory, of pieces, of summaries in bytes and of what a selection sees, said outright.
 -- Assumes nothing.
 use Prim.Native.Nat.{ℕ, suc, _-_, _*_, _≤_}
+use mathlib.Core.Bool.{true}
 use mathlib.Core.List.{List, [], _∷_, _++_}
 use mathlib.Core.Logic.{_⊎_, _↔_}
 use mathlib.Core.Path.{_≡_}
@@ -15,6 +16,7 @@ use Rattle.shaper.specs.declared.Limits.{Limits}
 use Rattle.summary.specs.declared.Summary.{Summary}
 use Rattle.summary.specs.declared.Answer.{Answer}
 use Rattle.summary.specs.Answer.{joinOf, andThen, answerNumber}
+use Rattle.record.specs.Items.{Item, writtenItems, unrolled, ItemsOk}
 use Rattle.account.specs.Account.{summarizeOf}
 use Rattle.account.specs.Pieces as account
 use Rattle.account.specs.Pieces.{Tree, Cuts, joinedAlong}
@@ -139,6 +141,11 @@ pub record PieceNames : Type 0 where
   pub piece-carried : (bytes room : List ℕ) → AllCarried (piece bytes room) ↔ (summarizeAnswer bytes room ≡ 0)
   pub both-carried : (t u : Rooms) (room : List ℕ) → AllCarried (both t u room) ↔ (AllCarried t × AllCarried u × (joinAnswer (roomOf t) (roomOf u) room ≡ 0))
   pub cut : (l : Limits) (es : List Event) (t : Rooms) → CutsRooms l es t ↔ (Cuts l es (treeOf t) × WholeRooms t)
+  -- A piece of a cut record is that record's header followed by the piece's items, in either form; what two groups are a cut of stands one behind the other.
+  pub piece-cut : (l : Limits) (es : List Event) (bytes : List ℕ)
+      → Cuts l es (account.piece bytes) ↔ ((is : List Item) × ItemsOk true l is × (bytes ≡ writtenItems l is) × (es ≡ unrolled is))
+  pub both-cut : (l : Limits) (es : List Event) (t u : Tree)
+      → Cuts l es (account.both t u) ↔ ((first : List Event) × ((second : List Event) × Cuts l first t × Cuts l second u × (es ≡ first ++ second)))
   pub piece-tree : (bytes room : List ℕ) → treeOf (piece bytes room) ≡ account.piece bytes
   pub both-tree : (t u : Rooms) (room : List ℕ) → treeOf (both t u room) ≡ account.both (treeOf t) (treeOf u)
   pub piece-whole : (bytes room : List ℕ) → WholeRooms (piece bytes room) ↔ (length room ≡ sheetLength)

@@ -12,6 +12,7 @@ pub mod Second
 pub mod Summaries
 pub mod Program
 pub mod Parting
+pub mod Movers
 pub mod Third
 pub mod Determined
 pub mod OfDecide
@@ -22,6 +23,7 @@ pub mod OfTally
 pub mod OfSummary
 pub mod OfRecord
 pub mod OfAccount
+pub mod OfRoll
 pub mod OfReport
 pub mod OfWindow
 pub mod OfApart

@@ -3,6 +3,7 @@
 use Prim.Native.Nat.{ℕ}
 use Rattle.layout.specs.Layout.{stationLength}
 use Rattle.rpr.specs.Calls.{joinAfter, joinAnswer, settleAnswer, summarizeAfter, summarizeAnswer, versionNumber}
+use Rattle.rpr.specs.Movers.{rollAfter, rollAnswer, unrollAfter, unrollAnswer}
 use Rattle.rpr.specs.Station.{ageAfter, ageAnswer, offerClientAfter, offerClientAnswer, offerControlAfter, offerControlAnswer, offerTransitAfter, offerTransitAnswer, readFrameAfter, readFrameAnswer, selectAfter, selectAnswer, showAfter, showAnswer, startAfter, startAnswer, tickAfter, tickAnswer, writeFrameAfter, writeFrameAnswer}
 use Rattle.rpr.specs.Ways.{chooseAnswer, pathAnswer}
 use mathlib.Core.List.{List}
@@ -40,6 +41,10 @@ pub record Functions : Type 0 where
   pub rpr-join : (first second room : List ℕ) → Determined² (λ (r : ℕ) (after-room : List ℕ). (r ≡ joinAnswer first second room) × (after-room ≡ joinAfter first second room))
   -- rpr_settle
   pub rpr-settle : (summary : List ℕ) (start : ℕ) → Determined (λ (r : ℕ). r ≡ settleAnswer summary start)
+  -- rpr_roll
+  pub rpr-roll : («record» room : List ℕ) → Determined² (λ (r : ℕ) (after-room : List ℕ). (r ≡ rollAnswer «record» room) × (after-room ≡ rollAfter «record» room))
+  -- rpr_unroll
+  pub rpr-unroll : («record» room : List ℕ) → Determined² (λ (r : ℕ) (after-room : List ℕ). (r ≡ unrollAnswer «record» room) × (after-room ≡ unrollAfter «record» room))
   -- rpr_choose
   pub rpr-choose : (stations own target links side protection ring : ℕ) → Determined (λ (r : ℕ). r ≡ chooseAnswer stations own target links side protection ring)
   -- rpr_path

@@ -2,9 +2,10 @@
 -- Assumes nothing.
 use Prim.Native.Nat.{ℕ}
 use Rattle.plain.specs.declared.Plain.{Plain}
+use Rattle.shaper.specs.Kind.{eventOf}
 use Rattle.shaper.specs.declared.Event.{Event}
 use Rattle.shaper.specs.declared.Limits.{Limits}
-use Rattle.summary.specs.Answer.{emptyAnswer, joinNext, joinOf, settleOf, singleAnswer}
+use Rattle.summary.specs.Answer.{countedAnswer, emptyAnswer, joinNext, joinOf, settleOf, singleAnswer}
 use Rattle.summary.specs.Plain.{signedFrom}
 use Rattle.summary.specs.Range.{inRange}
 use Rattle.summary.specs.declared.Answer.{Answer}
@@ -23,6 +24,8 @@ pub record Functions : Type 0 where
   pub summary-idle-tick : (limits : Limits) (amount : ℕ) → Determined (λ (r : Answer). r ≡ singleAnswer limits (Event.Idle amount))
   -- Summary::send
   pub summary-send : (limits : Limits) (size : ℕ) → Determined (λ (r : Answer). r ≡ singleAnswer limits (Event.Send size))
+  -- Summary::counted
+  pub summary-counted : (limits : Limits) (kind number count : ℕ) → Determined (λ (r : Answer). r ≡ countedAnswer limits (eventOf kind number) count)
   -- Summary::in_range
   pub summary-in-range : (self : Summary) → Determined (λ (r : Bool). r ≡ inRange self)
   -- Summary::join

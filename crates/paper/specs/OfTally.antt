@@ -21,7 +21,7 @@ pub record Functions : Type 0 where
   pub tally-over : (self : Tally) (rise : ℕ) (parts : Parts) → Determined (λ (r : Tally). r ≡ overOf rise self parts)
   -- start
   pub start : (lo : ℕ) → Determined (λ (r : Tally). r ≡ startOf lo)
-  -- step (a leaf: it asks that Within mostEvents t × (rise ≤ 1048576) × (v ≤ mostAmount))
+  -- step (a leaf: it asks that Within mostEvents t × (rise ≤ 1048576) × (v ≤ mostAmount * mostEvents))
   pub step : (t : Tally) (rise k v : ℕ) → Determined (λ (r : Tally). r ≡ stepOf rise k v t)
   -- finish (a leaf: it asks that Within mostEvents t)
   pub finish : (limits : Limits) (n : ℕ) (t : Tally) → Determined (λ (r : Plain). r ≡ plainAt limits n t)

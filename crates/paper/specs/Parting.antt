@@ -1,31 +1,40 @@
--- Request A3 of document 02, "List where two halls part": what the program `compare` prints of two record files, for the third condition.
+-- Request A3 of document 02, "List where two halls part": what the program `compare` prints of two record files, each in either form (A8), for the third
+-- condition.
 -- Assumes nothing.
-use Prim.Native.Nat.{ℕ, suc, _+_, _*_, _-_, _≤_, _<_}
+use Prim.Native.Nat.{ℕ, suc, _+_, _-_, _≤_, _<_, min}
 use mathlib.Core.Bool.{true, false}
-use mathlib.Core.List.{List, [], _∷_, _++_}
+use mathlib.Core.List.{List, [], _∷_, _++_, flatten}
 use mathlib.Core.Logic.{_⊎_, _↔_}
 use mathlib.Core.Path.{_≡_}
-use lib.ListN.{length, take, drop}
+use lib.ListN.{length, drop}
 use Rattle.wire.specs.Wire.{Bytes}
 use Rattle.shaper.specs.declared.Limits.{Limits}
 use Rattle.shaper.specs.declared.Event.{Event}
 use Rattle.shaper.specs.declared.Event.the-variants.{Waiting, Idle, Send}
-use Rattle.shaper.specs.Kind.{kindOf, numberOf}
+use Rattle.shaper.specs.Kind.{kindOf, numberOf, eventOf}
 use Rattle.summary.specs.declared.Summary.{Summary}
 use Rattle.summary.specs.declared.Answer.{Answer}
-use Rattle.summary.specs.Answer.{joinOf}
 use Rattle.summary.specs.Summary.{summaryOf}
-use Rattle.record.specs.Record.{written, WellFormed}
+use Rattle.record.specs.declared.Step.the-variants.{Stands, End, Faulty}
+use Rattle.record.specs.Items.{Item, itemsBytes, writtenItems, unrolled, ItemsOk, Formed}
+use Rattle.record.specs.Step.{stepAt}
 use Rattle.account.specs.Account.{summarizeOf}
 use Rattle.report.specs.Text.{ascii, numeral, line}
 use Rattle.report.specs.Report.{printedOf}
-use Rattle.window.specs.Window.{windowsFrom, windowsOf, moreOf, moreAll, summedOf}
-use Rattle.window.specs.Events.{eventsIn}
-use Rattle.window.specs.declared.Both.{Both}
-use Rattle.window.specs.Both.{alikeOf, sameAnswer, bothBegin, bothMore}
+use Rattle.feed.specs.Feed.{startOf, fedOf, finishOf}
+use Rattle.window.specs.declared.Pair.{Pair}
+use Rattle.window.specs.Both.{alikeOf, sameAnswer, bothStart, bothFed, Chunks, bothChunks, firstChunks, secondChunks}
+use Rattle.apart.specs.declared.Side.{Side}
+use Rattle.apart.specs.declared.Place.{Place}
+use Rattle.apart.specs.declared.Walk.{Walk}
+use Rattle.apart.specs.declared.Stand.the-variants as stand
+use Rattle.apart.specs.declared.Finding.the-variants as finding
 use Rattle.apart.specs.Told.{Told, both, first-only, second-only, At, Listed, differ, listFrom, listOf, positionOf, InOrder}
 use Rattle.apart.specs.Text.{settingText, openingText, eventText, toldText, listText, closingText, compareOf}
-use Rattle.apart.specs.Page.{pageText, pagesFrom, printedBy}
+use Rattle.apart.specs.Turn.{standOf, movedOf, turnOf, lineText}
+use Rattle.apart.specs.Page.{walkOf, walkText, pageOf}
+use Rattle.apart.specs.Pages as pages
+use Rattle.apart.specs.Pages.{Cut, Page, pageText, pagesText, CutAt, InTurn, printedBy}
 use Rattle.paper.specs.Reasons.{RecordRefused}
 
 -- ---- the list
@@ -93,67 +102,143 @@ pub record PartingText : Type 0 where
 -- ---- the whole
 
 pub record Compared : Type 0 where
-  -- Both records as a writer writes them: the settings that differ, the list, and each summary under its own settings.
-  pub parting : (l m : Limits) (es fs : List Event) → WellFormed l es → WellFormed m fs
-      → compareOf (written l es) (written m fs)
-      ≡ openingText l m ++ listText (listOf es fs) ++ closingText (Answer.Summed (summaryOf l es)) (Answer.Summed (summaryOf m fs))
+  -- Both records as a writer writes them: the settings that differ, the list, and each summary under its own settings. Events are counted unrolled.
+  pub parting : (l m : Limits) (is js : List Item) → Formed true l is → Formed true m js
+      → compareOf (writtenItems l is) (writtenItems m js)
+      ≡ openingText l m ++ listText (listOf (unrolled is) (unrolled js))
+      ++ closingText (Answer.Summed (summaryOf l (unrolled is))) (Answer.Summed (summaryOf m (unrolled js)))
   -- "Refusals: as for one record, the first file's before the second's."
   pub refused-first : (xs ys : List ℕ) (n : ℕ) → Bytes xs → 0 < n → RecordRefused xs n → compareOf xs ys ≡ line (ascii "refused ") (numeral n)
-  pub refused-second : (l : Limits) (es : List Event) (ys : List ℕ) (n : ℕ) → WellFormed l es → Bytes ys → 0 < n → RecordRefused ys n
-      → compareOf (written l es) ys ≡ line (ascii "refused ") (numeral n)
+  pub refused-second : (l : Limits) (is : List Item) (ys : List ℕ) (n : ℕ) → Formed true l is → Bytes ys → 0 < n → RecordRefused ys n
+      → compareOf (writtenItems l is) ys ≡ line (ascii "refused ") (numeral n)
 
--- The same window by window, as the program reads and writes, for files of any length. A window is the record's header and at most 5,000 of its events. What is
--- said here is what its functions answer and put into the rooms that are written; that its loop calls them in turn is read in its source.
-pub record Windowed : Type 0 where
-  -- Write after write it is what the two files are to print.
-  pub printed : (xs ys : List ℕ) → Bytes xs → Bytes ys
-      → printedBy (summedOf (windowsOf xs)) (summedOf (windowsOf ys)) (windowsOf xs) (windowsOf ys) ≡ compareOf xs ys
-  pub refusal : (n : ℕ) (b : Answer) (ws vs : List (List ℕ)) → printedBy (Answer.Refused n) b ws vs ≡ printedOf (Answer.Refused n)
-  pub other-refusal : (s : Summary) (n : ℕ) (ws vs : List (List ℕ)) → printedBy (Answer.Summed s) (Answer.Refused n) ws vs ≡ printedOf (Answer.Refused n)
-  pub writes : (s t : Summary) (ws vs : List (List ℕ))
-      → printedBy (Answer.Summed s) (Answer.Summed t) ws vs
-      ≡ openingText (s .limits) (t .limits) ++ pagesFrom 0 ws vs ++ closingText (Answer.Summed s) (Answer.Summed t)
-  -- A page lists the events of two windows; where one record has no more windows, those of the other alone.
-  pub page : (n : ℕ) (w v : List ℕ) → pageText n w v ≡ listText (listFrom n (eventsIn w) (eventsIn v))
-  pub no-page : (n : ℕ) → pagesFrom n [] [] ≡ []
-  pub first-page : (n : ℕ) (w : List ℕ) (ws : List (List ℕ)) → pagesFrom n (w ∷ ws) [] ≡ pageText n w [] ++ pagesFrom (n + 5000) ws []
-  pub second-page : (n : ℕ) (v : List ℕ) (vs : List (List ℕ)) → pagesFrom n [] (v ∷ vs) ≡ pageText n [] v ++ pagesFrom (n + 5000) [] vs
-  pub both-page : (n : ℕ) (w v : List ℕ) (ws vs : List (List ℕ)) → pagesFrom n (w ∷ ws) (v ∷ vs) ≡ pageText n w v ++ pagesFrom (n + 5000) ws vs
-  pub held : (l : Limits) (es : List Event) → WellFormed l es → length es ≤ 5000 → eventsIn (written l es) ≡ es
-  pub none-held : eventsIn [] ≡ []
-  -- Equal windows have an empty page.
+-- ---- as the program reads and writes, for files of any length
+
+-- What is said here is what its functions answer and put into the rooms that are written; that its loop calls them in turn is read in its source. It reads both
+-- files twice. First to test them: both are fed, a chunk of each at a time.
+pub record BothFed : Type 0 where
+  -- What each comes to is what its bytes come to, however they are cut.
+  pub summed : (cs : Chunks) → Bytes (flatten (firstChunks cs)) → Bytes (flatten (secondChunks cs))
+      → (finishOf (bothChunks bothStart cs .first) ≡ summarizeOf (flatten (firstChunks cs)))
+      × (finishOf (bothChunks bothStart cs .second) ≡ summarizeOf (flatten (secondChunks cs)))
+  pub start : bothStart ≡ record { first = startOf; second = startOf; same = true }
+  pub no-chunk : (p : Pair) → bothChunks p [] ≡ p
+  pub a-chunk : (p : Pair) (w v : List ℕ) (cs : Chunks) → bothChunks p ((w, v) ∷ cs) ≡ bothChunks (bothFed p w v) cs
+  pub firsts : (firstChunks [] ≡ []) × ((w v : List ℕ) (cs : Chunks) → firstChunks ((w, v) ∷ cs) ≡ w ∷ firstChunks cs)
+  pub seconds : (secondChunks [] ≡ []) × ((w v : List ℕ) (cs : Chunks) → secondChunks ((w, v) ∷ cs) ≡ v ∷ secondChunks cs)
+  -- While all chunks are equal they are fed once; else each record is fed its own.
+  pub once : (p : Pair) (w : List ℕ) → p .same ≡ true → bothFed p w w ≡ record { first = fedOf (p .first) w; second = fedOf (p .first) w; same = true }
+  pub parted : (p : Pair) (w v : List ℕ) → p .same ≡ false → bothFed p w v ≡ record { first = fedOf (p .first) w; second = fedOf (p .second) v; same = false }
+  pub parting : (p : Pair) (w v : List ℕ) → (w ≡ v → ⊥) → bothFed p w v ≡ record { first = fedOf (p .first) w; second = fedOf (p .second) v; same = false }
   pub alike : (w v : List ℕ) → (alikeOf w v ≡ true) ↔ (w ≡ v)
-  pub no-difference : (n : ℕ) (w : List ℕ) → pageText n w w ≡ []
-  -- The windows of a file's bytes: the first 14 bytes and the next 30,000, until one is not full.
-  pub all-windows : (xs : List ℕ) → windowsOf xs ≡ windowsFrom (suc (length xs)) (take 14 xs) (drop 14 xs)
-  pub last-window : (k : ℕ) (header rest : List ℕ) → length rest < 30000 → windowsFrom (suc k) header rest ≡ (header ++ take 30000 rest) ∷ []
-  pub full-window : (k : ℕ) (header rest : List ℕ) → 30000 ≤ length rest
-      → windowsFrom (suc k) header rest ≡ (header ++ take 30000 rest) ∷ windowsFrom k header (drop 30000 rest)
-  -- What they come to is what the whole file comes to,
-  pub summed : (xs : List ℕ) → Bytes xs → summedOf (windowsOf xs) ≡ summarizeOf xs
-  pub in-turn : (w : List ℕ) (ws : List (List ℕ)) → summedOf (w ∷ ws) ≡ moreAll (summarizeOf w) ws
-  pub no-more : (a : Answer) → moreAll a [] ≡ a
-  pub one-more : (a : Answer) (w : List ℕ) (ws : List (List ℕ)) → moreAll a (w ∷ ws) ≡ moreAll (moreOf a w) ws
-  -- each window behind those before it: a fault, any byte after the millionth event, or the join.
-  pub behind-fault : (n : ℕ) (w : List ℕ) → moreOf (Answer.Refused n) w ≡ Answer.Refused n
-  pub faulty : (s : Summary) (w : List ℕ) (n : ℕ) → summarizeOf (take (14 + 6 * (1000000 - s .events)) w) ≡ Answer.Refused n
-      → moreOf (Answer.Summed s) w ≡ Answer.Refused n
-  pub over : (s t : Summary) (w : List ℕ) → 14 + 6 * (1000000 - s .events) < length w
-      → summarizeOf (take (14 + 6 * (1000000 - s .events)) w) ≡ Answer.Summed t → moreOf (Answer.Summed s) w ≡ Answer.Refused 9
-  pub joins : (s t : Summary) (w : List ℕ) → length w ≤ 14 + 6 * (1000000 - s .events) → summarizeOf w ≡ Answer.Summed t
-      → moreOf (Answer.Summed s) w ≡ joinOf s t
-  -- A header alone adds nothing: a record that has ended is lent its header again while the other goes on.
-  pub ended : (l : Limits) (es : List Event) → WellFormed l es → moreOf (Answer.Summed (summaryOf l es)) (written l []) ≡ Answer.Summed (summaryOf l es)
-  -- Both records are summed each for itself,
-  pub begin : (w v : List ℕ) → bothBegin w v ≡ record { first = summarizeOf w; second = summarizeOf v }
-  pub further : (before : Both) (w v : List ℕ) → bothMore before w v ≡ record { first = moreOf (before .first) w; second = moreOf (before .second) v }
-  -- and the second reading's summaries must equal the first's.
+  -- The second reading's summaries must equal the first's.
   pub equal : (s t : Summary) → (sameAnswer (Answer.Summed s) (Answer.Summed t) ≡ true) ↔ (s ≡ t)
   pub not-equal : (a : Answer) (n : ℕ) → (sameAnswer (Answer.Refused n) a ≡ false) × (sameAnswer a (Answer.Refused n) ≡ false)
+
+-- Then to list them: two windows are walked together, from a place in each. A place is where an item begins, and how many of its events have gone by.
+pub record Placed (side : Side) (w : List ℕ) (p : Place) : Type 0 where
+  -- the item that stands there, an event or a run,
+  pub item : (kind number count next : ℕ) → stepAt (side .mtu) w (p .at) ≡ Stands kind number count next → p .gone < count
+      → standOf side w p ≡ stand.Events kind number count next
+  -- behind the last byte of the last window the file's end,
+  pub ended : stepAt (side .mtu) w (p .at) ≡ End → side .last ≡ true → standOf side w p ≡ stand.Ended
+  -- and else no whole item of this window.
+  pub more : stepAt (side .mtu) w (p .at) ≡ End → side .last ≡ false → standOf side w p ≡ stand.Unread
+  pub cut : (n : ℕ) → stepAt (side .mtu) w (p .at) ≡ Faulty n → standOf side w p ≡ stand.Unread
+  pub passed : (kind number count next : ℕ) → stepAt (side .mtu) w (p .at) ≡ Stands kind number count next → count ≤ p .gone → standOf side w p ≡ stand.Unread
+  -- the place behind m more events of an item of so many, behind which the next begins
+  pub within : (m count next : ℕ) → p .gone + m < count → movedOf p m count next ≡ record { at = p .at; gone = p .gone + m }
+  pub behind : (m count next : ℕ) → count ≤ p .gone + m → movedOf p m count next ≡ record { at = next; gone = 0 }
+
+-- A turn of a walk, by what stands at both places.
+pub record Turns (a b : Side) (w v : List ℕ) (walk : Walk) : Type 0 where
+  -- Two events that differ are listed, and passed.
+  pub differing : (k x c next j y d behind : ℕ) → standOf a w (walk .first) ≡ stand.Events k x c next → standOf b v (walk .second) ≡ stand.Events j y d behind
+      → differ (eventOf k x) (eventOf j y) ≡ true
+      → turnOf a b w v walk
+      ≡ record {
+        walk = record { first = movedOf (walk .first) 1 c next; second = movedOf (walk .second) 1 d behind; position = walk .position + 1 };
+        line = finding.Both (eventOf k x) (eventOf j y);
+        stops = false;
+      }
+  -- Equal events are passed unlisted, as many at once as both items have left.
+  pub same : (k x c next j y d behind : ℕ) → standOf a w (walk .first) ≡ stand.Events k x c next → standOf b v (walk .second) ≡ stand.Events j y d behind
+      → differ (eventOf k x) (eventOf j y) ≡ false
+      → let m = min (c - walk .first .gone) (d - walk .second .gone) in
+      turnOf a b w v walk
+      ≡ record {
+        walk = record { first = movedOf (walk .first) m c next; second = movedOf (walk .second) m d behind; position = walk .position + m };
+        line = finding.Nothing;
+        stops = false;
+      }
+  -- An event that only one record has is listed, and passed.
+  pub only-first : (k x c next : ℕ) → standOf a w (walk .first) ≡ stand.Events k x c next → standOf b v (walk .second) ≡ stand.Ended
+      → turnOf a b w v walk
+      ≡ record {
+        walk = record { first = movedOf (walk .first) 1 c next; second = walk .second; position = walk .position + 1 };
+        line = finding.First (eventOf k x);
+        stops = false;
+      }
+  pub only-second : (j y d behind : ℕ) → standOf a w (walk .first) ≡ stand.Ended → standOf b v (walk .second) ≡ stand.Events j y d behind
+      → turnOf a b w v walk
+      ≡ record {
+        walk = record { first = walk .first; second = movedOf (walk .second) 1 d behind; position = walk .position + 1 };
+        line = finding.Second (eventOf j y);
+        stops = false;
+      }
+  -- It stops where a window has no whole item left, and where both files have ended.
+  pub unread-first : standOf a w (walk .first) ≡ stand.Unread → turnOf a b w v walk ≡ record { walk = walk; line = finding.Nothing; stops = true }
+  pub unread-second : standOf b v (walk .second) ≡ stand.Unread → turnOf a b w v walk ≡ record { walk = walk; line = finding.Nothing; stops = true }
+  pub both-ended : standOf a w (walk .first) ≡ stand.Ended → standOf b v (walk .second) ≡ stand.Ended
+      → turnOf a b w v walk ≡ record { walk = walk; line = finding.Nothing; stops = true }
+  -- So many turns, and what they list.
+  pub no-turn : (walkOf 0 a b w v walk ≡ walk) × (walkText 0 a b w v walk ≡ [])
+  pub a-turn : (k : ℕ) → walkOf (suc k) a b w v walk ≡ walkOf k a b w v (turnOf a b w v walk .walk)
+  pub a-text : (k : ℕ) → walkText (suc k) a b w v walk ≡ lineText (walk .position) (turnOf a b w v walk .line) ++ walkText k a b w v (turnOf a b w v walk .walk)
+  -- A page is at most 5,000 of them.
+  pub page : pageOf a b w v walk ≡ record { walk = walkOf 5000 a b w v walk; end = length (walkText 5000 a b w v walk) }
+
+pub record Paged : Type 0 where
+  pub placed : (side : Side) (w : List ℕ) (p : Place) → Placed side w p
+  pub turns : (a b : Side) (w v : List ℕ) (walk : Walk) → Turns a b w v walk
+  pub lines : (n : ℕ) (e f : Event)
+      → (lineText n finding.Nothing ≡ []) × (lineText n (finding.Both e f) ≡ toldText (both n e f)) × (lineText n (finding.First e) ≡ toldText (first-only n e))
+      × (lineText n (finding.Second f) ≡ toldText (second-only n f))
+  -- Write after write it is what the two files are to print, however their bytes are cut into windows: where both have summaries, the pages go through both files.
+  pub printed : (xs ys : List ℕ) (ps : List Page)
+      → ((s t : Summary) → summarizeOf xs ≡ Answer.Summed s → summarizeOf ys ≡ Answer.Summed t → InTurn (s .limits) (t .limits) 0 (drop 14 xs) 0 (drop 14 ys) 0 ps)
+      → printedBy (summarizeOf xs) (summarizeOf ys) ps ≡ compareOf xs ys
+  pub refusal : (n : ℕ) (b : Answer) (ps : List Page) → printedBy (Answer.Refused n) b ps ≡ printedOf (Answer.Refused n)
+  pub other-refusal : (s : Summary) (n : ℕ) (ps : List Page) → printedBy (Answer.Summed s) (Answer.Refused n) ps ≡ printedOf (Answer.Refused n)
+  pub writes : (s t : Summary) (ps : List Page)
+      → printedBy (Answer.Summed s) (Answer.Summed t) ps ≡ openingText (s .limits) (t .limits) ++ pagesText ps ++ closingText (Answer.Summed s) (Answer.Summed t)
+  pub no-page : pagesText [] ≡ []
+  pub a-page : (p : Page) (ps : List Page) → pagesText (p ∷ ps) ≡ pageText p ++ pagesText ps
+  -- A page is so many turns of a walk; or the same items stand in both files, which list nothing.
+  pub walked : (c d : Cut) (walk : Walk) (k : ℕ) → pageText (pages.turns c d walk k) ≡ walkText k (c .side) (d .side) (c .window) (d .window) walk
+  pub equal : (is : List Item) (xs ys : List ℕ) → pageText (pages.equal is xs ys) ≡ []
+  -- Pages go through what is left of both files, from a position on, g and h events of the first items having gone by: each begins where the one before ended,
+  pub walked-on : (l m : Limits) (n : ℕ) (xs : List ℕ) (g : ℕ) (ys : List ℕ) (h : ℕ) (c d : Cut) (walk : Walk) (k : ℕ) (ps : List Page)
+      → let end = walkOf k (c .side) (d .side) (c .window) (d .window) walk in
+      InTurn l m n xs g ys h (pages.turns c d walk k ∷ ps)
+      ↔ ((n ≡ walk .position)
+      × CutAt l c (walk .first .at) (walk .first .gone) xs g
+      × CutAt m d (walk .second .at) (walk .second .gone) ys h
+      × InTurn l m (end .position) (drop (end .first .at) (c .window ++ c .rest)) (end .first .gone) (drop (end .second .at) (d .window ++ d .rest)) (end .second .gone) ps)
+  pub equal-on : (l m : Limits) (n : ℕ) (xs : List ℕ) (g : ℕ) (ys : List ℕ) (h : ℕ) (is : List Item) (us vs : List ℕ) (ps : List Page)
+      → InTurn l m n xs g ys h (pages.equal is us vs ∷ ps)
+      ↔ ((g ≡ 0) × (h ≡ 0) × (xs ≡ itemsBytes is ++ us) × (ys ≡ itemsBytes is ++ vs) × ItemsOk true l is × ItemsOk true m is
+      × InTurn l m (n + length (unrolled is)) us 0 vs 0 ps)
+  -- and behind the last no byte of either is left.
+  pub all-gone : (l m : Limits) (n : ℕ) (xs : List ℕ) (g : ℕ) (ys : List ℕ) (h : ℕ) → InTurn l m n xs g ys h [] ↔ ((xs ≡ []) × (ys ≡ []))
+  -- A window stands at a place of its file: it begins there, under the file's mtu, and no byte stands behind the last.
+  pub cut-at : (l : Limits) (c : Cut) (at gone : ℕ) (xs : List ℕ) (g : ℕ)
+      → CutAt l c at gone xs g ↔ ((c .side .mtu ≡ l .mtu) × (xs ≡ drop at (c .window ++ c .rest)) × (g ≡ gone) × (c .side .last ≡ true → c .rest ≡ []))
 
 pub record Parting : Type 0 where
   pub rows : ListRows
   pub holds : ListHolds
   pub text : PartingText
   pub compared : Compared
-  pub windowed : Windowed
+  pub fed : BothFed
+  pub paged : Paged

@@ -11,13 +11,12 @@ use lib.Dec.{eqb}
 use lib.IntN.{pos, negsuc}
 use lib.ListN.{length}
 use Rattle.shaper.specs.declared.Limits.{Limits}
-use Rattle.shaper.specs.declared.Event.{Event}
 use Rattle.summary.specs.declared.Summary.{Summary}
 use Rattle.summary.specs.declared.Answer.{Answer}
 use Rattle.summary.specs.declared.Outcome.{Outcome}
 use Rattle.summary.specs.Answer.{joinOf, settleOf}
 use Rattle.summary.specs.Range.{inRange}
-use Rattle.record.specs.Record.{written, WellFormed}
+use Rattle.record.specs.Items.{Item, writtenItems, unrolled, Formed}
 use Rattle.account.specs.Account.{summarizeOf}
 use Rattle.wire.specs.Wire.{Bytes}
 use Rattle.feed.specs.declared.Feed.{Feed}
@@ -82,7 +81,7 @@ pub record Printed : Type 0 where
 
 -- ---- bytes in chunks
 
--- A record that is fed in chunks of any sizes: chunk after chunk, and within one byte after byte.
+-- A record in either form that is fed in chunks of any sizes: chunk after chunk, and within one byte after byte.
 pub record FedBytes : Type 0 where
   pub whole : (chunks : List (List ℕ)) → Bytes (flatten chunks) → feeding.finishOf (fedChunks feeding.startOf chunks) ≡ summarizeOf (flatten chunks)
   pub no-chunk : (f : Feed) → fedChunks f [] ≡ f
@@ -111,9 +110,11 @@ pub record JoinsFiles : Type 0 where
   pub all : (xs : List ℕ) (files : List (List ℕ)) → joinedOf xs files ≡ joinedFrom (openedOf xs) files
   -- What --sheet writes is a summary's 48 bytes, and of a refusal nothing.
   pub written-file : (s : Summary) (n : ℕ) → (fileOf (Answer.Summed s) ≡ sheetOf s) × (fileOf (Answer.Refused n) ≡ [])
-  -- A record cut into pieces, each summarized on its own from its bytes and written to a file: joined in their order, the files give the summary of the whole.
-  pub pieces : (l : Limits) (es : List Event) (rest : List (List Event)) → WellFormed l (es ++ flatten rest)
-      → joinedOf (fileOf (summarizeOf (written l es))) (map (λ piece. fileOf (summarizeOf (written l piece))) rest) ≡ summarizeOf (written l (es ++ flatten rest))
+  -- A record in either form cut between events into pieces, each in either form, summarized on its own from its bytes and written to a file: joined in their
+  -- order, the files give the summary of the whole.
+  pub pieces : (l : Limits) (whole is : List Item) (rest : List (List Item)) → Formed true l whole → Formed true l (is ++ flatten rest)
+      → unrolled whole ≡ unrolled (is ++ flatten rest)
+      → joinedOf (fileOf (summarizeOf (writtenItems l is))) (map (λ piece. fileOf (summarizeOf (writtenItems l piece))) rest) ≡ summarizeOf (writtenItems l whole)
 
 -- ---- together
 

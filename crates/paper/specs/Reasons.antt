@@ -1,8 +1,8 @@
 -- Why a call is refused, as facts: the number of the first reason that holds, in document 01's order 2, 1, 3, 11, 10, 9, 4, 5, 6, 7, 8, with 13 right after 3
--- and before 11 (document 02, A5).
+-- and before 11 (document 02, A5), and 12 last (A8).
 -- Assumes nothing.
 use Prim.Native.Nat.{ℕ, _/_, _%_, _^_, _+_, _-_, _≤_, _<_}
-use mathlib.Core.Bool.{false}
+use mathlib.Core.Bool.{true, false}
 use mathlib.Core.List.{List, _++_}
 use mathlib.Core.Logic.{_⊎_}
 use mathlib.Core.Path.{_≡_}
@@ -14,6 +14,8 @@ use Rattle.shaper.specs.Limits.{LimitsOk}
 use Rattle.summary.specs.Range.{InRange}
 use Rattle.record.specs.Read.{limitsAt}
 use Rattle.record.specs.Record.{written, WellFormed}
+use Rattle.record.specs.Items.{Item, writtenItems, unrolled, Formed}
+use Rattle.roll.specs.Rolled.{rolled}
 use Rattle.settings.specs.Range.{SettingsOk}
 use Rattle.settings.specs.Words.{settingsLength, settingsAt}
 use Rattle.queue.specs.declared.Frame.{Frame}
@@ -179,22 +181,67 @@ headerRefused xs =
     (RefusedWhen 1 (LimitsOk (limitsAt xs) → ⊥)
     CarriedOut)))
 
--- an event of a record with this mtu: cut short; another length, or no event's kind; a send whose size is not 16 to mtu
-abbrev pub eventRefused : ℕ → List ℕ → ℕ → Type 0
-eventRefused mtu xs =
-    RefusedWhen 2 (length xs < 6)
-    (RefusedWhen 2 (le 2 xs 0 ≡ 6 → ⊥)
-    (RefusedWhen 2 ((1 ≤ le 2 xs 2) × (le 2 xs 2 ≤ 3) → ⊥)
-    (RefusedWhen 3 ((le 2 xs 2 ≡ 3) × ((16 ≤ le 2 xs 4) × (le 2 xs 4 ≤ mtu) → ⊥))
+-- What stands at the front of these bytes, whole: an event, of 6 bytes and kind 1, 2 or 3;
+abbrev pub WholeEvent : List ℕ → Type 0
+WholeEvent xs = (6 ≤ length xs) × (le 2 xs 0 ≡ 6) × ((1 ≤ le 2 xs 2) × (le 2 xs 2 ≤ 3))
+
+-- or a run, of 10 bytes and kind 4.
+abbrev pub WholeRun : List ℕ → Type 0
+WholeRun xs = (10 ≤ length xs) × (le 2 xs 0 ≡ 10) × (le 2 xs 2 ≡ 4)
+
+-- a send whose size is not 16 to mtu
+abbrev pub WrongSize : ℕ → List ℕ → Type 0
+WrongSize mtu xs = (le 2 xs 2 ≡ 3) × ((16 ≤ le 2 xs 4) × (le 2 xs 4 ≤ mtu) → ⊥)
+
+-- An item of a record with this mtu, in either form: cut short, another length than its kind's, no known kind; a send's size; a tick kind other than 1 or 2; a
+-- count below 2.
+abbrev pub itemRefused : ℕ → List ℕ → ℕ → Type 0
+itemRefused mtu xs =
+    RefusedWhen 2 (WholeEvent xs ⊎ WholeRun xs → ⊥)
+    (RefusedWhen 3 (WrongSize mtu xs)
+    (RefusedWhen 2 ((le 2 xs 2 ≡ 4) × ((1 ≤ le 2 xs 4) × (le 2 xs 4 ≤ 2) → ⊥))
+    (RefusedWhen 2 ((le 2 xs 2 ≡ 4) × (le 2 xs 8 < 2))
     CarriedOut)))
 
--- Within a record the earliest fault counts instead, header first, and any byte after the millionth event gives 9.
+-- The same in the old form: an item of kind 4 is no event, whatever it holds.
+abbrev pub eventRefused : ℕ → List ℕ → ℕ → Type 0
+eventRefused mtu xs =
+    RefusedWhen 2 (WholeEvent xs → ⊥)
+    (RefusedWhen 3 (WrongSize mtu xs)
+    CarriedOut)
+
+-- Within a record the earliest fault counts instead, header first: it stands behind items without fault. A million events done, any byte gives 9; before that
+-- the item's own fault counts, and a run without one that passes the million gives 9. Events are counted unrolled.
 pub data RecordRefused (xs : List ℕ) (n : ℕ) : Type 0 where
   in-header : headerRefused xs n → RecordRefused xs n
-  at-event : (l : Limits) (es : List Event) (rest : List ℕ) → xs ≡ written l es ++ rest → WellFormed l es → length es < 1000000 → 0 < length rest
-      → eventRefused (l .mtu) rest n → RecordRefused xs n
+  after-million : (l : Limits) (is : List Item) (rest : List ℕ) → xs ≡ writtenItems l is ++ rest → Formed true l is → length (unrolled is) ≡ 1000000
+      → 0 < length rest → n ≡ 9 → RecordRefused xs n
+  at-item : (l : Limits) (is : List Item) (rest : List ℕ) → xs ≡ writtenItems l is ++ rest → Formed true l is → length (unrolled is) < 1000000
+      → 0 < length rest → itemRefused (l .mtu) rest n → RecordRefused xs n
+  past-million : (l : Limits) (is : List Item) (rest : List ℕ) → xs ≡ writtenItems l is ++ rest → Formed true l is → length (unrolled is) < 1000000
+      → 0 < length rest → itemRefused (l .mtu) rest 0 → le 2 rest 2 ≡ 4 → 1000000 < length (unrolled is) + le 2 rest 8 → n ≡ 9 → RecordRefused xs n
+
+-- The same where an old record is moved to the new form: it stands behind events without fault, and no run may.
+pub data OldRecordRefused (xs : List ℕ) (n : ℕ) : Type 0 where
+  in-header : headerRefused xs n → OldRecordRefused xs n
   after-million : (l : Limits) (es : List Event) (rest : List ℕ) → xs ≡ written l es ++ rest → WellFormed l es → length es ≡ 1000000 → 0 < length rest
-      → n ≡ 9 → RecordRefused xs n
+      → n ≡ 9 → OldRecordRefused xs n
+  at-event : (l : Limits) (es : List Event) (rest : List ℕ) → xs ≡ written l es ++ rest → WellFormed l es → length es < 1000000 → 0 < length rest
+      → eventRefused (l .mtu) rest n → OldRecordRefused xs n
+
+-- ---- the movers (document 02, A8)
+
+-- rpr_roll: the earliest fault of a record in the old form; then 12, last, where what it is in the new form is longer than the room.
+pub data RollRefused (xs room : List ℕ) (n : ℕ) : Type 0 where
+  earliest : OldRecordRefused xs n → RollRefused xs room n
+  no-room : (l : Limits) (es : List Event) → xs ≡ written l es → WellFormed l es → length room < length (writtenItems l (rolled es)) → n ≡ 12
+      → RollRefused xs room n
+
+-- rpr_unroll: the earliest fault of a record in either form; then 12, last, where its events one by one are longer than the room.
+pub data UnrollRefused (xs room : List ℕ) (n : ℕ) : Type 0 where
+  earliest : RecordRefused xs n → UnrollRefused xs room n
+  no-room : (l : Limits) (is : List Item) → xs ≡ writtenItems l is → Formed true l is → length room < length (written l (unrolled is)) → n ≡ 12
+      → UnrollRefused xs room n
 
 -- ---- summaries
 

@@ -2,11 +2,11 @@
 -- what joins and settling say, and the same by the host's calls. Assumes nothing.
 use Prim.Native.Nat.{_%_, ℕ, _+_, _-_, _≤_, _<_, min}
 use mathlib.Core.Bool.{true, false}
-use mathlib.Core.List.{List, [], _∷_, _++_}
-use mathlib.Core.Logic.{_↔_}
+use mathlib.Core.List.{List, [], _∷_, _++_, map}
+use mathlib.Core.Logic.{_⊎_, _↔_}
 use mathlib.Core.Path.{_≡_}
 use lib.IntN.{ℤ, pos, negsuc, _+ℤ_, _-ℤ_}
-use lib.ListN.{length}
+use lib.ListN.{length, replicate}
 use lib.Signed.{leZ, ltZ}
 use Rattle.wire.specs.Wire.{le, digits}
 use Rattle.shaper.specs.declared.Limits.{Limits}
@@ -14,6 +14,7 @@ use Rattle.shaper.specs.declared.Event.{Event}
 use Rattle.shaper.specs.declared.Event.the-variants.{Waiting, Idle, Send}
 use Rattle.shaper.specs.declared.Shaper.{Shaper}
 use Rattle.shaper.specs.Limits.{LimitsOk}
+use Rattle.shaper.specs.Kind.{kindOf}
 use Rattle.shaper.specs.Shaper.{freshOf, tickedOf, chargeOf}
 use Rattle.shaper.specs.Credit.{Valid, AllValid, Permitted, endCredit, accruedOf, sentOf}
 use Rattle.summary.specs.declared.Summary.{Summary}
@@ -21,9 +22,11 @@ use Rattle.summary.specs.declared.Answer.{Answer}
 use Rattle.summary.specs.declared.Outcome.{Outcome}
 use Rattle.summary.specs.Summary.{smallerℤ, largerℤ, gain, emptyOf, singleOf, joined, summaryOf}
 use Rattle.summary.specs.Range.{InRange}
-use Rattle.summary.specs.Answer.{emptyAnswer, singleAnswer, joinOf, andThen, settleOf}
+use Rattle.summary.specs.Answer.{emptyAnswer, singleAnswer, countedAnswer, joinOf, andThen, settleOf}
 use Rattle.record.specs.Read.{limitsAt}
 use Rattle.record.specs.Record.{eventBytes, written, WellFormed}
+use Rattle.record.specs.Items as items
+use Rattle.record.specs.Items.{Item, one, run, runBytes, itemBytes, writtenItems, unrolled, ItemOk, ItemsOk}
 use Rattle.sheet.specs.Sheet.{sheetLength, summaryAt}
 use Rattle.rpr.specs.Calls.{joinAnswer, joinAfter, settleAnswer, EndsAt}
 
@@ -72,6 +75,26 @@ pub record RecordBytes (l : Limits) : Type 0 where
   -- each behind the one before
   pub next : (es : List Event) (e : Event) → written l (es ++ (e ∷ [])) ≡ written l es ++ eventBytes e
 
+-- Kind 4, length 10: a tick kind (2, being 1 or 2), an amount (2), a count (2, from 2 to 65,535), standing for that many equal ticks (document 02, A8).
+pub record ItemBytes (l : Limits) : Type 0 where
+  pub waiting : (x count : ℕ) → runBytes (Waiting x) count ≡ (10 ∷ 0 ∷ 4 ∷ 0 ∷ 1 ∷ 0 ∷ []) ++ (digits 2 x ++ digits 2 count)
+  pub idle : (x count : ℕ) → runBytes (Idle x) count ≡ (10 ∷ 0 ∷ 4 ∷ 0 ∷ 2 ∷ 0 ∷ []) ++ (digits 2 x ++ digits 2 count)
+  -- An item is an event as before, or a run.
+  pub event : (e : Event) → itemBytes (one e) ≡ eventBytes e
+  pub run : (e : Event) (count : ℕ) → itemBytes (run e count) ≡ runBytes e count
+  -- A record in either form is its header and its items, each behind the one before.
+  pub header : writtenItems l [] ≡ written l []
+  pub next : (is : List Item) (i : Item) → writtenItems l (is ++ (i ∷ [])) ≡ writtenItems l is ++ itemBytes i
+  -- One in the old form has events alone.
+  pub old : (es : List Event) → writtenItems l (map one es) ≡ written l es
+
+-- Events are counted unrolled.
+pub record Unrolls : Type 0 where
+  pub none : unrolled [] ≡ []
+  pub event : (e : Event) (is : List Item) → unrolled (one e ∷ is) ≡ e ∷ unrolled is
+  pub run : (e : Event) (count : ℕ) (is : List Item) → unrolled (run e count ∷ is) ≡ replicate count e ++ unrolled is
+  pub old : (es : List Event) → unrolled (map one es) ≡ es
+
 -- What may be written: settings and events in range, at most 1,000,000 events.
 pub record Formed (l : Limits) : Type 0 where
   pub exactly : (es : List Event) → WellFormed l es ↔ (LimitsOk l × AllValid l es × (length es ≤ 1000000))
@@ -81,6 +104,16 @@ pub record Formed (l : Limits) : Type 0 where
   pub waiting : (x : ℕ) → Valid l (Waiting x) ↔ (x ≤ 65535)
   pub idle : (x : ℕ) → Valid l (Idle x) ↔ (x ≤ 65535)
   pub send : (z : ℕ) → Valid l (Send z) ↔ ((16 ≤ z) × (z ≤ l .mtu))
+
+-- The same in either form, its events counted unrolled: a run is of 2 to 65,535 equal ticks, and a send comes alone.
+pub record ItemsFormed (l : Limits) : Type 0 where
+  pub exactly : (is : List Item) → items.Formed true l is ↔ (LimitsOk l × ItemsOk true l is × (length (unrolled is) ≤ 1000000))
+  pub none : ItemsOk true l []
+  pub more : (i : Item) (is : List Item) → ItemsOk true l (i ∷ is) ↔ (ItemOk true l i × ItemsOk true l is)
+  pub event : (e : Event) → ItemOk true l (one e) ↔ Valid l e
+  pub waiting : (x count : ℕ) → ItemOk true l (run (Waiting x) count) ↔ ((x ≤ 65535) × (2 ≤ count) × (count ≤ 65535))
+  pub idle : (x count : ℕ) → ItemOk true l (run (Idle x) count) ↔ ((x ≤ 65535) × (2 ≤ count) × (count ≤ 65535))
+  pub send : (z count : ℕ) → ItemOk true l (run (Send z) count) → ⊥
 
 -- ---- summaries
 
@@ -93,6 +126,10 @@ pub record Singles (l : Limits) : Type 0 where
   -- Send: ceiling hiLimit − size, need loLimit+1.
   pub send : (z : ℕ) → singleOf l (Send z) ≡ record { limits = l; events = 1; accrued = 0; sent = z; ceiling = pos (l .hi) -ℤ pos z; need = l .lo + 1 }
 
+-- so many equal events come together: one alone, or ticks, kind 1 or 2
+abbrev pub Together : Event → ℕ → Type 0
+Together e count = (1 ≤ count) × ((count ≡ 1) ⊎ (kindOf e < 3))
+
 -- The constructors: 1 where a setting is outside its range, then 3 where the event's number is.
 pub record Constructs (l : Limits) : Type 0 where
   pub empty : LimitsOk l → emptyAnswer l ≡ Answer.Summed (emptyOf l)
@@ -100,6 +137,14 @@ pub record Constructs (l : Limits) : Type 0 where
   pub single : (e : Event) → LimitsOk l → Valid l e → singleAnswer l e ≡ Answer.Summed (singleOf l e)
   pub settings-refused : (e : Event) → (LimitsOk l → ⊥) → singleAnswer l e ≡ Answer.Refused 1
   pub number-refused : (e : Event) → LimitsOk l → (Valid l e → ⊥) → singleAnswer l e ≡ Answer.Refused 3
+  -- Of so many equal events, as an item stands for them: one event, or ticks. Then 3 where the count is 0 or a send comes more than once, and 9 where it is
+  -- over 1,000,000 events.
+  pub counted : (e : Event) (count : ℕ) → LimitsOk l → Valid l e → Together e count → count ≤ 1000000
+      → countedAnswer l e count ≡ Answer.Summed (summaryOf l (replicate count e))
+  pub counted-settings : (e : Event) (count : ℕ) → (LimitsOk l → ⊥) → countedAnswer l e count ≡ Answer.Refused 1
+  pub counted-number : (e : Event) (count : ℕ) → LimitsOk l → (Valid l e → ⊥) → countedAnswer l e count ≡ Answer.Refused 3
+  pub counted-apart : (e : Event) (count : ℕ) → LimitsOk l → Valid l e → (Together e count → ⊥) → countedAnswer l e count ≡ Answer.Refused 3
+  pub counted-many : (e : Event) (count : ℕ) → LimitsOk l → Valid l e → Together e count → 1000000 < count → countedAnswer l e count ≡ Answer.Refused 9
 
 -- Join of 1 then 2, which are in range and have the same settings.
 pub record JoinsTwo (a b : Summary) : Type 0 where
@@ -161,6 +206,9 @@ pub record SummaryRules : Type 0 where
   pub sums : (es : List Event) → Sums es
   pub writes : (l : Limits) → RecordBytes l
   pub formed : (l : Limits) → Formed l
+  pub writes-items : (l : Limits) → ItemBytes l
+  pub unrolls : Unrolls
+  pub formed-items : (l : Limits) → ItemsFormed l
   -- Gain is accrued − sent.
   pub gains : (s : Summary) → gain s ≡ pos (s .accrued) -ℤ pos (s .sent)
   -- the smaller and the larger of two numbers

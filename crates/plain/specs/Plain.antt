@@ -1,7 +1,7 @@
 -- Summaries by natural numbers alone: the ceiling as its depth below hiLimit, which no event raises above it, and the gain as accrued and sent.
 -- The paper's own summary, whose ceiling is signed, stands in the crate `summary`; the laws are proved here, since `omega` reads no signed number.
 -- Assumes nothing.
-use Prim.Native.Nat.{ℕ, _+_, _-_, min, max}
+use Prim.Native.Nat.{ℕ, _+_, _-_, _*_, min, max}
 use mathlib.Core.Bool.{cond}
 use mathlib.Core.List.{List, [], _∷_}
 use lib.Dec.{ltb}
@@ -14,11 +14,21 @@ use Rattle.plain.specs.declared.Plain.{Plain}
 abbrev pub plainEmpty : Limits → Plain
 plainEmpty l = record { limits = l; events = 0; accrued = 0; sent = 0; depth = 0; need = 0 }
 
+-- ticks that leave the ceiling at one depth, the bytes that they brought in all; need 0
+abbrev pub plainTicks : Limits → ℕ → ℕ → ℕ → Plain
+plainTicks l depth count bytes = record { limits = l; events = count; accrued = bytes; sent = 0; depth = depth; need = 0 }
+
 -- Tick: ceiling hiLimit waiting, loLimit idle; need 0. Send: ceiling hiLimit − size, need loLimit+1.
 abbrev pub plainSingle : Limits → Event → Plain
-plainSingle l (Waiting x) = record { limits = l; events = 1; accrued = x; sent = 0; depth = 0; need = 0 }
-plainSingle l (Idle x) = record { limits = l; events = 1; accrued = x; sent = 0; depth = l .hi - l .lo; need = 0 }
+plainSingle l (Waiting x) = plainTicks l 0 1 x
+plainSingle l (Idle x) = plainTicks l (l .hi - l .lo) 1 x
 plainSingle l (Send z) = record { limits = l; events = 1; accrued = 0; sent = z; depth = z; need = l .lo + 1 }
+
+-- Run of equal ticks: accrued count × amount; ceiling and need as of one. A send comes alone.
+abbrev pub plainRun : Limits → Event → ℕ → Plain
+plainRun l (Waiting x) count = plainTicks l 0 count (count * x)
+plainRun l (Idle x) count = plainTicks l (l .hi - l .lo) count (count * x)
+plainRun l (Send z) count = plainSingle l (Send z)
 
 -- Need is hiLimit+1 ("never") if ceiling1 < need2, else max(need1, need2 − gain1), at most hiLimit+1.
 unfoldable pub plainNeed : Plain → Plain → ℕ

@@ -1,8 +1,10 @@
 -- The range of a summary by natural numbers. What compares the ceiling or the gain is stated with the subtrahend on the other side.
 -- Assumes nothing.
-use Prim.Native.Nat.{_+_, _*_, _≤_}
-use Rattle.decide.specs.Test.{Test, Holds, _≤?_, _<?_, _∧?_, _∨?_}
+use Prim.Native.Nat.{ℕ, _+_, _*_, _≤_}
+use Rattle.decide.specs.Test.{Test, Holds, _≤?_, _<?_, _≡?_, _∧?_, _∨?_}
+use Rattle.shaper.specs.declared.Event.{Event}
 use Rattle.shaper.specs.Limits.{limitsOk, sameLimits, mostSize, mostAmount, mostEvents}
+use Rattle.shaper.specs.Kind.{kindOf}
 use Rattle.plain.specs.declared.Plain.{Plain}
 
 -- if need ≤ hiLimit, ceiling ≥ 0 and need + gain ≥ 0
@@ -38,3 +40,7 @@ pub record Small (s : Plain) : Type 0 where
   pub small-sent : s .sent ≤ mostSize * mostEvents
   pub small-depth : s .depth ≤ 1048576 + mostSize * mostEvents
   pub small-need : s .need ≤ 1048577
+
+-- how many equal events an item of a record may stand for: at least one, and of sends just one
+abbrev pub countOk : Event → ℕ → Test
+countOk e count = 1 ≤? count ∧? (count ≡? 1 ∨? kindOf e <? 3)

@@ -1,4 +1,5 @@
 pub mod Rows
+pub mod There
 pub mod Walk
 pub mod Found
 pub mod Refused

@@ -1,4 +1,4 @@
--- A reader walks the lent bytes and remembers its place.
+-- A reader walks the lent bytes of a record, in either form, and remembers its place.
 -- Assumes nothing.
 use Prim.Native.Nat.{ℕ, zero, suc}
 use mathlib.Core.List.{List, []}

@@ -1,11 +1,11 @@
-// A reader walks the lent bytes of a shaper record and remembers its place.
+// A reader walks the lent bytes of a shaper record, in either form, and remembers its place.
 ghost use mathlib.Core.Path.{_≡_};
 ghost use Rattle.reader.specs.Place.{nextAt, afterAt};
 ghost use Rattle.reader.specs.Walk.{newOf, nextOf, movedOf};
 use record::Header;
 use record::Step;
 
-// Where the first event begins, behind the header.
+// Where the first item begins, behind the header.
 pub const START: usize = 14;
 
 // A place of a record: where an item begins, and how many events stand before it.
@@ -21,7 +21,7 @@ pub struct Reader<'a> {
 }
 
 impl<'a> Reader<'a> {
-    // A reader at the first event.
+    // A reader at the first item.
     pub fn new(bytes: &'a [u8]) -> Reader<'a>
         ensures { λ r. ⌜ r ≡ newOf (bytes .entry) ⌝ }
     {
@@ -31,7 +31,7 @@ impl<'a> Reader<'a> {
         }
     }
 
-    // The event at the reader's place, the end, or the number of what is wrong.
+    // The item at the reader's place, an event or a run, the end, or the number of what is wrong.
     pub fn next(self) -> Step
         ensures { λ r. ⌜ r ≡ nextOf (self .entry) ⌝ }
     {
@@ -59,14 +59,14 @@ pub fn read_at(bytes: &[u8], place: Place) -> Step
     }.next()
 }
 
-// What stands at a place of a record, its header first; behind the millionth event only the end may.
+// What stands at a place of a record, its header first; behind the millionth event only the end may, and no run may pass it.
 fn next_at(bytes: &[u8], place: Place) -> Step
     ensures { λ r. ⌜ r ≡ nextAt (now (bytes .entry)) place ⌝ }
 {
     match record::header_of(bytes) {
         Header::Settings(limits) => {
             let left = record::may_come(place.done);
-            record::event_within(bytes, place.at, limits.mtu, left, 9)
+            record::event_within(bytes, place.at, limits.mtu, left, 9, true)
         }
         Header::Unreadable(fault) => Step::Faulty(fault),
     }

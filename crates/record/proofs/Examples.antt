@@ -1,6 +1,7 @@
 -- The paper's own record, byte for byte: what its writer writes, and what is read from it.
 -- Assumes nothing.
 use Prim.Native.Nat.{ℕ}
+use mathlib.Core.Bool.{Bool}
 use mathlib.Core.List.{List, [], _∷_}
 use mathlib.Core.Path.{_≡_, refl, sym, ap, _∙_}
 use native.Mathlib.Omega.{arith}
@@ -9,7 +10,7 @@ use Rattle.shaper.specs.declared.Event.{Event}
 use Rattle.shaper.specs.declared.Event.the-variants.{Waiting, Idle, Send}
 use Rattle.wire.specs.Wire.{digits}
 use Rattle.record.specs.Record.{headerBytes, eventBytes, written}
-use Rattle.record.specs.Read.{whole, readRecord}
+use Rattle.record.specs.Read.{whole, readIn}
 use Rattle.record.proofs.Written.{written-read}
 
 -- 0e00 1000 4000 64000000 2c010000 060001009600 060003003c00 060003004000 060002003200
@@ -33,7 +34,7 @@ pub example-written : written limits happened ≡ paper
 unfolding headerBytes eventBytes digits
 example-written = refl
 
-pub example-read : readRecord paper ≡ whole limits happened
-example-read =
-    ap readRecord (sym example-written)
-    ∙ written-read limits happened (record { settings = omega arith; valid = omega arith; few = omega arith })
+pub example-read : (runs : Bool) → readIn runs paper ≡ whole limits happened
+example-read runs =
+    ap (readIn runs) (sym example-written)
+    ∙ written-read runs limits happened (record { settings = omega arith; valid = omega arith; few = omega arith })

@@ -5,7 +5,7 @@ use mathlib.Core.Bool.{true, false}
 use mathlib.Core.Logic.{_⊎_, inl, inr, ⊎-elim, _↔_}
 use mathlib.Core.Path.{_≡_, refl, sym}
 use native.Mathlib.Omega.{arith}
-use borrow.Author.Tests.{le-leb, lt-leb, eq-eqb, ne-eqb}
+use borrow.Author.Tests.{le-leb, lt-leb, le-ltb, lt-ltb, eq-eqb, ne-eqb}
 use Rattle.decide.specs.Test.{_≡?_, test, Holds, facts, passes, decided, split}
 use Rattle.decide.specs.Size.{sizeOk}
 use Rattle.decide.proofs.Cases.{by-cases, le-or}
@@ -17,7 +17,7 @@ use Rattle.shaper.specs.Limits.{mostAmount}
 use Rattle.shaper.specs.Credit.{Valid}
 use Rattle.shaper.specs.Kind.{kindOf, numberOf, eventOf}
 use Rattle.shaper.proofs.Kind.{event-1, event-2, event-3}
-use Rattle.record.specs.Read.{fieldFaults, fieldFault, good}
+use Rattle.record.specs.Read.{fieldFaults, fieldFault, good, runFieldFaults, runFieldFault}
 
 module _ (mtu len kind num : ℕ) where
   -- Events, length 6.
@@ -58,6 +58,56 @@ module _ (mtu len kind num : ℕ) where
   unfolding fieldFault
   fields-send e k h j =
       rw (in-order (fieldFaults mtu len kind num) refl, eq-eqb len 6 e, k, passes (sizeOk num mtu) (h, j))
+
+-- ---- the fields of a run
+
+module _ (len tick count : ℕ) where
+  -- A run, length 10.
+  pub run-length : (len ≡ 10 → ⊥) → runFieldFault len tick count ≡ 2
+  unfolding runFieldFault
+  run-length h = rw (in-order (runFieldFaults len tick count) refl, ne-eqb len 10 h)
+
+  -- Tick kind 1 or 2: neither below
+  pub run-below : len ≡ 10 → tick < 1 → runFieldFault len tick count ≡ 2
+  unfolding runFieldFault
+  run-below e h = rw (in-order (runFieldFaults len tick count) refl, eq-eqb len 10 e, lt-leb 1 tick h)
+
+  -- nor above.
+  pub run-above : len ≡ 10 → 2 < tick → runFieldFault len tick count ≡ 2
+  unfolding runFieldFault
+  run-above e h = rw (in-order (runFieldFaults len tick count) refl, eq-eqb len 10 e, le-leb 1 tick (omega arith), lt-leb tick 2 h)
+
+  -- A count from 2 on.
+  pub run-few : len ≡ 10 → 1 ≤ tick → tick ≤ 2 → count < 2 → runFieldFault len tick count ≡ 2
+  unfolding runFieldFault
+  run-few e h k c = rw (in-order (runFieldFaults len tick count) refl, eq-eqb len 10 e, le-leb 1 tick h, le-leb tick 2 k, lt-ltb count 2 c)
+
+  pub run-good : len ≡ 10 → 1 ≤ tick → tick ≤ 2 → 2 ≤ count → runFieldFault len tick count ≡ 0
+  unfolding runFieldFault
+  run-good e h k c = rw (in-order (runFieldFaults len tick count) refl, eq-eqb len 10 e, le-leb 1 tick h, le-leb tick 2 k, le-ltb count 2 c)
+
+-- what they are where none has a fault
+pub record GoodRun (len tick count : ℕ) : Type 0 where
+  pub ten : len ≡ 10
+  pub first : 1 ≤ tick
+  pub last : tick ≤ 2
+  pub many : 2 ≤ count
+
+module _ (len tick count : ℕ) where
+  fault-or-run : (0 < runFieldFault len tick count) ⊎ GoodRun len tick count
+  fault-or-run =
+      by-cases (split (len ≡? 10))
+      (λ s. by-cases (le-or 1 tick)
+      (λ a. by-cases (le-or tick 2)
+      (λ b. by-cases (le-or 2 count)
+      (λ c. inr (record { ten = s; first = a; last = b; many = c }))
+      (λ c. inl (omega (arith, run-few len tick count s a b c))))
+      (λ b. inl (omega (arith, run-above len tick count s b))))
+      (λ a. inl (omega (arith, run-below len tick count s a))))
+      (λ s. inl (omega (arith, run-length len tick count s)))
+
+  pub run-facts : runFieldFault len tick count ≡ 0 → GoodRun len tick count
+  run-facts e = by-cases fault-or-run (λ f. absurd (omega arith)) (λ g. g)
 
 -- ---- fields without a fault
 

@@ -2,6 +2,7 @@ pub mod Fields
 pub mod Rows
 pub mod Steps
 pub mod Written
+pub mod Wrote
 pub mod Earliest
 pub mod Refused
 pub mod Answers

@@ -1,11 +1,13 @@
--- A record is what its writer writes: it is read back whole, and whatever is read whole, or before a fault, was so written.
+-- What a writer writes is read back whole, in either form.
 -- Assumes nothing.
 use Prim.Native.Nat.{ℕ, zero, suc, _+_, _*_, _-_, _≤_, _<_}
+use mathlib.Core.Bool.{Bool, true}
 use mathlib.Core.List.{List, [], _∷_, _++_, append-assoc, append-nil}
+use mathlib.Core.Logic.{inr}
 use mathlib.Core.Path.{_≡_, refl, sym, ap, _∙_}
 use native.Mathlib.Omega.{arith}
-use native.Mathlib.Nat.{zero-add, suc-add}
-use lib.ListN.{length, drop, length-append}
+use native.Mathlib.Nat.{zero-add, suc-add, add-assoc}
+use lib.ListN.{length, drop, replicate, length-append, length-replicate}
 use lib.Seq.{drop-at}
 use Rattle.decide.specs.Test.{Holds, test, passes}
 use Rattle.shaper.specs.declared.Limits.{Limits}
@@ -15,24 +17,19 @@ use Rattle.shaper.specs.Limits.{limitsOk, mostEvents}
 use Rattle.shaper.specs.Credit.{Valid, AllValid}
 use Rattle.shaper.specs.Kind.{kindOf, numberOf, eventOf}
 use Rattle.shaper.proofs.Kind.{event-of}
-use Rattle.wire.specs.Wire.{le, digits, put, Bytes}
-use Rattle.wire.specs.Parts.{Part, laidOut, sizes, length-laidOut}
-use Rattle.wire.proofs.Numbers.{digits-stand}
-use Rattle.wire.proofs.Places.{stands-between, bytes-drop}
-use Rattle.wire.proofs.Places as Places
-use Rattle.wire.proofs.Laid.{le-part, laid-put, laid-standing, Standing}
-use Rattle.record.specs.declared.Header.{Header}
-use Rattle.record.specs.declared.Header.the-variants.{Settings, Unreadable}
+use Rattle.wire.specs.Wire.{le}
+use Rattle.wire.specs.Parts.{laidOut, length-laidOut}
+use Rattle.wire.proofs.Places.{stands-between}
+use Rattle.wire.proofs.Laid.{le-part}
+use Rattle.record.specs.declared.Header.the-variants.{Settings}
+use Rattle.record.specs.declared.Step.the-variants.{Stands}
 use Rattle.record.specs.Record.{headerParts, eventParts, headerBytes, eventBytes, eventsBytes, written, WellFormed}
-use Rattle.record.specs.Read.{limitsAt, Events, faulty, events, onward, readFrom, Read, unreadable, whole, under, readRecord}
-use Rattle.record.specs.Cause.{Why, too-many, has-fault, Cause, in-header, behind-events}
-use Rattle.record.specs.declared.Step.{Step}
-use Rattle.record.specs.declared.Step.the-variants.{Stands, End, Faulty}
-use Rattle.record.specs.Step.{headerOf, stepAt}
-use Rattle.record.proofs.Fields.{good-event, event-good}
-use Rattle.record.proofs.Rows.{header-settings}
-use Rattle.record.proofs.Steps.{Headed, Stood, readBy, readOn, read-header, header-stands, header-faulty, read-step, read-good, read-end, read-over, step-stands, step-end, step-faulty, stood-bound}
-use Rattle.record.proofs.Refused.{header-refused-exactly, event-refused-exactly}
+use Rattle.record.specs.Items.{Item, one, run, runParts, runBytes, itemBytes, itemsBytes, writtenItems, unrolledItem, unrolled, ItemOk, ItemsOk, Formed}
+use Rattle.record.specs.Read.{limitsAt, Events, faulty, events, onward, ahead, readItems, whole, readIn}
+use Rattle.record.specs.Step.{headerOf}
+use Rattle.record.proofs.Fields.{good-event, run-good}
+use Rattle.record.proofs.Rows.{header-settings, run-at, run-stands}
+use Rattle.record.proofs.Steps.{read-header, read-good, read-end, step-stands}
 
 -- ---- lengths
 
@@ -44,6 +41,10 @@ pub length-event : (e : Event) → length (eventBytes e) ≡ 6
 unfolding eventBytes
 length-event e = length-laidOut (eventParts e)
 
+pub length-run : (e : Event) (count : ℕ) → length (runBytes e count) ≡ 10
+unfolding runBytes
+length-run e count = length-laidOut (runParts e count)
+
 pub length-events : (es : List Event) → length (eventsBytes es) ≡ 6 * length es
 length-events [] = refl
 length-events (e ∷ es) = omega (arith, length-append (eventBytes e) (eventsBytes es), length-event e, length-events es)
@@ -51,10 +52,44 @@ length-events (e ∷ es) = omega (arith, length-append (eventBytes e) (eventsByt
 pub length-written : (l : Limits) (es : List Event) → length (written l es) ≡ 14 + 6 * length es
 length-written l es = omega (arith, length-append (headerBytes l) (eventsBytes es), length-header l, length-events es)
 
--- the bytes of a piece's events stand one behind another
+-- the bytes of a piece's events stand one behind another, and so do those of items
 pub events-append : (es fs : List Event) → eventsBytes (es ++ fs) ≡ eventsBytes es ++ eventsBytes fs
 events-append [] fs = refl
 events-append (e ∷ es) fs = rw (append-assoc, events-append es fs)
+
+pub items-append : (is js : List Item) → itemsBytes (is ++ js) ≡ itemsBytes is ++ itemsBytes js
+items-append [] js = refl
+items-append (i ∷ is) js = rw (append-assoc, items-append is js)
+
+-- the events of items that stand one behind another
+pub unrolled-append : (is js : List Item) → unrolled (is ++ js) ≡ unrolled is ++ unrolled js
+unrolled-append [] js = refl
+unrolled-append (i ∷ is) js = rw (append-assoc, unrolled-append is js)
+
+-- ---- an old record's events as items
+
+abbrev pub ones : List Event → List Item
+ones [] = []
+ones (e ∷ es) = one e ∷ ones es
+
+pub ones-bytes : (es : List Event) → itemsBytes (ones es) ≡ eventsBytes es
+ones-bytes [] = refl
+ones-bytes (e ∷ es) = rw (ones-bytes es)
+
+pub ones-unrolled : (es : List Event) → unrolled (ones es) ≡ es
+ones-unrolled [] = refl
+ones-unrolled (e ∷ es) = rw (ones-unrolled es)
+
+pub ones-ok : (runs : Bool) (l : Limits) (es : List Event) → AllValid l es → ItemsOk runs l (ones es)
+ones-ok runs l [] v = tt
+ones-ok runs l (e ∷ es) v = (v .0, ones-ok runs l es (v .1))
+
+-- a record of the old form is one in either
+pub ones-formed : (runs : Bool) (l : Limits) (es : List Event) → WellFormed l es → Formed runs l (ones es)
+ones-formed runs l es w = record { settings = w .settings; items = ones-ok runs l es (w .valid); few = rw (ones-unrolled es) (w .few) }
+
+pub ones-written : (l : Limits) (es : List Event) → writtenItems l (ones es) ≡ written l es
+ones-written l es = rw (ones-bytes es)
 
 -- ---- sizes: settings in range and events in range fit their bytes
 
@@ -81,6 +116,19 @@ pub behind-faulty : (es : List Event) (n : ℕ) → behind es (faulty n) ≡ fau
 behind-faulty [] n = refl
 behind-faulty (e ∷ es) n = rw (behind-faulty es n)
 
+pub behind-events : (es fs : List Event) → behind es (events fs) ≡ events (es ++ fs)
+behind-events [] fs = refl
+behind-events (e ∷ es) fs = rw (behind-events es fs)
+
+pub behind-append : (es fs : List Event) (r : Events) → behind (es ++ fs) r ≡ behind es (behind fs r)
+behind-append [] fs r = refl
+behind-append (e ∷ es) fs r = rw (behind-append es fs r)
+
+-- so many of an event
+pub ahead-behind : (count : ℕ) (e : Event) (r : Events) → ahead count e r ≡ behind (replicate count e) r
+ahead-behind zero e r = refl
+ahead-behind (suc count) e r = rw (ahead-behind count e r)
+
 module _ (l : Limits) (ok : Holds (limitsOk l)) where
   pub header-back : (q : List ℕ) → headerOf (headerBytes l ++ q) ≡ Settings l
   unfolding headerBytes
@@ -97,8 +145,9 @@ module _ (l : Limits) (ok : Holds (limitsOk l)) where
       header-settings (laidOut (headerParts l) ++ q) n a b (t ∙ passes (limitsOk l) ok)
       ∙ rw (m, o, h)
 
-module _ (late : ℕ) (l : Limits) (ok : Holds (limitsOk l)) where
-  pub event-back : (e : Event) → Valid l e → (m : ℕ) (q : List ℕ) → readFrom late (l .mtu) (suc m) 0 (eventBytes e ++ q) ≡ onward 0 e (readFrom late (l .mtu) m 0 q)
+module _ (runs : Bool) (late : ℕ) (l : Limits) (ok : Holds (limitsOk l)) where
+  pub event-back : (e : Event) → Valid l e → (m : ℕ) (q : List ℕ) →
+      readItems runs late (l .mtu) (suc m) 0 (eventBytes e ++ q) ≡ onward 0 e (readItems runs late (l .mtu) m 0 q)
   unfolding eventBytes
   event-back e v m q =
       let s = stands-between [] (laidOut (eventParts e)) q in
@@ -107,168 +156,68 @@ module _ (late : ℕ) (l : Limits) (ok : Holds (limitsOk l)) where
       let k : le 2 (laidOut (eventParts e) ++ q) 2 ≡ kindOf e = le-part (eventParts e) 1 2 (kindOf e) (laidOut (eventParts e) ++ q) 0 refl (omega arith) s in
       let n : le 2 (laidOut (eventParts e) ++ q) 4 ≡ numberOf e = le-part (eventParts e) 2 2 (numberOf e) (laidOut (eventParts e) ++ q) 0 refl (omega arith) s in
       let h : 6 ≤ length (laidOut (eventParts e) ++ q) = omega (arith, length-append (laidOut (eventParts e)) q, length-laidOut (eventParts e)) in
-      read-good late (l .mtu) (laidOut (eventParts e) ++ q) 0 m h (rw (a, k, n) (good-event l e v))
+      read-good runs (l .mtu) (laidOut (eventParts e) ++ q) 0 late m h (rw (a, k, n) (good-event l e v))
       ∙ rw (k, n, event-of e, drop-at (laidOut (eventParts e)) q 6 (length-laidOut (eventParts e)))
 
-  -- events in range, and then what stands behind them
-  pub events-then : (es : List Event) (m : ℕ) (q : List ℕ) → AllValid l es →
-      readFrom late (l .mtu) (length es + m) 0 (eventsBytes es ++ q) ≡ behind es (readFrom late (l .mtu) m 0 q)
-  events-then [] m q v = rw zero-add
-  events-then (e ∷ es) m q v =
-      rw (append-assoc, suc-add) (event-back e (v .0) (length es + m) (eventsBytes es ++ q) ∙ rw (events-then es m q (v .1)))
+  -- a run that may stand: as many equal ticks as its count says
+  pub run-back : (e : Event) (count : ℕ) → ItemOk runs l (run e count) → (m : ℕ) (q : List ℕ) →
+      readItems runs late (l .mtu) (count + m) 0 (runBytes e count ++ q) ≡ ahead count e (readItems runs late (l .mtu) m 0 q)
+  unfolding runBytes
+  run-back e count i m q =
+      let xs = laidOut (runParts e count) ++ q in
+      let s = stands-between [] (laidOut (runParts e count)) q in
+      let f = event-fits l e ok (i .2) in
+      let g = tick-first e in
+      let a : le 2 (laidOut (runParts e count) ++ q) 0 ≡ 10 = le-part (runParts e count) 0 2 10 xs 0 refl (omega arith) s in
+      let r : le 2 (laidOut (runParts e count) ++ q) 2 ≡ 4 = le-part (runParts e count) 1 2 4 xs 0 refl (omega arith) s in
+      let k : le 2 (laidOut (runParts e count) ++ q) 4 ≡ kindOf e = le-part (runParts e count) 2 2 (kindOf e) xs 0 refl (omega arith) s in
+      let n : le 2 (laidOut (runParts e count) ++ q) 6 ≡ numberOf e = le-part (runParts e count) 3 2 (numberOf e) xs 0 refl (omega arith) s in
+      let c : le 2 (laidOut (runParts e count) ++ q) 8 ≡ count = le-part (runParts e count) 4 2 count xs 0 refl (omega (arith, i .4)) s in
+      let h : 10 ≤ length (laidOut (runParts e count) ++ q) = omega (arith, length-append (laidOut (runParts e count)) q, length-laidOut (runParts e count)) in
+      let t = run-at xs 0 r in
+      let stands = run-stands runs (l .mtu) xs 0 (rw (i .0) t) t h (rw (a, k, c) (run-good 10 (kindOf e) count refl g (omega (arith, i .1)) (i .3))) in
+      rw (k, n, c, a, event-of e, drop-at (laidOut (runParts e count)) q 10 (length-laidOut (runParts e count)))
+      at (step-stands runs (l .mtu) xs 0 _ _ _ _ stands .goes-on late m)
+    where
+      tick-first : (e : Event) → 1 ≤ kindOf e
+      tick-first (Waiting x) = omega arith
+      tick-first (Idle x) = omega arith
+      tick-first (Send z) = omega arith
 
-  pub events-back : (es : List Event) (left : ℕ) → AllValid l es → length es ≤ left → readFrom late (l .mtu) left 0 (eventsBytes es) ≡ events es
-  events-back es left v h =
-      let e : left ≡ length es + (left - length es) = omega arith in
-      ap (λ (n : ℕ). readFrom late (l .mtu) n 0 (eventsBytes es)) e
-      ∙ ap (λ (q : List ℕ). readFrom late (l .mtu) (length es + (left - length es)) 0 q) (sym (append-nil (eventsBytes es)))
-      ∙ events-then es (left - length es) [] v
-      ∙ rw (read-end late (l .mtu) (left - length es) [] 0 (omega arith)) (behind-none es)
+  pub item-back : (i : Item) → ItemOk runs l i → (m : ℕ) (q : List ℕ) →
+      readItems runs late (l .mtu) (length (unrolledItem i) + m) 0 (itemBytes i ++ q) ≡ behind (unrolledItem i) (readItems runs late (l .mtu) m 0 q)
+  item-back (one e) v m q = rw (suc-add, zero-add) (event-back e v m q)
+  item-back (run e count) v m q = rw (length-replicate count e) (run-back e count v m q ∙ ahead-behind count e (readItems runs late (l .mtu) m 0 q))
 
--- a well-formed record is read back whole
-pub written-read : (l : Limits) (es : List Event) → WellFormed l es → readRecord (written l es) ≡ whole l es
-written-read l es w =
-    read-header (written l es)
+  -- items in range, and then what stands behind them
+  pub items-then : (is : List Item) (m : ℕ) (q : List ℕ) → ItemsOk runs l is →
+      readItems runs late (l .mtu) (length (unrolled is) + m) 0 (itemsBytes is ++ q) ≡ behind (unrolled is) (readItems runs late (l .mtu) m 0 q)
+  items-then [] m q v = rw zero-add
+  items-then (i ∷ is) m q v =
+      rw (append-assoc, length-append (unrolledItem i) (unrolled is), add-assoc, behind-append (unrolledItem i) (unrolled is))
+      (item-back i (v .0) (length (unrolled is) + m) (itemsBytes is ++ q) ∙ rw (items-then is m q (v .1)))
+
+  pub items-back : (is : List Item) (left : ℕ) → ItemsOk runs l is → length (unrolled is) ≤ left →
+      readItems runs late (l .mtu) left 0 (itemsBytes is) ≡ events (unrolled is)
+  items-back is left v h =
+      let n = length (unrolled is) in
+      let e : left ≡ n + (left - n) = omega arith in
+      ap (λ (k : ℕ). readItems runs late (l .mtu) k 0 (itemsBytes is)) e
+      ∙ ap (λ (q : List ℕ). readItems runs late (l .mtu) (n + (left - n)) 0 q) (sym (append-nil (itemsBytes is)))
+      ∙ items-then is (left - n) [] v
+      ∙ rw (read-end runs late (l .mtu) (left - n) [] 0 (omega arith)) (behind-none (unrolled is))
+
+-- a well-formed record is read back whole, as the events that its items stand for,
+pub items-read : (runs : Bool) (l : Limits) (is : List Item) → Formed runs l is → readIn runs (writtenItems l is) ≡ whole l (unrolled is)
+items-read runs l is w =
+    read-header runs (writtenItems l is)
     ∙ rw (
-      header-back l (w .settings) (eventsBytes es),
-      drop-at (headerBytes l) (eventsBytes es) 14 (length-header l),
-      events-back 9 l (w .settings) es mostEvents (w .valid) (w .few),
+      header-back l (w .settings) (itemsBytes is),
+      drop-at (headerBytes l) (itemsBytes is) 14 (length-header l),
+      items-back runs 9 l (w .settings) is mostEvents (w .items) (w .few),
     )
 
--- ---- what is read was written
-
--- parts that stand at the front are the front
-front : (ps : List Part) (xs : List ℕ) → sizes ps ≤ length xs → Standing xs 0 ps → xs ≡ laidOut ps ++ drop (sizes ps) xs
-unfolding put
-front ps xs h s =
-    sym (laid-standing ps xs 0 (omega arith) s) ∙ laid-put ps xs 0 (omega arith) ∙ rw (length-laidOut ps, zero-add)
-
-module _ (ys : List ℕ) (b : Bytes ys) where
-  event-front : (mtu k v c next : ℕ) → Stood mtu ys 0 k v c next → ys ≡ eventBytes (eventOf k v) ++ drop next ys
-  unfolding eventBytes
-  event-front mtu k v c next s =
-      let e = event-good mtu 6 k v (s .fields) in
-      let p : Places.Stands ys 0 (digits 2 6) = rw (s .length-field) at (digits-stand 2 ys 0 b) in
-      let q : Places.Stands ys 2 (digits 2 (kindOf (eventOf k v))) = rw (e .0, s .kind-field) (digits-stand 2 ys 2 b) in
-      let n : Places.Stands ys 4 (digits 2 (numberOf (eventOf k v))) = rw (e .1, s .number-field) (digits-stand 2 ys 4 b) in
-      rw (s .six) (front (eventParts (eventOf k v)) ys (s .fits) (p, (q, (n, tt))))
-
-  header-front : (l : Limits) → Headed ys l → ys ≡ headerBytes l ++ drop 14 ys
-  unfolding headerBytes
-  header-front l h =
-      let p : Places.Stands ys 0 (digits 2 14) = rw (h .length-field) at (digits-stand 2 ys 0 b) in
-      let k : Places.Stands ys 2 (digits 2 16) = rw (h .kind-field) at (digits-stand 2 ys 2 b) in
-      rw (h .settings) (front (headerParts (limitsAt ys)) ys (h .long) (p, (k, (digits-stand 2 ys 4 b, (digits-stand 4 ys 6 b, (digits-stand 4 ys 10 b, tt))))))
-
--- events that are read from ys, of which `left` may come, are what was written there
-pub record Wrote (l : Limits) (left : ℕ) (ys : List ℕ) (es : List Event) : Type 0 where
-  pub same : ys ≡ eventsBytes es
-  pub valid : AllValid l es
-  pub few : length es ≤ left
-
--- a fault that is read from ys: what stands before it was written, and it is at the front of the rest
-record Stopped (late : ℕ) (l : Limits) (left : ℕ) (ys : List ℕ) (n : ℕ) : Type 0 where
-  before : List Event
-  rest : List ℕ
-  same : ys ≡ eventsBytes before ++ rest
-  wrote : Wrote l left (eventsBytes before) before
-  some : 0 < length rest
-  why : Why late (l .mtu) left (length before) rest n
-
-abbrev Says : ℕ → Limits → ℕ → List ℕ → Events → Type 0
-Says late l left ys (faulty n) = Stopped late l left ys n
-Says late l left ys (events es) = Wrote l left ys es
-
-wrote-none : (l : Limits) (left : ℕ) (ys : List ℕ) → ys ≡ [] → Wrote l left ys []
-wrote-none l left ys e = record { same = e; valid = tt; few = omega arith }
-
--- a fault at the front
-here : (late : ℕ) (l : Limits) (left : ℕ) (ys : List ℕ) (n : ℕ) → 0 < length ys → Why late (l .mtu) left 0 ys n → Stopped late l left ys n
-here late l left ys n h w = record { before = []; rest = ys; same = refl; wrote = wrote-none l left [] refl; some = h; why = w }
-
--- bytes before two others
-ahead : (hs us q ys zs : List ℕ) → ys ≡ hs ++ zs → zs ≡ us ++ q → ys ≡ (hs ++ us) ++ q
-ahead hs us q ys zs f e = f ∙ ap (λ (r : List ℕ). hs ++ r) e ∙ sym (append-assoc hs us q)
-
--- an event before them
-wrote-more : (l : Limits) (m : ℕ) (e : Event) (ys zs : List ℕ) (es : List Event) → ys ≡ eventBytes e ++ zs → Valid l e → Wrote l m zs es →
-    Wrote l (suc m) ys (e ∷ es)
-wrote-more l m e ys zs es f v s =
-    record { same = f ∙ ap (λ (q : List ℕ). eventBytes e ++ q) (s .same); valid = (v, s .valid); few = omega (arith, s .few) }
-
-why-more : (late mtu m k : ℕ) (q : List ℕ) (n : ℕ) → Why late mtu m k q n → Why late mtu (suc m) (suc k) q n
-why-more late mtu m k q n (too-many e z) = too-many (ap suc e) z
-why-more late mtu m k q n (has-fault h g) = has-fault (omega arith) g
-
-onto : (late : ℕ) (l : Limits) (m : ℕ) (e : Event) (ys zs : List ℕ) → ys ≡ eventBytes e ++ zs → Valid l e → (r : Events) → Says late l m zs r →
-    Says late l (suc m) ys (onward 0 e r)
-onto late l m e ys zs f v (faulty n) s =
-    record {
-      before = e ∷ s .before;
-      rest = s .rest;
-      same = ahead (eventBytes e) (eventsBytes (s .before)) (s .rest) ys zs f (s .same);
-      wrote = wrote-more l m e (eventsBytes (e ∷ s .before)) (eventsBytes (s .before)) (s .before) refl v (s .wrote);
-      some = s .some;
-      why = why-more late (l .mtu) m (length (s .before)) (s .rest) n (s .why);
-    }
-onto late l m e ys zs f v (events es) s = wrote-more l m e ys zs es f v s
-
-pub nothing-left : (ys : List ℕ) → length ys ≤ 0 → ys ≡ []
-nothing-left [] h = refl
-nothing-left (y ∷ ys) h = absurd (omega arith)
-
-step-says : (late : ℕ) (l : Limits) (m : ℕ) → ((zs : List ℕ) → Bytes zs → Says late l m zs (readFrom late (l .mtu) m 0 zs)) → (ys : List ℕ) → Bytes ys →
-    Says late l (suc m) ys (readFrom late (l .mtu) (suc m) 0 ys)
-step-says late l m ih ys b = rw (read-step late (l .mtu) ys 0 m) (by (stepAt (l .mtu) ys 0) refl)
-  where
-    by : (s : Step) → stepAt (l .mtu) ys 0 ≡ s → Says late l (suc m) ys (readOn late (l .mtu) m ys s)
-    by End e = wrote-none l (suc m) ys (nothing-left ys (step-end (l .mtu) ys 0 e))
-    by (Faulty n) e =
-        let s = step-faulty (l .mtu) ys 0 n e in
-        here late l (suc m) ys n (s .some) (has-fault (omega arith) (event-refused-exactly (l .mtu) ys 0 n (s .some) (s .given) .0 e))
-    by (Stands k v c next) e =
-        let s = step-stands (l .mtu) ys 0 k v c next e in
-        onto late l m (eventOf k v) ys (drop next ys) (event-front ys b (l .mtu) k v c next s)
-        (s .valid l refl (stood-bound (l .mtu) ys 0 k v c next b s))
-        (readFrom late (l .mtu) m 0 (drop next ys))
-        (ih (drop next ys) (bytes-drop next ys b))
-
-says : (late : ℕ) (l : Limits) (left : ℕ) (ys : List ℕ) → Bytes ys → Says late l left ys (readFrom late (l .mtu) left 0 ys)
-says late l zero [] b = rw (read-end late (l .mtu) 0 [] 0 (omega arith)) (wrote-none l 0 [] refl)
-says late l zero (y ∷ ys) b = rw (read-over late (l .mtu) (y ∷ ys) 0 (omega arith)) (here late l 0 (y ∷ ys) late (omega arith) (too-many refl refl))
-says late l (suc m) ys b = step-says late l m (λ zs c. says late l m zs c) ys b
-
-pub events-written : (late : ℕ) (l : Limits) (left : ℕ) (ys : List ℕ) (es : List Event) → Bytes ys → readFrom late (l .mtu) left 0 ys ≡ events es → Wrote l left ys es
-events-written late l left ys es b e = rw e at (says late l left ys b)
-
-abbrev pub SaysWhole : List ℕ → Read → Type 0
-SaysWhole xs (unreadable n) = Cause xs n
-SaysWhole xs (whole l es) = (xs ≡ written l es) × WellFormed l es
-
-well-formed : (l : Limits) (zs : List ℕ) (es : List Event) → Holds (limitsOk l) → Wrote l mostEvents zs es → WellFormed l es
-well-formed l zs es ok s = record { settings = ok; valid = s .valid; few = s .few }
-
-under-says : (l : Limits) (xs zs : List ℕ) → xs ≡ headerBytes l ++ zs → Holds (limitsOk l) → (r : Events) → Says 9 l mostEvents zs r →
-    SaysWhole xs (under l r)
-under-says l xs zs f ok (faulty n) s =
-    behind-events l (s .before) (s .rest)
-    (ahead (headerBytes l) (eventsBytes (s .before)) (s .rest) xs zs f (s .same))
-    (well-formed l (eventsBytes (s .before)) (s .before) ok (s .wrote))
-    (s .some)
-    (s .why)
-under-says l xs zs f ok (events es) s = (f ∙ ap (λ (q : List ℕ). headerBytes l ++ q) (s .same), well-formed l zs es ok s)
-
--- what any bytes say
-pub says-whole : (xs : List ℕ) → Bytes xs → SaysWhole xs (readRecord xs)
-says-whole xs b = rw (read-header xs) (by (headerOf xs) refl)
-  where
-    by : (h : Header) → headerOf xs ≡ h → SaysWhole xs (readBy xs h)
-    by (Settings l) e =
-        let h = header-stands xs l e in
-        under-says l xs (drop 14 xs) (header-front xs b l h) (h .in-range) (readFrom 9 (l .mtu) mostEvents 0 (drop 14 xs))
-        (says 9 l mostEvents (drop 14 xs) (bytes-drop 14 xs b))
-    by (Unreadable n) e = in-header (header-refused-exactly xs n (header-faulty xs n e .0) .0 e)
-
--- bytes that are read whole are what a writer writes, of settings and events in range
-pub read-written : (xs : List ℕ) (l : Limits) (es : List Event) → Bytes xs → readRecord xs ≡ whole l es → (xs ≡ written l es) × WellFormed l es
-read-written xs l es b e = rw e at (says-whole xs b)
+-- and one of the old form whether or not runs may stand.
+pub written-read : (runs : Bool) (l : Limits) (es : List Event) → WellFormed l es → readIn runs (written l es) ≡ whole l es
+written-read runs l es w =
+    ap (readIn runs) (sym (ones-written l es)) ∙ items-read runs l (ones es) (ones-formed runs l es w) ∙ ap (whole l) (ones-unrolled es)

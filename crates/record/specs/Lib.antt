@@ -1,4 +1,5 @@
 pub mod Record
+pub mod Items
 pub mod Read
 pub mod Step
 pub mod Cause

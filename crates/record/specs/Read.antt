@@ -1,7 +1,7 @@
 -- What any bytes say as a record: its settings and events, or the number of the earliest fault.
 -- Assumes nothing.
 use Prim.Native.Nat.{ℕ, zero, suc}
-use mathlib.Core.Bool.{not, _&&_, cond}
+use mathlib.Core.Bool.{Bool, true, not, _&&_, cond}
 use mathlib.Core.List.{List, [], _∷_}
 use lib.Dec.{leb, ltb, eqb}
 use lib.ListN.{length, drop}
@@ -41,10 +41,6 @@ kindAt xs = le 2 xs 2
 abbrev pub numberAt : List ℕ → ℕ
 numberAt xs = le 2 xs 4
 
--- how many events of that kind and number the item stands for
-unfoldable pub countAt : List ℕ → ℕ
-countAt xs = 1
-
 -- 2: another length, or no event's kind (a second header's too). 3: a send's size is not 16 to mtu.
 abbrev pub fieldFaults : ℕ → ℕ → ℕ → ℕ → List Fault
 fieldFaults mtu len kind num =
@@ -60,6 +56,42 @@ fieldFault mtu len kind num = firstOf (fieldFaults mtu len kind num)
 -- 2: cut short; then those of its fields.
 abbrev pub eventFaults : ℕ → List ℕ → List Fault
 eventFaults mtu xs = fault 2 (ltb (length xs) 6) ∷ fieldFaults mtu (lengthAt xs) (kindAt xs) (numberAt xs)
+
+-- ---- a run (document 02, A8)
+
+-- Kind 4, length 10: a tick kind (2, being 1 or 2), an amount (2), a count (2, from 2 to 65,535).
+unfoldable pub isRun : List ℕ → Bool
+isRun xs = eqb (kindAt xs) 4
+
+-- 2: another length; a tick kind other than 1 or 2; a count below 2.
+abbrev pub runFieldFaults : ℕ → ℕ → ℕ → List Fault
+runFieldFaults len tick count =
+    fault 2 (not (eqb len 10))
+    ∷ fault 2 (not (leb 1 tick && leb tick 2))
+    ∷ fault 2 (ltb count 2)
+    ∷ []
+
+-- the number of their fault, or 0
+unfoldable pub runFieldFault : ℕ → ℕ → ℕ → ℕ
+runFieldFault len tick count = firstOf (runFieldFaults len tick count)
+
+-- 2: cut short; then those of its fields.
+abbrev pub runFaults : List ℕ → List Fault
+runFaults xs = fault 2 (ltb (length xs) 10) ∷ runFieldFaults (lengthAt xs) (le 2 xs 4) (le 2 xs 8)
+
+-- The faults of the item at the front. Where no run may stand, in a record of the old form, an item of kind 4 is no event.
+unfoldable pub itemFaults : Bool → ℕ → List ℕ → List Fault
+itemFaults runs mtu xs = cond (runs && isRun xs) (runFaults xs) (eventFaults mtu xs)
+
+-- the kind and the number of its events, and how many it stands for: a run for as many as its count, an event for one
+unfoldable pub itemKind : List ℕ → ℕ
+itemKind xs = cond (isRun xs) (le 2 xs 4) (kindAt xs)
+
+unfoldable pub itemNumber : List ℕ → ℕ
+itemNumber xs = cond (isRun xs) (le 2 xs 6) (numberAt xs)
+
+unfoldable pub itemCount : List ℕ → ℕ
+itemCount xs = cond (isRun xs) (le 2 xs 8) 1
 
 -- whether an event's fields have no fault, in one test: length 6, kind 1 to 3, and a send's size 16 to mtu
 abbrev pub good : ℕ → ℕ → ℕ → ℕ → Test
@@ -84,19 +116,24 @@ ahead (suc count) e r = onward 0 e (ahead count e r)
 
 -- Behind an event of the item at the front, of which `gone` have gone by, stands the item's next event, and behind its last what is behind its stated length.
 abbrev pub goneBehind : ℕ → List ℕ → ℕ
-goneBehind gone xs = cond (ltb (suc gone) (countAt xs)) (suc gone) 0
+goneBehind gone xs = cond (ltb (suc gone) (itemCount xs)) (suc gone) 0
 
 abbrev pub bytesBehind : ℕ → List ℕ → List ℕ
-bytesBehind gone xs = cond (ltb (suc gone) (countAt xs)) xs (drop (lengthAt xs) xs)
+bytesBehind gone xs = cond (ltb (suc gone) (itemCount xs)) xs (drop (lengthAt xs) xs)
 
--- Within a record the earliest fault counts. `left` more events may come, and any byte after the last of them gives `late`. Each turn takes one event.
-unfoldable pub readFrom : ℕ → ℕ → ℕ → ℕ → List ℕ → Events
-readFrom late mtu zero gone [] = events []
-readFrom late mtu zero gone (x ∷ xs) = faulty late
-readFrom late mtu (suc left) gone [] = events []
-readFrom late mtu (suc left) gone (x ∷ xs) =
-    onward (firstOf (eventFaults mtu (x ∷ xs))) (eventOf (kindAt (x ∷ xs)) (numberAt (x ∷ xs)))
-    (readFrom late mtu left (goneBehind gone (x ∷ xs)) (bytesBehind gone (x ∷ xs)))
+-- Within a record the earliest fault counts. `left` more events may come, and any byte after the last of them gives `late`; so does a run that passes them. Each turn
+-- takes one event. `runs` says whether runs may stand.
+unfoldable pub readItems : Bool → ℕ → ℕ → ℕ → ℕ → List ℕ → Events
+readItems runs late mtu zero gone [] = events []
+readItems runs late mtu zero gone (x ∷ xs) = faulty late
+readItems runs late mtu (suc left) gone [] = events []
+readItems runs late mtu (suc left) gone (x ∷ xs) =
+    onward (firstOf (itemFaults runs mtu (x ∷ xs))) (eventOf (itemKind (x ∷ xs)) (itemNumber (x ∷ xs)))
+    (readItems runs late mtu left (goneBehind gone (x ∷ xs)) (bytesBehind gone (x ∷ xs)))
+
+-- wherever a record is read both forms are, but where an old one is moved
+abbrev pub readFrom : ℕ → ℕ → ℕ → ℕ → List ℕ → Events
+readFrom late mtu left gone xs = readItems true late mtu left gone xs
 
 -- ---- the whole
 
@@ -109,9 +146,12 @@ under l (faulty n) = unreadable n
 under l (events es) = whole l es
 
 -- header first; any byte after the millionth event gives 9
-abbrev pub opened : ℕ → List ℕ → Read
-opened zero xs = under (limitsAt xs) (readFrom 9 (le 2 xs 4) mostEvents 0 (drop 14 xs))
-opened (suc n) xs = unreadable (suc n)
+abbrev pub openedIn : Bool → ℕ → List ℕ → Read
+openedIn runs zero xs = under (limitsAt xs) (readItems runs 9 (le 2 xs 4) mostEvents 0 (drop 14 xs))
+openedIn runs (suc n) xs = unreadable (suc n)
 
-unfoldable pub readRecord : List ℕ → Read
-readRecord xs = opened (firstOf (headerFaults xs)) xs
+unfoldable pub readIn : Bool → List ℕ → Read
+readIn runs xs = openedIn runs (firstOf (headerFaults xs)) xs
+
+abbrev pub readRecord : List ℕ → Read
+readRecord xs = readIn true xs

@@ -1,9 +1,12 @@
 // A shaper record, read from lent bytes: its header, and each event at its place.
+ghost use mathlib.Core.Bool.{true};
 ghost use mathlib.Core.Path.{_≡_};
-ghost use Prim.Native.Nat.{_-_};
+ghost use Prim.Native.Nat.{_+_, _-_, _≤_};
+ghost use lib.ListN.{length};
+ghost use Rattle.wire.specs.Wire.{le};
 ghost use Rattle.shaper.specs.Limits.{mostEvents};
-ghost use Rattle.record.specs.Read.{fieldFault};
-ghost use Rattle.record.specs.Step.{headerOf, stepAt, stepWithin};
+ghost use Rattle.record.specs.Read.{fieldFault, runFieldFault};
+ghost use Rattle.record.specs.Step.{headerOf, itemAt, itemWithin};
 use shaper::Event;
 use shaper::Limits;
 
@@ -49,9 +52,9 @@ pub fn header_of(s: &[u8]) -> Header
     Header::Settings(limits)
 }
 
-// What stands at a place of a record whose header bears this mtu; past its last byte, the end.
-pub fn event_at(s: &[u8], at: usize, mtu: u32) -> Step
-    ensures { λ r. ⌜ r ≡ stepAt mtu (now (s .entry)) at ⌝ }
+// What stands at a place of a record whose header bears this mtu; past its last byte, the end. `runs` says whether runs may stand: in a record of the old form none may.
+pub fn event_at(s: &[u8], at: usize, mtu: u32, runs: bool) -> Step
+    ensures { λ r. ⌜ r ≡ itemAt runs mtu (now (s .entry)) at ⌝ }
 {
     if s.len() <= at {
         return Step::End;
@@ -59,8 +62,11 @@ pub fn event_at(s: &[u8], at: usize, mtu: u32) -> Step
     if s.len() - at < 6 {
         return Step::Faulty(2);
     }
-    let length = wire::get16(s, at);
     let kind = wire::get16(s, at + 2);
+    if runs & (kind == 4) {
+        return run_at(s, at, mtu);
+    }
+    let length = wire::get16(s, at);
     let number = wire::get16(s, at + 4);
     let fault = fault(mtu, length, kind, number);
     if fault != 0 {
@@ -74,11 +80,35 @@ pub fn event_at(s: &[u8], at: usize, mtu: u32) -> Step
     }
 }
 
-// The same where `left` more events may come: any byte after the last of them gives `late`, and so does an item that stands for more than may come.
-pub fn event_within(s: &[u8], at: usize, mtu: u32, left: u64, late: u64) -> Step
-    ensures { λ r. ⌜ r ≡ stepWithin late left mtu (now (s .entry)) at ⌝ }
+// The run at a place, where an item of kind 4 stands.
+fn run_at(s: &[u8], at: usize, mtu: u32) -> Step
+    requires { ⌜ (at + 6 ≤ length (now s)) × (le 2 (now s) (at + 2) ≡ 4) ⌝ }
+    ensures { λ r. ⌜ r ≡ itemAt true mtu (now (s .entry)) at ⌝ }
 {
-    match event_at(s, at, mtu) {
+    if s.len() - at < 10 {
+        return Step::Faulty(2);
+    }
+    let length = wire::get16(s, at);
+    let tick = wire::get16(s, at + 4);
+    let amount = wire::get16(s, at + 6);
+    let count = wire::get16(s, at + 8);
+    let fault = run_fault(length, tick, count);
+    if fault != 0 {
+        return Step::Faulty(fault);
+    }
+    Step::Stands {
+        kind: tick,
+        number: amount,
+        count: wide(count),
+        next: at + length as usize,
+    }
+}
+
+// The same where `left` more events may come: any byte after the last of them gives `late`, and so does an item that stands for more than may come.
+pub fn event_within(s: &[u8], at: usize, mtu: u32, left: u64, late: u64, runs: bool) -> Step
+    ensures { λ r. ⌜ r ≡ itemWithin runs late left mtu (now (s .entry)) at ⌝ }
+{
+    match event_at(s, at, mtu, runs) {
         Step::Stands {
             kind,
             number,
@@ -133,6 +163,25 @@ fn fault(mtu: u32, length: u16, kind: u16, number: u16) -> u64
     }
     if mtu < wide(number) {
         return 3;
+    }
+    0
+}
+
+// The number of a run's fault by its fields, or 0.
+fn run_fault(length: u16, tick: u16, count: u16) -> u64
+    ensures { λ r. ⌜ r ≡ runFieldFault length tick count ⌝ }
+{
+    if length != 10 {
+        return 2;
+    }
+    if tick < 1 {
+        return 2;
+    }
+    if 2 < tick {
+        return 2;
+    }
+    if count < 2 {
+        return 2;
     }
     0
 }

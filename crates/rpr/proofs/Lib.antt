@@ -4,6 +4,7 @@ pub mod Numbers
 pub mod Credit
 pub mod Promises
 pub mod Records
+pub mod Movers
 pub mod Ways
 pub mod Pairs
 pub mod Given

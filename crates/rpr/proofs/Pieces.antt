@@ -1,6 +1,7 @@
 -- The pieces of a cut record, summarized and joined into rooms along any tree, leave in the last room what the whole record leaves there: each room holds the
 -- summary of its events, so that it can be joined on. Assumes nothing.
 use Prim.Native.Nat.{ℕ, _≤_}
+use mathlib.Core.Bool.{true}
 use mathlib.Core.List.{List, _++_}
 use mathlib.Core.Path.{_≡_, sym, ap, _∙_}
 use native.Mathlib.Omega.{arith}
@@ -10,6 +11,7 @@ use Rattle.shaper.specs.declared.Event.{Event}
 use Rattle.shaper.specs.Credit.{Permitted, endCredit}
 use Rattle.summary.specs.Summary.{summaryOf}
 use Rattle.record.specs.Record.{written, WellFormed}
+use Rattle.record.specs.Items.{Formed}
 use Rattle.account.specs.Pieces as account
 use Rattle.account.specs.Pieces.{Cuts}
 use Rattle.account.proofs.Pieces.{part-left, part-right}
@@ -18,13 +20,14 @@ use Rattle.rpr.specs.Calls.{summarizeAfter, settleAnswer, EndsAt}
 use Rattle.rpr.specs.Pieces.{Rooms, piece, both, roomOf, AllCarried, WholeRooms, treeOf, CutsRooms}
 use Rattle.rpr.proofs.Rows.{JoinGives}
 use Rattle.rpr.proofs.Promises.{summarize-carried}
-use Rattle.rpr.proofs.Records.{record-room, sheet-permitted, sheet-not-permitted, sheets-join}
+use Rattle.rpr.proofs.Records.{items-room, record-room, sheet-permitted, sheet-not-permitted, sheets-join}
 
 -- the last room holds the summary of the events
 rooms-hold : (l : Limits) (es : List Event) (t : Rooms) → WellFormed l es → Cuts l es (treeOf t) → WholeRooms t
     → AllCarried t × (roomOf t ≡ sheetOf (summaryOf l es))
-rooms-hold l es (piece bytes room) w (account.Cuts.whole fs bs e) h =
-    (summarize-carried bytes room l es w e h, ap (λ (xs : List ℕ). summarizeAfter xs room) e ∙ record-room l es w room h)
+rooms-hold l es (piece bytes room) w (account.Cuts.whole is bs ok e) h =
+    let f : Formed true l is = record { settings = w .settings; items = ok; few = w .few } in
+    (summarize-carried bytes room l is f e h, ap (λ (xs : List ℕ). summarizeAfter xs room) e ∙ items-room l is f room h)
 rooms-hold l es (both t u room) w (account.Cuts.parted xs ys a b c d) h =
     let p = part-left l xs ys w in
     let q = part-right l xs ys w in

@@ -26,9 +26,10 @@ use Rattle.summary.specs.Summary.{joined}
 use Rattle.summary.specs.Range.{inRange}
 use Rattle.summary.specs.Answer.{settleOf, settled, answerNumber}
 use Rattle.summary.proofs.Promises.{join-range, summary-range}
-use Rattle.record.specs.Record.{written, WellFormed}
+use Rattle.record.specs.Items.{Item, writtenItems, unrolled, Formed}
+use Rattle.record.proofs.Wrote.{formed-events}
 use Rattle.account.specs.Account.{summarizeOf, Accounted}
-use Rattle.account.proofs.Promises.{summarize-written, summarized-written}
+use Rattle.account.proofs.Promises.{summarize-items, summarized-written}
 use Rattle.sheet.specs.Sheet.{sheetLength, sheetOf, summaryAt, handed}
 use Rattle.sheet.proofs.Round.{summary-of-bytes, in-range-fits}
 use Rattle.answer.specs.Bytes.{permittedBytes}
@@ -59,20 +60,21 @@ module _ (xs room : List ℕ) where
   pub summarize-refused-exactly : RefusedExactly (summarizeAnswer xs room % 256) (summarizeRows xs room)
   summarize-refused-exactly = refused-exactly (summarizeRows xs room) refl _ (summarize-leaves .0 .byte-0)
 
-  -- every well-formed record is summarized,
-  pub summarize-carried : (l : Limits) (es : List Event) → WellFormed l es → xs ≡ written l es → length room ≡ sheetLength → summarizeAnswer xs room ≡ 0
-  summarize-carried l es w e h =
-      sym (summarize-whole xs room h _ refl .0) ∙ ap (λ ys. answerNumber (summarizeOf ys)) e ∙ ap answerNumber (summarize-written l es w)
+  -- every well-formed record, of either form, is summarized,
+  pub summarize-carried : (l : Limits) (is : List Item) → Formed true l is → xs ≡ writtenItems l is → length room ≡ sheetLength → summarizeAnswer xs room ≡ 0
+  summarize-carried l is w e h =
+      sym (summarize-whole xs room h _ refl .0) ∙ ap (λ ys. answerNumber (summarizeOf ys)) e ∙ ap answerNumber (summarize-items true l is w)
 
-  summed : Bytes xs → (a : Answer) → AnswerNumbered a → summarizeOf xs ≡ a → answerNumber a ≡ 0 → summarizeAfter xs room ≡ handed room a → Accounted xs (summaryAt (summarizeAfter xs room))
+  summed : Bytes xs → (a : Answer) → AnswerNumbered a → summarizeOf xs ≡ a → answerNumber a ≡ 0 → summarizeAfter xs room ≡ handed room a → Accounted true xs (summaryAt (summarizeAfter xs room))
   summed b (Answer.Summed s) n e z after =
-      let x = summarized-written xs s b e in
-      let r = summary-range (x .settings) (x .well-formed .settings) (x .events) (x .well-formed .valid) (x .well-formed .few) in
+      let x = summarized-written true xs s b e in
+      let w = formed-events true (x .settings) (x .items) (x .formed) in
+      let r = summary-range (x .settings) (w .settings) (unrolled (x .items)) (w .valid) (w .few) in
       rw (after, summary-of-bytes s (in-range-fits s (ap inRange (x .sums) ∙ r))) x
   summed b (Answer.Refused m) n e z after = absurd (omega arith)
 
   -- and where the call was carried out, the bytes are such a record, and the room holds the summary of its events, event by event
-  pub summarize-done : Bytes xs → summarizeAnswer xs room ≡ 0 → Accounted xs (summaryAt (summarizeAfter xs room))
+  pub summarize-done : Bytes xs → summarizeAnswer xs room ≡ 0 → Accounted true xs (summaryAt (summarizeAfter xs room))
   summarize-done b z =
       ⊎-elim
       (λ e. let w = summarize-whole xs room e _ refl in summed b (summarizeOf xs) (record-numbered xs) refl (w .0 ∙ z) (sym (w .1)))

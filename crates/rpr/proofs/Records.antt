@@ -1,6 +1,7 @@
 -- The three calls together, over the bytes of records: pieces that are summarized and joined leave the whole record's summary, and settling it says what
 -- happened event by event. Each step reads back what the one before wrote. Assumes nothing.
 use Prim.Native.Nat.{ℕ, _+_, _≤_}
+use mathlib.Core.Bool.{true}
 use mathlib.Core.List.{List, _++_}
 use mathlib.Core.Path.{_≡_, sym}
 use lib.ListN.{length}
@@ -14,17 +15,21 @@ use Rattle.summary.specs.Summary.{summaryOf}
 use Rattle.summary.specs.Answer.{settleOf}
 use Rattle.summary.proofs.Promises.{summary-range, join-append, settle-exact}
 use Rattle.record.specs.Record.{written, WellFormed}
-use Rattle.account.proofs.Promises.{summarize-written}
+use Rattle.record.specs.Items.{Item, writtenItems, unrolled, Formed}
+use Rattle.account.proofs.Promises.{summarize-items, summarize-written}
 use Rattle.sheet.specs.Sheet.{sheetLength, sheetOf, summaryAt}
 use Rattle.sheet.proofs.Round.{length-sheet, summary-of-bytes, in-range-fits}
 use Rattle.rpr.specs.Calls.{summarizeAfter, settleAnswer, EndsAt}
 use Rattle.rpr.proofs.Rows.{JoinGives, summarize-whole, join-whole}
 use Rattle.rpr.proofs.Promises.{settle-permitted, settle-not-permitted}
 
+-- the room of a record, of either form, holds the summary of its events
+pub items-room : (l : Limits) (is : List Item) → Formed true l is → (room : List ℕ) → length room ≡ sheetLength → summarizeAfter (writtenItems l is) room ≡ sheetOf (summaryOf l (unrolled is))
+items-room l is w room h = sym (summarize-whole (writtenItems l is) room h _ (sym (summarize-items true l is w)) .1)
+
 module _ (l : Limits) (es : List Event) (w : WellFormed l es) where
-  -- the room of a record holds the summary of its events
   pub record-room : (room : List ℕ) → length room ≡ sheetLength → summarizeAfter (written l es) room ≡ sheetOf (summaryOf l es)
-  record-room room h = sym (summarize-whole (written l es) room h _ (sym (summarize-written l es w)) .1)
+  record-room room h = sym (summarize-whole (written l es) room h _ (sym (summarize-written true l es w)) .1)
 
   pub sheet-back : summaryAt (sheetOf (summaryOf l es)) ≡ summaryOf l es
   sheet-back = summary-of-bytes (summaryOf l es) (in-range-fits (summaryOf l es) (summary-range l (w .settings) es (w .valid) (w .few)))

@@ -18,9 +18,9 @@ use Rattle.rpr.specs.Shape.{answerOf, afterOf, otherLength}
 
 -- ---- rpr_version
 
--- 256 × the first number of the version + the second: 4.0
+-- 256 × the first number of the version + the second: 4.1
 abbrev pub versionNumber : ℕ
-versionNumber = 256 * 4 + 0
+versionNumber = 256 * 4 + 1
 
 -- ---- rpr_summarize
 

@@ -2,10 +2,12 @@
 ghost use mathlib.Core.Path.{_≡_};
 ghost use Rattle.rpr.specs.Ways.{chooseAnswer, pathAnswer};
 ghost use Rattle.rpr.specs.Calls.{versionNumber, summarizeAnswer, summarizeAfter, joinAnswer, joinAfter, settleAnswer};
+ghost use Rattle.rpr.specs.Movers.{rollAnswer, rollAfter, unrollAnswer, unrollAfter};
 
 mod lending;
 
 use ring::Choice;
+use roll::Moved;
 use summary::Outcome;
 
 // The refusal of bytes that are not of the length named.
@@ -14,7 +16,7 @@ const NOT_WHOLE: u64 = 2;
 // The two numbers of the version that this library is, as rpr.h has them in RPR_VERSION.
 const VERSION: u64 = 4;
 
-const REVISION: u64 = 0;
+const REVISION: u64 = 1;
 
 // The version: 256 times its first number and the second.
 #[no_mangle]
@@ -24,7 +26,7 @@ pub extern "C" fn rpr_version() -> u64
     256 * VERSION + REVISION
 }
 
-// Leaves in the room the summary of a shaper record. 2 where the room is not 48 bytes, then the number of the record's earliest fault.
+// Leaves in the room the summary of a shaper record, of either form. 2 where the room is not 48 bytes, then the number of the record's earliest fault.
 #[no_mangle]
 pub extern "C" fn rpr_summarize(record: &[u8], room: &mut [u8]) -> u64
     ensures { λ r. ⌜ r ≡ summarizeAnswer (now («record» .entry)) (now (room .entry)) ⌝ }
@@ -33,7 +35,7 @@ pub extern "C" fn rpr_summarize(record: &[u8], room: &mut [u8]) -> u64
     if room.len() != sheet::LENGTH {
         return NOT_WHOLE;
     }
-    let whole = account::summarize(record);
+    let whole = account::summarize(record, true);
     sheet::hand_over(whole, room)
 }
 
@@ -69,6 +71,34 @@ pub extern "C" fn rpr_settle(summary: &[u8], start: u64) -> u64
         Outcome::Permitted(credit) => answer::permitted(credit),
         Outcome::NotPermitted => 0,
         Outcome::Refused(number) => number,
+    }
+}
+
+// Leaves in the room an old record in the new form, where equal ticks stand in runs, and answers how many bytes that is. The number of the record's earliest fault, a run
+// being 2; then 12 where the room is too short.
+#[no_mangle]
+pub extern "C" fn rpr_roll(record: &[u8], room: &mut [u8]) -> u64
+    ensures { λ r. ⌜ r ≡ rollAnswer (now («record» .entry)) (now (room .entry)) ⌝ }
+    ensures { λ _. ⌜ now (room .exit) ≡ rollAfter (now («record» .entry)) (now (room .entry)) ⌝ }
+{
+    let moved = roll::roll(record, room);
+    match moved {
+        Moved::Written(n) => answer::written(n),
+        Moved::Refused(number) => number,
+    }
+}
+
+// Leaves in the room a record of either form in the old one, and answers how many bytes that is. The number of the record's earliest fault; then 12 where the room is
+// too short.
+#[no_mangle]
+pub extern "C" fn rpr_unroll(record: &[u8], room: &mut [u8]) -> u64
+    ensures { λ r. ⌜ r ≡ unrollAnswer (now («record» .entry)) (now (room .entry)) ⌝ }
+    ensures { λ _. ⌜ now (room .exit) ≡ unrollAfter (now («record» .entry)) (now (room .entry)) ⌝ }
+{
+    let moved = roll::unroll(record, room);
+    match moved {
+        Moved::Written(n) => answer::written(n),
+        Moved::Refused(number) => number,
     }
 }
 

@@ -4,3 +4,4 @@ pub mod Paper
 pub mod Rows
 pub mod Refused
 pub mod Promises
+pub mod Runs

@@ -15,14 +15,14 @@ use Rattle.shaper.specs.declared.Event.the-variants.{Waiting, Idle, Send}
 use Rattle.shaper.specs.Limits.{limitsOk, sameLimits, mostEvents}
 use Rattle.shaper.specs.Credit.{AllValid, Permitted, endCredit, accruedOf, sentOf}
 use Rattle.shaper.proofs.Ranges.{same-exactly}
-use Rattle.plain.specs.Plain.{plainEmpty, plainSingle, plainJoined, plainOf, plainEnd}
+use Rattle.plain.specs.Plain.{plainEmpty, plainTicks, plainSingle, plainJoined, plainOf, plainEnd}
 use Rattle.plain.specs.Range.{Same}
 use Rattle.plain.proofs.Laws.{in-range-sound, sound-in-range, joined-sound, joined-assoc, empty-left, empty-right}
 use Rattle.plain.proofs.Meaning.{single-limits, plain-limits, events-length, plain-accrued, plain-sent, alike, plain-sound, plain-append, permitted-need, need-permitted, end-credit, sent-bound}
 use Rattle.summary.specs.declared.Summary.{Summary}
 use Rattle.summary.specs.declared.Answer.{Answer}
 use Rattle.summary.specs.declared.Outcome.{Outcome}
-use Rattle.summary.specs.Summary.{emptyOf, singleOf, joined, summaryOf}
+use Rattle.summary.specs.Summary.{emptyOf, ticksOf, singleOf, joined, summaryOf}
 use Rattle.summary.specs.Range.{inRange}
 use Rattle.summary.specs.Answer.{joinOf, andThen, settleOf}
 use Rattle.summary.specs.Settle.{SettlesExactly}
@@ -163,9 +163,15 @@ module _ (a : Summary) (h : inRange a ≡ true) where
 -- ---- the summary of a list of events
 
 module _ (l : Limits) (ok : Holds (limitsOk l)) where
+  pub waiting-signed : (c x : ℕ) → ticksOf l (l .hi) c x ≡ signedFrom (plainTicks l 0 c x)
+  waiting-signed c x = signed-eq (ticksOf l (l .hi) c x) (signedFrom (plainTicks l 0 c x)) refl refl refl refl (pos-sub (l .hi)) refl
+
+  pub idle-signed : (c x : ℕ) → ticksOf l (l .lo) c x ≡ signedFrom (plainTicks l (l .hi - l .lo) c x)
+  idle-signed c x = signed-eq (ticksOf l (l .lo) c x) (signedFrom (plainTicks l (l .hi - l .lo) c x)) refl refl refl refl (pos-sub (l .lo) ∙ sub-eq (l .lo) 0 (l .hi) (l .hi - l .lo) (omega arith)) refl
+
   pub single-signed : (e : Event) → singleOf l e ≡ signedFrom (plainSingle l e)
-  single-signed (Waiting x) = signed-eq (singleOf l (Waiting x)) (signedFrom (plainSingle l (Waiting x))) refl refl refl refl (pos-sub (l .hi)) refl
-  single-signed (Idle x) = signed-eq (singleOf l (Idle x)) (signedFrom (plainSingle l (Idle x))) refl refl refl refl (pos-sub (l .lo) ∙ sub-eq (l .lo) 0 (l .hi) (l .hi - l .lo) (omega arith)) refl
+  single-signed (Waiting x) = waiting-signed 1 x
+  single-signed (Idle x) = idle-signed 1 x
   single-signed (Send z) = signed-eq (singleOf l (Send z)) (signedFrom (plainSingle l (Send z))) refl refl refl refl (pos-less (l .hi) z) refl
 
   -- it is the one by natural numbers

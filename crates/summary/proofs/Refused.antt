@@ -9,7 +9,7 @@ use Rattle.decide.proofs.Refusal.{refused-exactly}
 use Rattle.shaper.specs.declared.Limits.{Limits}
 use Rattle.shaper.specs.declared.Event.{Event}
 use Rattle.summary.specs.declared.Summary.{Summary}
-use Rattle.summary.specs.Answer.{answered, emptyFaults, emptyAnswer, singleFaults, singleAnswer, joinFaults, joinOf, settleFaults, settled, settleOf, answerNumber, outcomeNumber}
+use Rattle.summary.specs.Answer.{answered, emptyFaults, emptyAnswer, singleFaults, singleAnswer, countedFaults, countedAnswer, joinFaults, joinOf, settleFaults, settled, settleOf, answerNumber, outcomeNumber}
 
 answered-number : (n : ℕ) (s : Summary) → answerNumber (answered n s) ≡ n
 answered-number zero s = refl
@@ -30,6 +30,10 @@ empty-refused-exactly l = refused-exactly (emptyFaults l) refl _ (answered-numbe
 pub single-refused-exactly : (l : Limits) (e : Event) → RefusedExactly (answerNumber (singleAnswer l e)) (singleFaults l e)
 unfolding singleAnswer
 single-refused-exactly l e = refused-exactly (singleFaults l e) refl _ (answered-number (firstOf (singleFaults l e)) _)
+
+pub counted-refused-exactly : (l : Limits) (e : Event) (c : ℕ) → RefusedExactly (answerNumber (countedAnswer l e c)) (countedFaults l e c)
+unfolding countedAnswer
+counted-refused-exactly l e c = refused-exactly (countedFaults l e c) refl _ (answered-number (firstOf (countedFaults l e c)) _)
 
 pub join-refused-exactly : (a b : Summary) → RefusedExactly (answerNumber (joinOf a b)) (joinFaults a b)
 unfolding joinOf

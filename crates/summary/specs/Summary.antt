@@ -1,6 +1,6 @@
 -- A summary as the paper has it: the settings, events, accrued, sent, ceiling, need. Its ceiling and its gain are signed.
 -- Assumes nothing.
-use Prim.Native.Nat.{ℕ, _+_}
+use Prim.Native.Nat.{ℕ, _+_, _*_}
 use mathlib.Core.Bool.{cond}
 use mathlib.Core.List.{List, [], _∷_}
 use lib.IntN.{ℤ, pos, natAbs, _+ℤ_, _-ℤ_}
@@ -24,14 +24,21 @@ gain s = pos (s .accrued) -ℤ pos (s .sent)
 abbrev pub emptyOf : Limits → Summary
 emptyOf l = record { limits = l; events = 0; accrued = 0; sent = 0; ceiling = pos (l .hi); need = 0 }
 
-abbrev pub oneTick : Limits → ℕ → ℕ → Summary
-oneTick l ceiling x = record { limits = l; events = 1; accrued = x; sent = 0; ceiling = pos ceiling; need = 0 }
+-- ticks that leave credit under one ceiling, the bytes that they brought in all; need 0
+abbrev pub ticksOf : Limits → ℕ → ℕ → ℕ → Summary
+ticksOf l ceiling count bytes = record { limits = l; events = count; accrued = bytes; sent = 0; ceiling = pos ceiling; need = 0 }
 
 -- Tick: ceiling hiLimit waiting, loLimit idle; need 0. Send: ceiling hiLimit − size, need loLimit+1.
 abbrev pub singleOf : Limits → Event → Summary
-singleOf l (Waiting x) = oneTick l (l .hi) x
-singleOf l (Idle x) = oneTick l (l .lo) x
+singleOf l (Waiting x) = ticksOf l (l .hi) 1 x
+singleOf l (Idle x) = ticksOf l (l .lo) 1 x
 singleOf l (Send z) = record { limits = l; events = 1; accrued = 0; sent = z; ceiling = pos (l .hi) -ℤ pos z; need = l .lo + 1 }
+
+-- Run of equal ticks: accrued count × amount, ceiling hiLimit waiting, loLimit idle; need 0. A send comes alone.
+abbrev pub runSummary : Limits → Event → ℕ → Summary
+runSummary l (Waiting x) count = ticksOf l (l .hi) count (count * x)
+runSummary l (Idle x) count = ticksOf l (l .lo) count (count * x)
+runSummary l (Send z) count = singleOf l (Send z)
 
 -- Ceiling is the smaller of ceiling1 + gain2 and ceiling2.
 unfoldable pub ceilingOf : Summary → Summary → ℤ

@@ -4,9 +4,10 @@ ghost use Prim.Native.Nat.{_≤_};
 ghost use lib.IntN.{pos};
 ghost use lib.Signed.{ltZ};
 ghost use Rattle.shaper.specs.declared.Event.{Event};
-ghost use Rattle.summary.specs.Summary.{oneTick};
+ghost use Rattle.shaper.specs.Kind.{eventOf};
+ghost use Rattle.summary.specs.Summary.{ticksOf};
 ghost use Rattle.summary.specs.Range.{inRange};
-ghost use Rattle.summary.specs.Answer.{emptyAnswer, singleAnswer, joinOf, joinNext, settleOf};
+ghost use Rattle.summary.specs.Answer.{emptyAnswer, singleAnswer, countedAnswer, runAnswer, joinOf, joinNext, settleOf};
 ghost use Rattle.summary.specs.Plain.{plainFrom, signedFrom};
 use plain::Plain;
 use shaper::Event;
@@ -70,7 +71,7 @@ impl Summary {
         if !limits.in_range() {
             return Answer::Refused(1);
         }
-        Answer::Summed(one_tick(limits, limits.hi, amount))
+        Answer::Summed(ticks(limits, limits.hi, 1, amount as u64))
     }
 
     // The summary of one tick while no traffic waits. 1 where a setting is outside its range.
@@ -80,7 +81,7 @@ impl Summary {
         if !limits.in_range() {
             return Answer::Refused(1);
         }
-        Answer::Summed(one_tick(limits, limits.lo, amount))
+        Answer::Summed(ticks(limits, limits.lo, 1, amount as u64))
     }
 
     // The summary of one send. 1 where a setting is outside its range, 3 where the size is.
@@ -107,6 +108,26 @@ impl Summary {
             ceiling: ceiling,
             need: need,
         })
+    }
+
+    // The summary of what an item of a record stands for: so many equal events, kind 1 ticks while traffic waits, 2 ticks while none does, any other a send.
+    // 1 where a setting is outside its range; 3 where the size is, or the count: ticks come in runs, a send comes alone; 9 where they are over 1,000,000.
+    pub fn counted(limits: Limits, kind: u16, number: u16, count: u32) -> Answer
+        ensures { λ r. ⌜ r ≡ countedAnswer limits (eventOf kind number) count ⌝ }
+    {
+        if !limits.in_range() {
+            return Answer::Refused(1);
+        }
+        if kind == 1 {
+            return run(limits, limits.hi, number, count);
+        }
+        if kind == 2 {
+            return run(limits, limits.lo, number, count);
+        }
+        if count != 1 {
+            return Answer::Refused(3);
+        }
+        Summary::send(limits, number as u32)
     }
 
     // Whether the summary is in range.
@@ -192,16 +213,29 @@ impl Summary {
     }
 }
 
-// The summary of one tick that leaves credit under this ceiling.
-fn one_tick(limits: Limits, ceiling: u32, amount: u16) -> Summary
-    ensures { λ r. ⌜ r ≡ oneTick limits ceiling amount ⌝ }
+// The summary of so many equal ticks that leave credit under this ceiling: each brings the amount. 3 where there is none, 9 where they are over 1,000,000.
+fn run(limits: Limits, ceiling: u32, amount: u16, count: u32) -> Answer
+    ensures { λ r. ⌜ r ≡ runAnswer limits ceiling amount count ⌝ }
 {
-    let accrued = amount as u64;
+    if count == 0 {
+        return Answer::Refused(3);
+    }
+    if Summary::MAX_EVENTS < count {
+        return Answer::Refused(9);
+    }
+    let bytes = count as u64 * amount as u64;
+    Answer::Summed(ticks(limits, ceiling, count, bytes))
+}
+
+// The summary of so many ticks that leave credit under this ceiling and brought so many bytes in all.
+fn ticks(limits: Limits, ceiling: u32, count: u32, bytes: u64) -> Summary
+    ensures { λ r. ⌜ r ≡ ticksOf limits ceiling count bytes ⌝ }
+{
     let ceiling = ceiling as i64;
     Summary {
         limits: limits,
-        events: 1,
-        accrued: accrued,
+        events: count,
+        accrued: bytes,
         sent: 0,
         ceiling: ceiling,
         need: 0,

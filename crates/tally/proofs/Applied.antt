@@ -156,10 +156,11 @@ module _ (rise v : ℕ) (t : Tally) (p : Part) (h : rise + room ≤ t .level) (g
 pub start-steady : (l : Limits) → Holds (limitsOk l) → (rise : ℕ) → Steady rise (startOf (l .lo))
 start-steady l ok rise = record { low-near = omega arith; peak-near = inr (omega arith) }
 
-module _ (rise k v : ℕ) (t : Tally) (hv : v ≤ mostAmount) (h : v ≤ t .level) (g : t .level ≤ t .peak) (s : Steady rise t) where
+module _ (rise k v : ℕ) (t : Tally) (hv : k ≡ 3 → v ≤ mostAmount) (h : v ≤ t .level) (g : t .level ≤ t .peak) (s : Steady rise t) where
   send-steady : k ≡ 3 → Steady rise (stepOf rise k v t)
   unfolding pickOf fallOf
   send-steady e =
+      let small = hv e in
       by-cases (le-or rise (t .peak - t .level))
       (λ m. let b = bar-never rise (t .peak - t .level) (t .level) m in
       rw (e, b) (record { low-near = omega arith; peak-near = inl (omega arith) }))

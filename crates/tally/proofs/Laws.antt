@@ -1,6 +1,6 @@
 -- A step is the join with one event's summary, since peak is level + depth: what a tick adds to the level is what a join takes off the depth. And it
 -- keeps the bounds, whatever the event holds. Assumes nothing.
-use Prim.Native.Nat.{ℕ, _+_, _-_, _≤_, _<_, min, max}
+use Prim.Native.Nat.{ℕ, _+_, _-_, _*_, _≤_, _<_, min, max}
 use mathlib.Core.List.{List, [], _∷_}
 use mathlib.Core.Logic.{_⊎_, inl, inr}
 use mathlib.Core.Path.{_≡_, refl, sym, ap, subst, _∙_}
@@ -14,7 +14,7 @@ use Rattle.shaper.specs.Limits.{limitsOk, mostAmount, mostEvents}
 use Rattle.shaper.specs.Credit.{Valid, AllValid}
 use Rattle.shaper.specs.Kind.{kindOf, numberOf}
 use Rattle.plain.specs.declared.Plain.{Plain}
-use Rattle.plain.specs.Plain.{plainEmpty, plainSingle, plainDepth, plainJoined, plainOf}
+use Rattle.plain.specs.Plain.{plainEmpty, plainTicks, plainSingle, plainDepth, plainJoined, plainOf}
 use Rattle.plain.specs.Range.{Sound, Same}
 use Rattle.plain.proofs.Laws.{need-is, plain-eq, joined-sound, joined-assoc, empty-left, empty-right}
 use Rattle.plain.proofs.Meaning.{single-limits, plain-limits, alike, single-sound, plain-sound}
@@ -31,8 +31,9 @@ start-within lo = omega arith
 pub within-more : (m n : ℕ) (t : Tally) → m ≤ n → Within m t → Within n t
 within-more m n t h w = omega arith
 
-pub step-within : (rise k v n : ℕ) (t : Tally) → Within n t → rise ≤ 1048576 → v ≤ mostAmount → Within (n + 1) (stepOf rise k v t)
-step-within rise k v n t w hr hv =
+-- a step for c events
+pub step-within : (rise k v n c : ℕ) (t : Tally) → Within n t → rise ≤ 1048576 → v ≤ mostAmount * c → Within (n + c) (stepOf rise k v t)
+step-within rise k v n c t w hr hv =
     let f = fall-max k rise in
     by-cases (split (k ≡? 3))
     (λ h. let a = pick-send k (t .accrued) (t .accrued + v) h in
@@ -94,22 +95,19 @@ some-need lo hi a d L low x w g e =
 
 -- ---- a step is a join
 
--- the summary of a tick whose own cut lies f below hiLimit
-abbrev tickOf : Limits → ℕ → ℕ → Plain
-tickOf l v f = record { limits = l; events = 1; accrued = v; sent = 0; depth = f; need = 0 }
-
-module _ (l : Limits) (n : ℕ) (t : Tally) (p : Ready l n t) (v : ℕ) (hv : v ≤ mostAmount) where
-  tick-step : (f : ℕ) →
-      plainAt l (n + 1) (record { accrued = t .accrued + v; level = t .level + v; peak = max (t .peak) (t .level + v + f); low = t .low })
-      ≡ plainJoined (plainAt l n t) (tickOf l v f)
+module _ (l : Limits) (n : ℕ) (t : Tally) (p : Ready l n t) (v : ℕ) where
+  -- c ticks whose own cut lies f below hiLimit, v what they bring in all
+  pub tick-step : (f c : ℕ) →
+      plainAt l (n + c) (record { accrued = t .accrued + v; level = t .level + v; peak = max (t .peak) (t .level + v + f); low = t .low })
+      ≡ plainJoined (plainAt l n t) (plainTicks l f c v)
   unfolding plainDepth
-  tick-step f =
+  tick-step f c =
       plain-eq _ _ refl refl refl (tick-sent (t .accrued) (t .level) v) (tick-depth (t .peak) (t .level) v (p .within .peak-min) f)
-      (sym (keep-need (l .hi) _ _ _ _ _ (omega arith) (p .sound .1 .1) (need-is (plainAt l n t) (tickOf l v f))))
+      (sym (keep-need (l .hi) _ _ _ _ _ (omega arith) (p .sound .1 .1) (need-is (plainAt l n t) (plainTicks l f c v))))
 
-  send-step : plainAt l (n + 1) (stepOf (l .hi - l .lo) 3 v t) ≡ plainJoined (plainAt l n t) (plainSingle l (Send v))
+  send-step : v ≤ mostAmount → plainAt l (n + 1) (stepOf (l .hi - l .lo) 3 v t) ≡ plainJoined (plainAt l n t) (plainSingle l (Send v))
   unfolding plainDepth pickOf fallOf
-  send-step =
+  send-step hv =
       let w = p .within in
       let g : v ≤ t .level = omega (arith, w .level-min, p .few) in
       plain-eq _ _ refl refl (omega arith) (send-sent (t .accrued) (t .level) v (w .level-max) g) (send-depth (t .peak) (t .level) v (w .peak-min) g)
@@ -118,7 +116,7 @@ module _ (l : Limits) (n : ℕ) (t : Tally) (p : Ready l n t) (v : ℕ) (hv : v 
       (λ h. some-need (l .lo) (l .hi) (t .accrued) _ _ _ _ (w .level-max) (h .0) (h .1)))
 
 -- no number of an event is above 65,535
-number-max : (l : Limits) → Holds (limitsOk l) → (e : Event) → Valid l e → numberOf e ≤ mostAmount
+pub number-max : (l : Limits) → Holds (limitsOk l) → (e : Event) → Valid l e → numberOf e ≤ mostAmount
 number-max l ok (Waiting x) v = v
 number-max l ok (Idle x) v = v
 number-max l ok (Send z) v = omega arith
@@ -127,45 +125,50 @@ module _ (l : Limits) (n : ℕ) (t : Tally) (p : Ready l n t) where
   -- Join of 1 then 2, where 2 is one event.
   pub step-joined : (e : Event) → Valid l e → plainAt l (n + 1) (stepOf (l .hi - l .lo) (kindOf e) (numberOf e) t) ≡ plainJoined (plainAt l n t) (plainSingle l e)
   unfolding pickOf fallOf
-  step-joined (Waiting x) v = tick-step l n t p x v 0
-  step-joined (Idle x) v = tick-step l n t p x v (l .hi - l .lo)
+  step-joined (Waiting x) v = tick-step l n t p x 0 1
+  step-joined (Idle x) v = tick-step l n t p x (l .hi - l .lo) 1
   step-joined (Send z) v = send-step l n t p z (number-max l (p .sound .0) (Send z) v)
 
+-- ---- a walk goes on
+
+-- a step of kind k by v stands for c events, whose summary is s
+module _ (l : Limits) (n : ℕ) (t : Tally) (p : Ready l n t) (k v c : ℕ) (s : Plain) (sound : Sound s) (settings : s .limits ≡ l)
+    (joins : plainAt l (n + c) (stepOf (l .hi - l .lo) k v t) ≡ plainJoined (plainAt l n t) s) where
+  same-behind : Same (plainAt l n t) s
+  same-behind = alike l (plainAt l n t) s refl settings
+
+  pub more-ready : v ≤ mostAmount * c → n + c ≤ mostEvents → Ready l (n + c) (stepOf (l .hi - l .lo) k v t)
+  more-ready hv h =
+      record {
+        few = h;
+        within = step-within (l .hi - l .lo) k v n c t (p .within) (rise-max (p .sound .0)) hv;
+        sound = subst (λ (q : Plain). Sound q) (sym joins) (joined-sound (plainAt l n t) s (p .sound) sound same-behind);
+      }
+    where
+      rise-max : Holds (limitsOk l) → l .hi - l .lo ≤ 1048576
+      rise-max ok = omega arith
+
+  -- they go over from what is left to what is tallied, and the summary of the whole stays
+  pub more-rest : (es : List Event) → AllValid l es →
+      plainJoined (plainAt l n t) (plainJoined s (plainOf l es)) ≡ plainJoined (plainAt l (n + c) (stepOf (l .hi - l .lo) k v t)) (plainOf l es)
+  more-rest es a =
+      sym
+      (joined-assoc (plainAt l n t) s (plainOf l es) (p .sound) sound (plain-sound l (p .sound .0) es a) same-behind
+      (alike l s (plainOf l es) settings (plain-limits l es)))
+      ∙ ap (λ (q : Plain). plainJoined q (plainOf l es)) (sym joins)
+
+-- one event
 module _ (l : Limits) (n : ℕ) (t : Tally) (p : Ready l n t) (e : Event) (ok : Valid l e) where
   abbrev next : Tally
   next = stepOf (l .hi - l .lo) (kindOf e) (numberOf e) t
 
-  abbrev single : Plain
-  single = plainSingle l e
-
-  single-is-sound : Sound single
-  single-is-sound = single-sound l (p .sound .0) e ok
-
-  single-same : Same (plainAt l n t) single
-  single-same = alike l (plainAt l n t) single refl (single-limits l e)
-
-  pub step-sound : Sound (plainAt l (n + 1) next)
-  step-sound = subst (λ (s : Plain). Sound s) (sym (step-joined l n t p e ok)) (joined-sound (plainAt l n t) single (p .sound) single-is-sound single-same)
-
-  -- a walk goes on
   pub step-ready : n < mostEvents → Ready l (n + 1) next
   step-ready h =
-      record {
-        few = omega arith;
-        within = step-within (l .hi - l .lo) (kindOf e) (numberOf e) n t (p .within) (rise-max (p .sound .0)) (number-max l (p .sound .0) e ok);
-        sound = step-sound;
-      }
-    where
-      rise-max : Holds (limitsOk l) → l .hi - l .lo ≤ 1048576
-      rise-max h = omega arith
+      let v = number-max l (p .sound .0) e ok in
+      more-ready l n t p (kindOf e) (numberOf e) 1 (plainSingle l e) (single-sound l (p .sound .0) e ok) (single-limits l e) (step-joined l n t p e ok) (omega arith) (omega arith)
 
-  -- an event goes over from what is left to what is tallied, and the summary of the whole stays
   pub step-rest : (es : List Event) → AllValid l es → plainJoined (plainAt l n t) (plainOf l (e ∷ es)) ≡ plainJoined (plainAt l (n + 1) next) (plainOf l es)
-  step-rest es a =
-      sym
-      (joined-assoc (plainAt l n t) single (plainOf l es) (p .sound) single-is-sound (plain-sound l (p .sound .0) es a) single-same
-      (alike l single (plainOf l es) (single-limits l e) (plain-limits l es)))
-      ∙ ap (λ (s : Plain). plainJoined s (plainOf l es)) (sym (step-joined l n t p e ok))
+  step-rest = more-rest l n t p (kindOf e) (numberOf e) 1 (plainSingle l e) (single-sound l (p .sound .0) e ok) (single-limits l e) (step-joined l n t p e ok)
 
 -- ---- the beginning and the end
 

@@ -1,3 +1,4 @@
 mod Cases
 pub mod Laws
 pub mod Applied
+pub mod Runs

@@ -1,5 +1,5 @@
 -- A tally: a summary in the making, and the summary that it stands for. How it counts is free; what binds it is the law that a step is the paper's join
--- with one event's summary (`step-joined`, proofs/Laws.antt).
+-- with one event's summary (`step-joined`, proofs/Laws.antt), or with that of a run of equal ticks (`run-joined`, proofs/Runs.antt).
 -- Assumes nothing.
 use Prim.Native.Nat.{ℕ, _+_, _-_, _*_, _≤_, min, max}
 use mathlib.Core.Bool.{cond}
@@ -32,7 +32,7 @@ fallOf k rise = cond (eqb k 2) rise 0
 unfoldable pub barOf : ℕ → ℕ → ℕ → ℕ
 barOf rise depth level = cond (leb rise depth) 0 level
 
--- the tally after one event more, whatever it holds; rise is hiLimit − loLimit
+-- the tally after one event more, whatever it holds, or after a run of equal ticks, v what they bring in all; rise is hiLimit − loLimit
 abbrev pub stepOf : ℕ → ℕ → ℕ → Tally → Tally
 stepOf rise k v t =
     record {

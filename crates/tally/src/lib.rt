@@ -1,7 +1,7 @@
 // A summary in the making, one event at a time, with no branch on what the event holds. An event is a kind k (1 a tick while traffic waits, 2 a tick
 // while it does not, 3 a send) and a number v (the amount, or the size). Any other kind counts as a tick: the faults are for the reader to find.
 ghost use mathlib.Core.Path.{_≡_};
-ghost use Prim.Native.Nat.{_≤_};
+ghost use Prim.Native.Nat.{_*_, _≤_};
 ghost use Rattle.shaper.specs.Limits.{mostAmount, mostEvents};
 ghost use Rattle.tally.specs.Tally.{startOf, pickOf, fallOf, barOf, stepOf, Within, plainAt};
 
@@ -64,9 +64,9 @@ pub fn start(lo: u32) -> Tally
     }
 }
 
-// The tally after one event more, whatever it holds; rise is hiLimit - loLimit.
+// The tally after one event more, whatever it holds, or after a run of equal ticks, where v is what they bring in all; rise is hiLimit - loLimit.
 pub fn step(t: Tally, rise: u64, k: u64, v: u64) -> Tally
-    requires { ⌜ Within mostEvents t × (rise ≤ 1048576) × (v ≤ mostAmount) ⌝ }
+    requires { ⌜ Within mostEvents t × (rise ≤ 1048576) × (v ≤ mostAmount * mostEvents) ⌝ }
     ensures { λ r. ⌜ r ≡ stepOf rise k v t ⌝ }
 {
     let accrued = pick(k, t.accrued, t.accrued + v);

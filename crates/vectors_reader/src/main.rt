@@ -42,7 +42,7 @@ fn spelt(line: &[u8], room: &mut [u8]) -> usize
     count
 }
 
-// Prints what a reader finds from the first event on.
+// Prints what a reader finds from the first item on.
 fn walk(bytes: &[u8]) {
     let mut place = Place {
         at: reader::START,
@@ -56,7 +56,7 @@ fn walk(bytes: &[u8]) {
                 count,
                 next,
             } => {
-                event(kind, number);
+                events(kind, number, count);
                 place = Place {
                     at: next,
                     done: place.done + count as u64,
@@ -71,6 +71,15 @@ fn walk(bytes: &[u8]) {
                 return;
             }
         }
+    }
+}
+
+// An item's lines, one for each of its events: a run prints what its ticks print one by one.
+fn events(kind: u16, number: u16, count: u32) {
+    let mut left = count;
+    while 0 < left {
+        event(kind, number);
+        left -= 1;
     }
 }
 

@@ -1,5 +1,2 @@
-pub mod Rows
-pub mod Events
-pub mod Faults
-pub mod Windows
 pub mod Equal
+pub mod Chunks

@@ -1,8 +1,8 @@
--- Two records read window by window: what they come to, and whether their windows and sums are equal.
+-- Two records read window by window: both are fed, and whether their windows and sums are equal.
 -- Assumes nothing.
 use Prim.Native.Nat.{ℕ, zero, suc}
-use mathlib.Core.Bool.{Bool, true, false, _&&_}
-use mathlib.Core.List.{List}
+use mathlib.Core.Bool.{Bool, true, false, _&&_, cond}
+use mathlib.Core.List.{List, [], _∷_}
 use lib.Dec.{eqb}
 use lib.IntN.{ℤ, pos, negsuc}
 use lib.ListN.{length, getD}
@@ -10,16 +10,8 @@ use Rattle.decide.specs.Test.{Test, _≡?_, _∧?_, test}
 use Rattle.shaper.specs.Limits.{sameLimits}
 use Rattle.summary.specs.declared.Summary.{Summary}
 use Rattle.summary.specs.declared.Answer.{Answer}
-use Rattle.account.specs.Account.{summarizeOf}
-use Rattle.window.specs.declared.Both.{Both}
-use Rattle.window.specs.Window.{moreOf}
-
--- each record for itself
-abbrev pub bothBegin : List ℕ → List ℕ → Both
-bothBegin w v = record { first = summarizeOf w; second = summarizeOf v }
-
-abbrev pub bothMore : Both → List ℕ → List ℕ → Both
-bothMore before w v = record { first = moreOf (before .first) w; second = moreOf (before .second) v }
+use Rattle.feed.specs.Feed.{startOf, fedOf}
+use Rattle.window.specs.declared.Pair.{Pair}
 
 -- ---- equal windows and equal sums (`alike-exactly`, `same-summary`, proofs/Equal.antt)
 
@@ -50,3 +42,34 @@ abbrev pub sameAnswer : Answer → Answer → Bool
 sameAnswer (Answer.Summed s) (Answer.Summed t) = sameSummary s t
 sameAnswer (Answer.Summed s) (Answer.Refused n) = false
 sameAnswer (Answer.Refused n) b = false
+
+-- ---- both are fed
+
+abbrev pub bothStart : Pair
+bothStart = record { first = startOf; second = startOf; same = true }
+
+-- A chunk of each. Where all chunks so far are equal, and these too, the first record's state stands for both (`fed-each`, proofs/Chunks.antt: each is then its own).
+unfoldable pub bothFed : Pair → List ℕ → List ℕ → Pair
+bothFed p w v =
+    record {
+      first = fedOf (p .first) w;
+      second = cond (p .same && alikeOf w v) (fedOf (p .first) w) (fedOf (p .second) v);
+      same = p .same && alikeOf w v;
+    }
+
+-- chunk after chunk of each; a record that has ended has empty ones
+abbrev pub Chunks : Type 0
+Chunks = List (List ℕ × List ℕ)
+
+abbrev pub bothChunks : Pair → Chunks → Pair
+bothChunks p [] = p
+bothChunks p (c ∷ cs) = bothChunks (bothFed p (c .0) (c .1)) cs
+
+-- the chunks of the first, and of the second
+abbrev pub firstChunks : Chunks → List (List ℕ)
+firstChunks [] = []
+firstChunks (c ∷ cs) = c .0 ∷ firstChunks cs
+
+abbrev pub secondChunks : Chunks → List (List ℕ)
+secondChunks [] = []
+secondChunks (c ∷ cs) = c .1 ∷ secondChunks cs

@@ -1,3 +1,1 @@
-pub mod Window
-pub mod Events
 pub mod Both

@@ -1,105 +1,51 @@
-// A record read in windows. Each is a piece of the record: its header, and the bytes of at most 5,000 of its events.
+// Two records read window by window: both are fed, chunks that are equal once; and whether windows and sums are equal.
 ghost use mathlib.Core.Path.{_≡_};
-ghost use Prim.Native.Nat.{_+_, _*_, _≤_};
-ghost use lib.ListN.{length};
-ghost use Rattle.summary.specs.Answer.{andThen};
-ghost use Rattle.window.specs.Window.{moreOf, addedOf, joinedOr};
-ghost use Rattle.window.specs.Events.{countIn, eventIn};
-ghost use Rattle.window.specs.Both.{alikeOf, sameSummary, sameAnswer, bothBegin, bothMore};
-use shaper::Event;
+ghost use Rattle.window.specs.Both.{alikeOf, sameSummary, sameAnswer, bothStart, bothFed};
+use feed::Feed;
 use summary::Answer;
 use summary::Summary;
 
-// The bytes of a record's header, and of an event.
-pub const HEADER: usize = 14;
+// Two records so far, and whether all chunks so far were equal.
+pub struct Pair {
+    pub first: Feed,
+    pub second: Feed,
+    pub same: bool,
+}
 
-pub const EVENT: usize = 6;
-
-// The most events of a window, and its most bytes.
-pub const EVENTS: usize = 5000;
-
-pub const LENGTH: usize = HEADER + EVENT * EVENTS;
-
-// The summary of the windows so far with that of the window behind them, or the number of the earliest fault.
-pub fn more(before: Answer, window: &[u8]) -> Answer
-    ensures { λ r. ⌜ r ≡ moreOf before (now (window .entry)) ⌝ }
+// Two records of which no byte has come.
+pub fn both() -> Pair
+    ensures { λ r. ⌜ r ≡ bothStart ⌝ }
 {
-    match before {
-        Answer::Summed(sum) => added(sum, window),
-        Answer::Refused(n) => Answer::Refused(n),
+    let none = Feed::new();
+    Pair {
+        first: none,
+        second: none,
+        same: true,
     }
 }
 
-// The same behind a summary. No more events are looked at than may come: any byte behind the last of them gives 9.
-fn added(sum: Summary, window: &[u8]) -> Answer
-    ensures { λ r. ⌜ r ≡ addedOf sum (now (window .entry)) ⌝ }
-{
-    let most = HEADER as u64 + EVENT as u64 * record::may_come(sum.events as u64);
-    if window.len() as u64 <= most {
-        return joined_or(sum, account::summarize(window), true);
-    }
-    let end = most as usize;
-    joined_or(sum, account::summarize(&window[..end]), false)
-}
-
-// A summary joined with the one behind it, where that is all; 9 where it is not. A fault behind it is its own number.
-fn joined_or(sum: Summary, behind: Answer, all: bool) -> Answer
-    ensures { λ r. ⌜ r ≡ andThen behind (joinedOr sum all) ⌝ }
-{
-    match behind {
-        Answer::Summed(piece) => {
-            if all {
-                return sum.join(piece);
-            }
-            Answer::Refused(9)
-        }
-        Answer::Refused(n) => Answer::Refused(n),
-    }
-}
-
-// What a window of each of two records comes to behind the windows so far.
-pub struct Both {
-    pub first: Answer,
-    pub second: Answer,
-}
-
-// What the first windows of two records come to.
-pub fn both_begin(first: &[u8], second: &[u8]) -> Both
-    ensures { λ r. ⌜ r ≡ bothBegin (now (first .entry)) (now (second .entry)) ⌝ }
-{
-    let sum = account::summarize(first);
-    if alike(first, second) {
-        return Both {
-            first: sum,
-            second: sum,
-        };
-    }
-    let other = account::summarize(second);
-    Both {
-        first: sum,
-        second: other,
-    }
-}
-
-// What two records come to with one window more of each. Equal windows behind equal sums are summed once.
-pub fn both_more(before: Both, first: &[u8], second: &[u8]) -> Both
-    ensures { λ r. ⌜ r ≡ bothMore before (now (first .entry)) (now (second .entry)) ⌝ }
+// Two records with a chunk more of each. While all chunks are equal they are fed once.
+pub fn fed(before: Pair, first: &[u8], second: &[u8]) -> Pair
+    ensures { λ r. ⌜ r ≡ bothFed before (now (first .entry)) (now (second .entry)) ⌝ }
 {
     let a = before.first;
-    let b = before.second;
-    let sum = more(a, first);
-    if same_answer(a, b) {
+    let one = a.feed(first);
+    let same = before.same;
+    if same {
         if alike(first, second) {
-            return Both {
-                first: sum,
-                second: sum,
+            return Pair {
+                first: one,
+                second: one,
+                same: true,
             };
         }
     }
-    let other = more(b, second);
-    Both {
-        first: sum,
-        second: other,
+    let b = before.second;
+    let two = b.feed(second);
+    Pair {
+        first: one,
+        second: two,
+        same: false,
     }
 }
 
@@ -145,32 +91,4 @@ pub fn alike(first: &[u8], second: &[u8]) -> bool
         i += 1;
     }
     same
-}
-
-// How many whole events a window holds; no more than 5,000 are looked at.
-pub fn count(window: &[u8]) -> usize
-    ensures { λ r. ⌜ r ≡ countIn (now (window .entry)) ⌝ }
-{
-    if window.len() < HEADER {
-        return 0;
-    }
-    let whole = (window.len() - HEADER) / EVENT;
-    if EVENTS < whole { EVENTS } else { whole }
-}
-
-// The event of a window behind so many others.
-pub fn event_in(window: &[u8], i: usize) -> Event
-    requires { ⌜ 14 + 6 * i + 6 ≤ length (now window) ⌝ }
-    ensures { λ r. ⌜ r ≡ eventIn (now (window .entry)) i ⌝ }
-{
-    let at = HEADER + EVENT * i;
-    let kind = wire::get16(window, at + 2);
-    let number = wire::get16(window, at + 4) as u32;
-    if kind == 1 {
-        return Event::Waiting(number);
-    }
-    if kind == 2 {
-        return Event::Idle(number);
-    }
-    Event::Send(number)
 }

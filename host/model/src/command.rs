@@ -3,6 +3,7 @@
 
 use crate::compare;
 use crate::host;
+use crate::movers;
 use crate::record;
 use crate::refusal::Refusal;
 use crate::summary::Summary;
@@ -37,6 +38,7 @@ pub enum Shown {
 type Fault = (Refusal, &'static str);
 
 const NOT_HEX: &str = "hex is expected, and this is other text; --bytes reads bytes";
+const NOT_OLD: &str = "the bytes are not a whole record without runs";
 
 /// "0 done, 1 refused", of summarize and join.
 fn answered(name: &str, answer: Result<Summary, Fault>, shown: Shown) -> Said {
@@ -67,6 +69,42 @@ pub fn summarize((name, input): &File, given: Given, shown: Shown) -> Said {
     };
     let summary = record.and_then(|bytes| text::summarize(&bytes).map_err(of_record));
     answered(name, summary, shown)
+}
+
+/// Which way a record is moved.
+#[derive(Clone, Copy, Debug, PartialEq, Eq)]
+pub enum Mover {
+    Roll,
+    Unroll,
+}
+
+impl Mover {
+    pub fn name(self) -> &'static str {
+        match self {
+            Mover::Roll => "roll",
+            Mover::Unroll => "unroll",
+        }
+    }
+}
+
+/// The bytes of a record, moved; a refusal and the status as of `rpr summarize --bytes --sheet`,
+/// but that roll says what it needs.
+pub fn moved((name, input): &File, mover: Mover) -> Said {
+    let output = match mover {
+        Mover::Roll => movers::roll(input),
+        Mover::Unroll => movers::unroll(input),
+    };
+    match output {
+        Ok(output) => Said {
+            output,
+            error: String::new(),
+            status: 0,
+        },
+        Err(Refusal::Bytes) if mover == Mover::Roll => {
+            answered(name, Err((Refusal::Bytes, NOT_OLD)), Shown::Sheet)
+        }
+        Err(refusal) => answered(name, Err(of_record(refusal)), Shown::Sheet),
+    }
 }
 
 /// What is said of a record's refusal.
@@ -119,7 +157,7 @@ fn of_join(refusal: Refusal) -> Fault {
 pub fn compare(files: &[File; 2]) -> Said {
     let [(_, first), (_, second)] = files;
     let printed = compare::compare(first, second);
-    let same = record::read(first) == record::read(second);
+    let same = record::read(first, compare::FORM) == record::read(second, compare::FORM);
     let (error, status) = match printed.refused {
         None => (String::new(), i32::from(!same)),
         Some((side, refusal)) => (refused(&files[side as usize].0, of_record(refusal)), 2),

@@ -1,9 +1,12 @@
 //! What `rpr compare` prints of two record files.
 
-use crate::record::{self, Event, Record, Settings};
+use crate::record::{self, Event, Form, Record, Settings};
 use crate::refusal::Refusal;
 use crate::summary::Summary;
 use crate::text;
+
+/// Records are compared unrolled, whichever form they have.
+pub const FORM: Form = Form::Either;
 
 /// One of the two files, by its place among the arguments.
 #[derive(Clone, Copy, Debug, PartialEq, Eq)]
@@ -30,7 +33,7 @@ impl Side {
 
 /// "Refusals: as for one record, the first file's before the second's."
 pub fn compare(first: &[u8], second: &[u8]) -> Printed {
-    match (record::read(first), record::read(second)) {
+    match (record::read(first, FORM), record::read(second, FORM)) {
         (Err(refusal), _) => refused(Side::First, refusal),
         (_, Err(refusal)) => refused(Side::Second, refusal),
         (Ok(first), Ok(second)) => Printed {

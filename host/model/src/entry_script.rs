@@ -32,13 +32,19 @@ impl Script {
             "start" => self.start(arguments),
             _ => self.call(call, arguments),
         };
-        printed.map(Some).map_err(|fault| format!("{line}: {fault}"))
+        printed
+            .map(Some)
+            .map_err(|fault| format!("{line}: {fault}"))
     }
 
     fn shaper(&mut self, call: &str, arguments: &[&str]) -> Printed {
         if call == "shaper" {
             let [lo_limit, hi_limit] = numbers(arguments)?;
-            self.shaper = Some(Shaper::new(Limits { lo_limit, hi_limit, amount: 0 }));
+            self.shaper = Some(Shaper::new(Limits {
+                lo_limit,
+                hi_limit,
+                amount: 0,
+            }));
             return Ok(String::new());
         }
         let [n] = numbers(arguments)?;
@@ -48,17 +54,28 @@ impl Script {
             return Ok(format!("shaper tick credit {}\n", shaper.credit));
         }
         // "6: a needed shaper doesn't permit"; "refusal 6 returns its number and this shortfall."
-        let (refusal, short) = if shaper.permits() { (0, 0) } else { (6, shaper.shortfall()) };
+        let (refusal, short) = if shaper.permits() {
+            (0, 0)
+        } else {
+            (6, shaper.shortfall())
+        };
         if refusal == 0 {
             shaper.charge(n);
         }
-        Ok(format!("shaper charge {refusal} short {short} credit {}\n", shaper.credit))
+        Ok(format!(
+            "shaper charge {refusal} short {short} credit {}\n",
+            shaper.credit
+        ))
     }
 
     fn start(&mut self, arguments: &[&str]) -> Printed {
         let mut words: Vec<u32> = Vec::new();
         for argument in arguments {
-            words.push(number(argument)?.try_into().map_err(|_| "more than 32 bits")?);
+            words.push(
+                number(argument)?
+                    .try_into()
+                    .map_err(|_| "more than 32 bits")?,
+            );
         }
         match calls::start(&to_bytes(&words), &mut self.station) {
             0 => Ok(String::new()),
@@ -75,7 +92,11 @@ impl Script {
             Call::Select => format!("origin {} size {} ", byte(answer, 1), answer >> 48),
             _ => String::new(),
         };
-        Ok(format!("{said}{name} {} {}\n", byte(answer, 0), left(station)))
+        Ok(format!(
+            "{said}{name} {} {}\n",
+            byte(answer, 0),
+            left(station)
+        ))
     }
 }
 
@@ -103,6 +124,17 @@ fn parsed(name: &str, arguments: &[&str]) -> Result<Call, String> {
 /// The credits, the bytes that the three queues hold, and the received rate.
 fn left(station: &Station) -> String {
     let words = station.reading();
-    let joined = |places: &[usize]| places.iter().map(|at| words[*at].to_string()).collect::<Vec<_>>().join(" ");
-    format!("credits {} held {} received {}", joined(&[0, 1, 2, 3, 4]), joined(&[6, 8, 10]), words[30])
+    let joined = |places: &[usize]| {
+        places
+            .iter()
+            .map(|at| words[*at].to_string())
+            .collect::<Vec<_>>()
+            .join(" ")
+    };
+    format!(
+        "credits {} held {} received {}",
+        joined(&[0, 1, 2, 3, 4]),
+        joined(&[6, 8, 10]),
+        words[30]
+    )
 }

@@ -4,6 +4,7 @@
 //! "Byte 0 is 0 where the call was carried out, else the refusal number, and then
 //! every other byte is 0 and every lent byte is as it was."
 
+use crate::movers;
 use crate::record::Settings;
 use crate::refusal::Refusal;
 use crate::ring::{Choice, Path, Ring, Side, Wish};
@@ -82,6 +83,30 @@ fn check_room(room: &[u8]) -> Result<(), Refusal> {
 pub fn summarize(record: &[u8], room: &[u8]) -> (u64, Vec<u8>) {
     let outcome = check_room(room).and_then(|()| text::summarize(record));
     answered(outcome, room)
+}
+
+/// `rpr_roll(record, n, room, m)`: "old form to new".
+pub fn roll(record: &[u8], room: &[u8]) -> (u64, Vec<u8>) {
+    moved(movers::roll(record), room)
+}
+
+/// `rpr_unroll(record, n, room, m)`: "either form to old".
+pub fn unroll(record: &[u8], room: &[u8]) -> (u64, Vec<u8>) {
+    moved(movers::unroll(record), room)
+}
+
+/// "bytes 4 to 7: bytes written; bytes of the room behind them stay"; "the record's earliest
+/// fault [...]; then 12".
+fn moved(output: Result<Vec<u8>, Refusal>, room: &[u8]) -> (u64, Vec<u8>) {
+    match output {
+        Ok(output) if output.len() <= room.len() => {
+            let written = output.len();
+            let after = [&output[..], &room[written..]].concat();
+            ((written as u64) << 32, after)
+        }
+        Ok(_) => (Refusal::Room.answer(), room.to_vec()),
+        Err(refusal) => (refusal.answer(), room.to_vec()),
+    }
 }
 
 /// `rpr_join(first, n, second, n, room, n)`: "0; the room holds the joined summary".

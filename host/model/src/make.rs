@@ -1,7 +1,9 @@
 //! Random records, whole and damaged, and random summaries, in range and nearly.
 
 use crate::random::Random;
-use crate::record::{self, Event, Record, Settings, EVENT_LENGTH, HEADER_LENGTH, MOST_EVENTS};
+use crate::record::{
+    self, Event, Form, Record, Settings, EVENT_LENGTH, HEADER_LENGTH, MOST_EVENTS,
+};
 use crate::refusal::Refusal;
 use crate::summary::{step, Summary};
 
@@ -230,7 +232,7 @@ pub const FAULTS: [Refusal; 3] = [Refusal::Setting, Refusal::Bytes, Refusal::Ran
 pub fn refused(random: &mut Random, turn: usize) -> Vec<u8> {
     loop {
         let bytes = damaged(random, 40);
-        if record::read(&bytes) == Err(FAULTS[turn % FAULTS.len()]) {
+        if record::read(&bytes, Form::Either) == Err(FAULTS[turn % FAULTS.len()]) {
             return bytes;
         }
     }

@@ -2,6 +2,8 @@
 //! unlike, long, refused.
 
 use crate::make;
+use crate::make_broken;
+use crate::make_runs;
 use crate::random::Random;
 use crate::record::{Event, Record, Settings, EVENT_LENGTH, HEADER_LENGTH, MOST_EVENTS};
 
@@ -55,8 +57,33 @@ pub const WAYS: &[Way] = &[
     ("long, a fault at a window's end", long_fault),
 ];
 
+/// The ways that are taken in turn with these: records with runs.
+const IN_RUNS: &[Way] = &[
+    ("runs in the first", |random, turn| {
+        in_runs(random, turn, [true, false])
+    }),
+    ("runs in the second", |random, turn| {
+        in_runs(random, turn, [false, true])
+    }),
+    ("runs in both", |random, turn| {
+        in_runs(random, turn, [true, true])
+    }),
+    ("a broken run in the first", |random, turn| {
+        (make_broken::in_turn(random, turn), whole(random))
+    }),
+    ("a broken run in the second", |random, turn| {
+        (whole(random), make_broken::in_turn(random, turn))
+    }),
+    ("long, runs in both", long_runs),
+    ("long in runs, a fault", |random, turn| {
+        let (mut first, second) = long_runs(random, turn);
+        make::damage(random, &mut first);
+        by_turns(turn, first, second)
+    }),
+];
+
 /// The ways that are taken once: records of a million events, and what may stand behind.
-pub const MILLIONS: &[Way] = &[
+const MILLIONS: &[Way] = &[
     ("a million, equal", |random, _| twice(&million(random))),
     ("a million, every event other", million_other),
     ("a million, the other a header alone", |random, _| {
@@ -85,11 +112,23 @@ pub const MILLIONS: &[Way] = &[
     }),
     ("a fault in the millionth and a byte", million_fault),
 ];
+const MILLIONS_IN_RUNS: &[Way] = &[("a million in runs, the other unrolled", |random, _| {
+    let runs = make_runs::million(random);
+    (runs.to_bytes(), runs.unrolled().to_bytes())
+})];
 
-/// The program reads 5,000 events at a time: lengths beside the ends of these windows,
-/// and places at them.
-const LENGTHS: [usize; 8] = [4_999, 5_000, 5_001, 9_999, 10_000, 10_001, 12_345, 15_000];
-const ENDS: [usize; 6] = [0, 4_998, 4_999, 5_000, 9_999, 10_000];
+/// The ways that are taken in turn, and those that are taken once.
+pub fn ways() -> [Vec<Way>; 2] {
+    [vec![WAYS, IN_RUNS], vec![MILLIONS, MILLIONS_IN_RUNS]].map(|lists| lists.concat())
+}
+
+/// The program reads 30,000 bytes at a time: the header, 4,997 events and the front of one
+/// more, and then 5,000 events each time. Plain C reads 5,000 behind the header. Lengths
+/// beside the ends of these windows, and places at them.
+const LENGTHS: [usize; 12] = [
+    4_996, 4_997, 4_998, 4_999, 5_000, 5_001, 9_996, 9_997, 9_998, 10_000, 10_001, 15_000,
+];
+const ENDS: [usize; 9] = [0, 4_996, 4_997, 4_998, 4_999, 5_000, 9_997, 9_999, 10_000];
 
 fn twice(record: &Record) -> Pair {
     (record.to_bytes(), record.to_bytes())
@@ -240,6 +279,33 @@ fn long_fault(random: &mut Random, turn: usize) -> Pair {
     } else {
         (bytes, other)
     }
+}
+
+/// The same events but for one or a tail, by turns, each side's in runs of any sort or one by one.
+fn in_runs(random: &mut Random, turn: usize, sides: [bool; 2]) -> Pair {
+    let first = make_runs::with_run(random).unrolled();
+    let mut second = first.clone();
+    let place = random.below(first.events.len());
+    match turn % 3 {
+        0 => {}
+        1 => second.events[place] = other_event(random, &first.settings, first.events[place]),
+        _ => second.events.truncate(place),
+    }
+    let mut bytes = |record: &Record, runs: bool| match runs {
+        true => make_runs::split(random, record).to_bytes(),
+        false => record.to_bytes(),
+    };
+    (bytes(&first, sides[0]), bytes(&second, sides[1]))
+}
+
+/// The same events in two ways of runs, of more bytes than the program reads at a time.
+fn long_runs(random: &mut Random, turn: usize) -> Pair {
+    let first = make_runs::long(random, LENGTHS[turn % LENGTHS.len()]);
+    let mut record = first.unrolled();
+    let place = random.below(record.events.len());
+    record.events[place] = other_event(random, &record.settings, record.events[place]);
+    let second = make_runs::split(random, &record);
+    (first.to_bytes(), second.to_bytes())
 }
 
 fn million(random: &mut Random) -> Record {

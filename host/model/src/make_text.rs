@@ -1,18 +1,18 @@
 //! Random hex text of a record, and text that is no hex.
 
+use crate::item;
 use crate::random::Random;
-use crate::record::{EVENT_LENGTH, HEADER_LENGTH};
 
-/// The bytes in hex: without a blank, a line an event, with blanks anywhere, by turns.
+/// The bytes in hex: without a blank, a line an item, with blanks anywhere, by turns.
 pub fn hex(random: &mut Random, turn: usize, bytes: &[u8]) -> Vec<u8> {
     let line_end = random.pick(&["\n", "\r\n"]);
     let capitals = random.pick(&[0, 1, 2]);
     let mut text = Vec::with_capacity(3 * bytes.len());
-    for (place, byte) in bytes.iter().enumerate() {
-        if turn % 3 == 1 && begins_event(place) {
+    for (place, part) in item::parts(bytes).into_iter().enumerate() {
+        if turn % 3 == 1 && place > 0 {
             text.extend(line_end.bytes());
         }
-        for half in [byte >> 4, byte & 15] {
+        for half in part.iter().flat_map(|byte| [byte >> 4, byte & 15]) {
             if turn % 3 == 2 && random.one_in(4) {
                 let count = 1 + random.below(3);
                 text.extend((0..count).map(|_| random.pick(b" \t\r\n")));
@@ -27,10 +27,6 @@ pub fn hex(random: &mut Random, turn: usize, bytes: &[u8]) -> Vec<u8> {
         text.extend(line_end.bytes());
     }
     text
-}
-
-fn begins_event(place: usize) -> bool {
-    place >= HEADER_LENGTH && (place - HEADER_LENGTH) % EVENT_LENGTH == 0
 }
 
 fn digit(half: u8, capital: bool) -> u8 {

@@ -1,12 +1,22 @@
-//! Shaper records: settings, events, their bytes.
+//! Shaper records: settings, events, their bytes, and the reading of a record of either form.
 
+use crate::item::{Item, Listed, RUN_KIND, RUN_LENGTH};
 use crate::refusal::Refusal;
 
 /// "9 | over 1,000,000 events"
 pub const MOST_EVENTS: usize = 1_000_000;
 pub const HEADER_LENGTH: usize = 14;
 pub const EVENT_LENGTH: usize = 6;
-const HEADER_KIND: u32 = 16;
+const HEADER_KIND: u16 = 16;
+
+/// What a reading takes.
+#[derive(Clone, Copy, Debug, PartialEq, Eq)]
+pub enum Form {
+    /// Events alone: "an item of kind 4 is 2, whatever it holds".
+    Old,
+    /// "both forms": events and runs.
+    Either,
+}
 
 #[derive(Clone, Copy, Debug, PartialEq, Eq)]
 pub struct Settings {
@@ -59,7 +69,9 @@ fn number(bytes: &[u8]) -> u32 {
 /// "Kind 16, length 14, first and once: mtu 2, loLimit 4, hiLimit 4."
 fn read_header(bytes: &[u8]) -> Result<Settings, Refusal> {
     let header = bytes.get(..HEADER_LENGTH).ok_or(Refusal::Bytes)?;
-    if number(&header[0..2]) != HEADER_LENGTH as u32 || number(&header[2..4]) != HEADER_KIND {
+    if number(&header[0..2]) != HEADER_LENGTH as u32
+        || number(&header[2..4]) != u32::from(HEADER_KIND)
+    {
         return Err(Refusal::Bytes);
     }
     let settings = Settings {
@@ -75,15 +87,27 @@ fn read_header(bytes: &[u8]) -> Result<Settings, Refusal> {
     }
 }
 
-/// "Events, length 6: kind 1 tick while waiting (amount 2), kind 2 tick while
-/// idle (amount 2), kind 3 send (size 2)."
-fn read_event(settings: &Settings, bytes: &[u8]) -> Result<Event, Refusal> {
-    let event = bytes.get(..EVENT_LENGTH).ok_or(Refusal::Bytes)?;
-    if number(&event[0..2]) != EVENT_LENGTH as u32 {
+/// The kind of the item that the bytes begin with, and its payload: "cut short, another length
+/// than its kind's, no known kind: 2".
+fn read_shape(form: Form, bytes: &[u8]) -> Result<(u16, &[u8]), Refusal> {
+    let head = bytes.get(..4).ok_or(Refusal::Bytes)?;
+    let (length, kind) = (number(&head[0..2]), number(&head[2..4]) as u16);
+    let of_kind = match (kind, form) {
+        (1..=3, _) => EVENT_LENGTH,
+        (RUN_KIND, Form::Either) => RUN_LENGTH,
+        _ => return Err(Refusal::Bytes),
+    };
+    if length != of_kind as u32 {
         return Err(Refusal::Bytes);
     }
-    let value = u16::from_le_bytes([event[4], event[5]]);
-    match number(&event[2..4]) {
+    let item = bytes.get(..of_kind).ok_or(Refusal::Bytes)?;
+    Ok((kind, &item[4..]))
+}
+
+/// "Events, length 6: kind 1 tick while waiting (amount 2), kind 2 tick while
+/// idle (amount 2), kind 3 send (size 2)."
+fn read_event(settings: &Settings, kind: u16, value: u16) -> Result<Event, Refusal> {
+    match kind {
         1 => Ok(Event::Waiting(value)),
         2 => Ok(Event::Idle(value)),
         // "3 | a frame [...] is outside its range"
@@ -93,20 +117,62 @@ fn read_event(settings: &Settings, bytes: &[u8]) -> Result<Event, Refusal> {
     }
 }
 
-/// "within a record the earliest fault counts instead, header first, and any
-/// byte after the millionth event gives 9."
-pub fn read(bytes: &[u8]) -> Result<Record, Refusal> {
-    let settings = read_header(bytes)?;
-    let mut events = Vec::new();
-    let mut place = HEADER_LENGTH;
-    while place < bytes.len() {
-        if events.len() == MOST_EVENTS {
-            return Err(Refusal::Events);
-        }
-        events.push(read_event(&settings, &bytes[place..])?);
-        place += EVENT_LENGTH;
+/// "tick kind 2 (1 or 2), amount 2, count 2 (2 to 65,535), standing for that many equal ticks";
+/// "a tick kind other than 1 or 2, a count below 2: 2".
+fn read_run(payload: &[u8]) -> Result<Item, Refusal> {
+    let [tick_kind, amount, count] =
+        [0, 2, 4].map(|at| u16::from_le_bytes([payload[at], payload[at + 1]]));
+    let event = match tick_kind {
+        1 => Event::Waiting(amount),
+        2 => Event::Idle(amount),
+        _ => return Err(Refusal::Bytes),
+    };
+    match count {
+        0 | 1 => Err(Refusal::Bytes),
+        _ => Ok(Item { event, count }),
     }
-    Ok(Record { settings, events })
+}
+
+/// The item that the bytes begin with, behind so many events. "Faults at an item, in order: a
+/// million events done and any byte: 9; cut short, another length than its kind's, no known kind:
+/// 2; a send's size: 3; a tick kind other than 1 or 2, a count below 2: 2; a run that passes the
+/// million: 9."
+fn read_item(settings: &Settings, form: Form, done: usize, bytes: &[u8]) -> Result<Item, Refusal> {
+    if done == MOST_EVENTS {
+        return Err(Refusal::Events);
+    }
+    let (kind, payload) = read_shape(form, bytes)?;
+    let item = match kind {
+        RUN_KIND => read_run(payload)?,
+        _ => Item {
+            event: read_event(settings, kind, u16::from_le_bytes([payload[0], payload[1]]))?,
+            count: 1,
+        },
+    };
+    if done + item.events() > MOST_EVENTS {
+        return Err(Refusal::Events);
+    }
+    Ok(item)
+}
+
+/// A record's items. "within a record the earliest fault counts instead, header first, and any
+/// byte after the millionth event gives 9."
+pub fn read_items(bytes: &[u8], form: Form) -> Result<Listed, Refusal> {
+    let settings = read_header(bytes)?;
+    let mut items: Vec<Item> = Vec::new();
+    let (mut place, mut done) = (HEADER_LENGTH, 0);
+    while place < bytes.len() {
+        let item = read_item(&settings, form, done, &bytes[place..])?;
+        place += item.length();
+        done += item.events();
+        items.push(item);
+    }
+    Ok(Listed { settings, items })
+}
+
+/// The same, event by event: "events are counted unrolled".
+pub fn read(bytes: &[u8], form: Form) -> Result<Record, Refusal> {
+    Ok(read_items(bytes, form)?.unrolled())
 }
 
 impl Event {
@@ -127,15 +193,25 @@ impl Event {
     }
 }
 
-impl Record {
-    /// Writes the settings as they are, valid or not; an mtu keeps its low 16 bits.
-    pub fn to_bytes(&self) -> Vec<u8> {
-        let mut bytes = Vec::with_capacity(HEADER_LENGTH + EVENT_LENGTH * self.events.len());
+impl Settings {
+    /// "Kind 16, length 14, first and once: mtu 2, loLimit 4, hiLimit 4." The settings as they
+    /// are, valid or not; an mtu keeps its low 16 bits.
+    pub fn to_header(&self) -> Vec<u8> {
+        let mut bytes = Vec::with_capacity(HEADER_LENGTH);
         bytes.extend((HEADER_LENGTH as u16).to_le_bytes());
-        bytes.extend((HEADER_KIND as u16).to_le_bytes());
-        bytes.extend((self.settings.mtu as u16).to_le_bytes());
-        bytes.extend(self.settings.lo_limit.to_le_bytes());
-        bytes.extend(self.settings.hi_limit.to_le_bytes());
+        bytes.extend(HEADER_KIND.to_le_bytes());
+        bytes.extend((self.mtu as u16).to_le_bytes());
+        bytes.extend(self.lo_limit.to_le_bytes());
+        bytes.extend(self.hi_limit.to_le_bytes());
+        bytes
+    }
+}
+
+impl Record {
+    /// The old form.
+    pub fn to_bytes(&self) -> Vec<u8> {
+        let mut bytes = self.settings.to_header();
+        bytes.reserve(EVENT_LENGTH * self.events.len());
         for event in &self.events {
             bytes.extend(event.to_bytes());
         }

@@ -25,6 +25,8 @@ pub enum Refusal {
     Settings,
     /// "a fairness frame bears this station's own address"
     OwnAddress,
+    /// "room too short"
+    Room,
     /// "A fairness frame, a transit frame or a client frame whose hops reach the number of
     /// stations or more"
     Hops,
@@ -44,6 +46,7 @@ impl Refusal {
             Refusal::Events => 9,
             Refusal::Settings => 10,
             Refusal::OwnAddress => 11,
+            Refusal::Room => 12,
             Refusal::Hops => 13,
         }
     }

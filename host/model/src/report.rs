@@ -1,25 +1,23 @@
 //! What a differential test says when a call differs.
 
+use crate::item;
 use crate::lent::Lent;
-use crate::record::{EVENT_LENGTH, HEADER_LENGTH};
 use crate::text;
 
 /// The error is the message to print.
 pub type Outcome<T> = Result<T, String>;
 
-/// Hex in the case file's notation, a repeated event written `N*HEX`.
+/// Hex in the case file's notation, a repeated item written `N*HEX`.
 pub fn notation(bytes: &[u8]) -> String {
-    let (header, events) = bytes.split_at(bytes.len().min(HEADER_LENGTH));
-    let mut words = vec![text::encode(header)];
-    let parts: Vec<&[u8]> = events.chunks(EVENT_LENGTH).collect();
-    for run in parts.chunk_by(|one, next| one == next) {
-        let hex = text::encode(run[0]);
-        words.push(match run.len() {
+    let parts = item::parts(bytes);
+    let words = parts.chunk_by(|one, next| one == next).map(|equal| {
+        let hex = text::encode(equal[0]);
+        match equal.len() {
             1 => hex,
             times => format!("{times}*{hex}"),
-        });
-    }
-    words.join(" ")
+        }
+    });
+    words.collect::<Vec<_>>().join(" ")
 }
 
 /// One call's inputs, for the message when it differs.

@@ -1,6 +1,6 @@
 //! Hex text, and what is printed of a summary.
 
-use crate::record;
+use crate::record::{self, Form};
 use crate::refusal::Refusal;
 use crate::summary::Summary;
 
@@ -28,9 +28,9 @@ pub fn encode(bytes: &[u8]) -> String {
     bytes.iter().map(|byte| format!("{byte:02x}")).collect()
 }
 
-/// The summary of a record's bytes.
+/// The summary of a record's bytes, of either form.
 pub fn summarize(bytes: &[u8]) -> Result<Summary, Refusal> {
-    Summary::of_record(&record::read(bytes)?)
+    Summary::of_record(&record::read(bytes, Form::Either)?)
 }
 
 /// "A refusal prints only `refused N`."

@@ -1,10 +1,13 @@
-//! What a reader finds in a record: its events in their order, then the end or what is
-//! wrong.
+//! What a reader finds in a record: its events in their order, those of a run one by one, then
+//! the end or what is wrong.
 //!
 //! A line holds a record as hex. Lines that are empty or begin with `#` print nothing.
 
-use crate::record::{self, Event, EVENT_LENGTH, HEADER_LENGTH};
+use crate::record::{self, Event, Form};
 use crate::text;
+
+/// A reader takes both forms.
+const FORM: Form = Form::Either;
 
 /// What a line prints; the error names what is wrong with the line.
 pub fn print(line: &str) -> Result<Option<String>, String> {
@@ -18,7 +21,7 @@ pub fn print(line: &str) -> Result<Option<String>, String> {
 /// A line for each event, then `end` or `refused N`.
 fn walk(bytes: &[u8]) -> String {
     let events: String = events_before(bytes).into_iter().map(show).collect();
-    match record::read(bytes) {
+    match record::read(bytes, FORM) {
         Ok(_) => format!("{events}end\n"),
         Err(refusal) => format!("{events}refused {}\n", refusal.number()),
     }
@@ -27,10 +30,9 @@ fn walk(bytes: &[u8]) -> String {
 /// The events of the longest whole record that the bytes begin with: those before the
 /// end or the earliest fault.
 fn events_before(bytes: &[u8]) -> Vec<Event> {
-    (0..)
-        .map(|count| HEADER_LENGTH + count * EVENT_LENGTH)
-        .map_while(|end| record::read(bytes.get(..end)?).ok())
-        .last()
+    (0..=bytes.len())
+        .rev()
+        .find_map(|end| record::read(&bytes[..end], FORM).ok())
         .map_or(Vec::new(), |record| record.events)
 }
 

@@ -1,6 +1,10 @@
 //! The case file.
 
 use model::cases;
+use model::make;
+use model::make_runs;
+use model::random::Random;
+use model::report::notation;
 use model::text;
 use std::collections::{BTreeMap, BTreeSet};
 
@@ -64,6 +68,53 @@ fn a_word_that_is_no_step_is_named() {
         let fault = cases::parse(&line).unwrap().print().unwrap_err();
         assert!(fault.contains(word), "{fault}");
     }
+}
+
+/// What a case of this name prints, but for its name.
+fn outcome(name: &str) -> String {
+    let mut cases = FILE.lines().filter_map(cases::parse);
+    let case = cases.find(|case| case.name == name).unwrap();
+    let text = case.print().unwrap();
+    text.strip_prefix(name).unwrap().to_string()
+}
+
+/// Runs beside the same ticks one by one, and pieces of one record that is cut inside a run.
+#[test]
+fn cases_of_the_same_events() {
+    let names = FILE.lines().filter_map(cases::parse).map(|case| case.name);
+    let (mut unrolled, mut cut) = (0, 0);
+    for name in names {
+        if let Some(rolled) = name.strip_suffix("-unrolled") {
+            assert_eq!(outcome(rolled), outcome(name), "{name}");
+            unrolled += 1;
+        }
+        if name.starts_with("pieces-run-cut-") {
+            assert_eq!(outcome("pieces-run-whole"), outcome(name), "{name}");
+            cut += 1;
+        }
+    }
+    assert_eq!((unrolled, cut), (30, 6));
+}
+
+/// What a differential test prints of a record is a case of the same bytes.
+#[test]
+fn the_notation_of_any_bytes_reads_back() {
+    let mut random = Random::new(1);
+    for turn in 0..3_000 {
+        let bytes = match turn % 3 {
+            0 => make::damaged(&mut random, 40),
+            1 => make_runs::damaged(&mut random),
+            _ => make_runs::listed(&mut random).to_bytes(),
+        };
+        let line = format!("x {}", notation(&bytes));
+        let case = cases::parse(&line).unwrap();
+        assert_eq!(case.bytes(), Ok(bytes), "{line}");
+    }
+    let header = "0e0010004000640000002c010000";
+    let run = "0a000400020032000300";
+    let bytes = text::decode(format!("{header}{run}{run}060003003c00{run}06").as_bytes());
+    let shown = format!("{header} 2*{run} 060003003c00 {run} 06");
+    assert_eq!(notation(&bytes.unwrap()), shown);
 }
 
 #[test]

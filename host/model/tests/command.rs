@@ -1,6 +1,6 @@
 //! What the command does: messages, statuses and bytes worked out by hand.
 
-use model::command::{compare, join, summarize, File, Given, Said, Shown};
+use model::command::{compare, join, moved, summarize, File, Given, Mover, Said, Shown};
 use model::host;
 use model::record::{Event, Record, Settings, MOST_EVENTS};
 use model::summary::Summary;
@@ -71,6 +71,16 @@ fn assert_done(said: &Said, output: &[u8]) {
 /// The run ends so, with `refused N` on standard output.
 fn assert_refused(said: &Said, name: &str, number: u8, words: &str) {
     assert_eq!(said.output, format!("refused {number}\n").into_bytes());
+    assert_says_refused(said, name, number, words);
+}
+
+/// Nothing stands on standard output where a record would.
+fn assert_not_moved(said: &Said, name: &str, number: u8, words: &str) {
+    assert!(said.output.is_empty());
+    assert_says_refused(said, name, number, words);
+}
+
+fn assert_says_refused(said: &Said, name: &str, number: u8, words: &str) {
     assert_eq!(
         said.error,
         format!("rpr: {name}: refused {number}: {words}\n")
@@ -155,6 +165,33 @@ fn refusals_of_a_record() {
     over.push(0);
     let said = summarize(&file("a", &over), Given::Bytes, Shown::Lines);
     assert_refused(&said, "a", 9, "over 1,000,000 events");
+}
+
+#[test]
+fn records_moved_and_refused() {
+    let ticks = [Event::Idle(5), Event::Idle(5), Event::Send(60)];
+    let (old, new) = (record(&ticks), {
+        let run = "0a000400020005000200 060003003c00";
+        text::decode(format!("{HEADER} {run}").as_bytes()).unwrap()
+    });
+    assert_done(&moved(&file("a", &old), Mover::Roll), &new);
+    assert_done(&moved(&file("a", &new), Mover::Unroll), &old);
+    assert_done(&moved(&file("a", &old), Mover::Unroll), &old);
+    let whole = "the bytes are not a whole record";
+    let whole_old = "the bytes are not a whole record without runs";
+    assert_not_moved(&moved(&file("a", &new), Mover::Roll), "a", 2, whole_old);
+    for (mover, whole) in [(Mover::Roll, whole_old), (Mover::Unroll, whole)] {
+        let name = mover.name();
+        let said = moved(&file(name, &old[..old.len() - 1]), mover);
+        assert_not_moved(&said, name, 2, whole);
+        let said = moved(&file(name, &record(&[Event::Send(65)])), mover);
+        let size = "the size of a send is outside its range";
+        assert_not_moved(&said, name, 3, size);
+        let mut over = record(&vec![Event::Idle(1); MOST_EVENTS]);
+        over.push(0);
+        let said = moved(&file(name, &over), mover);
+        assert_not_moved(&said, name, 9, "over 1,000,000 events");
+    }
 }
 
 #[test]

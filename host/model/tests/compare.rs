@@ -2,6 +2,7 @@
 
 use model::compare::{compare, Side};
 use model::make_pair::WAYS;
+use model::make_runs;
 use model::random::Random;
 use model::record::{Event, MOST_EVENTS};
 use model::text;
@@ -190,6 +191,24 @@ fn the_first_files_refusal_before_the_seconds() {
         for (_, other) in &refused {
             assert_refuses(one, other, Side::First, *number);
         }
+    }
+}
+
+/// "summaries, A1 and A3 give the same answers on either form".
+#[test]
+fn records_with_runs() {
+    let run = record(HEADER, &["060003003c00", "0a000400020032000300"]);
+    let ticks = ["060003003c00", "060002003200", "060001003200"];
+    let other = record(HEADER, &ticks);
+    let lines = "event 2: idle 50, waiting 50\nfirst only, event 3: idle 50\nfirst\n";
+    assert!(compare(&run, &other).text.starts_with(lines));
+    let mut random = Random::new(2);
+    for _ in 0..300 {
+        let listed = make_runs::with_run(&mut random);
+        let (new, old) = (listed.to_bytes(), listed.unrolled().to_bytes());
+        assert_eq!(compare(&new, &old), compare(&old, &old));
+        assert_eq!(compare(&new, &example()), compare(&old, &example()));
+        assert_eq!(compare(&example(), &new), compare(&example(), &old));
     }
 }
 

@@ -2,7 +2,7 @@
 
 use model::make;
 use model::random::Random;
-use model::record::{read, Event, Record, Settings, MOST_EVENTS};
+use model::record::{read, Event, Form, Record, Settings, MOST_EVENTS};
 use model::refusal::Refusal;
 
 fn record(mtu: u32, lo_limit: u32, hi_limit: u32, events: &[Event]) -> Vec<u8> {
@@ -16,7 +16,7 @@ fn record(mtu: u32, lo_limit: u32, hi_limit: u32, events: &[Event]) -> Vec<u8> {
 }
 
 fn refusal(bytes: &[u8]) -> u8 {
-    read(bytes).err().map_or(0, Refusal::number)
+    read(bytes, Form::Either).err().map_or(0, Refusal::number)
 }
 
 fn joined(first: &[u8], second: &[u8]) -> Vec<u8> {
@@ -103,7 +103,7 @@ fn the_earliest_fault_counts() {
 #[test]
 fn a_million_events_and_no_byte_more() {
     let full = record(64, 100, 300, &vec![Event::Waiting(1); MOST_EVENTS]);
-    assert_eq!(read(&full).unwrap().events.len(), MOST_EVENTS);
+    assert_eq!(read(&full, Form::Either).unwrap().events.len(), MOST_EVENTS);
     assert_eq!(refusal(&joined(&full, &[0])), 9);
     assert_eq!(refusal(&joined(&full, &Event::Send(16).to_bytes())), 9);
     assert_eq!(refusal(&joined(&full, &Event::Send(15).to_bytes())), 9);
@@ -122,7 +122,7 @@ fn a_written_record_reads_back() {
     let mut random = Random::new(1);
     for _ in 0..2_000 {
         let record = make::record(&mut random, 60);
-        assert_eq!(read(&record.to_bytes()), Ok(record));
+        assert_eq!(read(&record.to_bytes(), Form::Either), Ok(record));
     }
 }
 

@@ -40,12 +40,12 @@ fn a_pair_that_is_not_in_the_table() {
     assert_eq!(tally.faults(), faults);
 }
 
-/// 15 calls, and a refusal number is in the table of at least one of them.
+/// 17 calls, and each refusal number is in the table of at least one of them.
 #[test]
 fn the_table() {
     let all = [OF_RECORDS, OF_RINGS, OF_STATIONS].concat();
-    assert_eq!(all.len(), 15);
-    for number in (1..=11).chain([13]) {
+    assert_eq!(all.len(), 17);
+    for number in 1..=13 {
         let given = |pairs: &(&str, &[&str])| pairs.1.contains(&&number.to_string()[..]);
         assert!(all.iter().any(given), "{number}");
     }

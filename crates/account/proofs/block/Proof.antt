@@ -1,4 +1,4 @@
--- The parts are those of the row from the block on; a row of good parts is passed (`row-passed`).
+-- The parts are those of the row from the block on; a row of good parts is passed (`rows-passed`).
 -- Assumes nothing.
 use Prim.Native.Nat.{_+_, _-_, _*_, _≤_}
 use mathlib.Core.Path.{_≡_, sym, _∙_}
@@ -10,7 +10,7 @@ use Rattle.tally.specs.Part.{Lanes}
 use Rattle.tally.proofs.Laws.{within-more}
 use Rattle.tally.proofs.Applied.{lanes-fit, all-good, over-applied}
 use Rattle.account.specs.Lanes.{partOf}
-use Rattle.account.proofs.Made.{row-passed}
+use Rattle.account.proofs.Made.{rows-passed}
 use Rattle.account.proofs.block.Statement.{statement}
 use Rattle.account.proofs.block.Tie as tie
 
@@ -43,7 +43,7 @@ returns c =
     let l = a .limits in
     let whole = ranges l (pre .1 .sound .0) .4 in
     let side : Lanes (l .hi - l .lo) (c .before .parts .result) (λ j. partOf (l .hi - l .lo) (l .mtu) (a .s .now) (a .from + 48 * j) 8) 8 = rw whole at (c .before .parts .ensures) in
-    (side .good, λ g. rw (c .over .ensures, over-applied (l .hi - l .lo) (a .start) (c .before .parts .result) _ side (ranges l (pre .1 .sound .0) .2) (within-more (a .n) mostEvents (a .start) (pre .1 .few) (pre .1 .within))) (row-passed l (a .s .now) (λ j. bytes j .fits) (a .from) (a .n) (a .start) (pre .1) (pre .3) 8 (pre .2) (pre .0) (all-good _ 8 (sym (side .good) ∙ g))))
+    (side .good, λ g. rw (c .over .ensures, over-applied (l .hi - l .lo) (a .start) (c .before .parts .result) _ side (ranges l (pre .1 .sound .0) .2) (within-more (a .n) mostEvents (a .start) (pre .1 .few) (pre .1 .within))) (rows-passed l (a .s .now) (λ j. bytes j .fits) (a .from) (a .n) (a .start) (pre .1) (pre .3) 8 (pre .2) (pre .0) (all-good _ 8 (sym (side .good) ∙ g))))
 
 pub block-spec : {M : Type 1} → statement M
 block-spec = tie.close (tie.spec sub-rise sub-parts parts-requires over-requires returns)

@@ -6,6 +6,7 @@ use native.Mathlib.Omega.{arith}
 use borrow.Author.Needs.{needs}
 use lib.ListN.{length, drop, length-drop}
 use lib.Seq.{take-all}
+use Rattle.shaper.specs.Limits.{mostEvents}
 use Rattle.record.specs.declared.Header.the-variants.{Settings, Unreadable}
 use Rattle.record.specs.Step.{headerOf}
 use Rattle.record.proofs.Steps.{header-stands}
@@ -34,23 +35,24 @@ part-events-end : tie.Need-part-events-end
 part-events-end c = search needs
 
 events-requires : tie.Need-events-requires
-events-requires c κs = header-stands _ _ (header-found (c .before)) .in-range
+events-requires c κs = (header-stands _ _ (header-found (c .before)) .in-range, omega arith)
 
 enum-known-fault : tie.Need-enum-known-fault
 enum-known-fault c = search needs
 
 returns : tie.Need-returns
 returns c =
-    let xs = c .before .before .before .before .before .before .before .args .s .now in
+    let a = c .before .before .before .before .before .before .before .args in
+    let xs = a .s .now in
     c .events .ensures
-    ∙ ap (eventsOf _) (take-all (length xs - 14) (drop 14 xs) (omega (arith, length-drop 14 xs)))
-    ∙ sym (rest-start xs _ (header-found (c .before .before)))
+    ∙ ap (eventsOf (a .runs) _ mostEvents) (take-all (length xs - 14) (drop 14 xs) (omega (arith, length-drop 14 xs)))
+    ∙ sym (rest-start (a .runs) xs _ (header-found (c .before .before)))
 
 returns-2 : tie.Need-returns-2
 returns-2 c =
     let a = c .before .before .before .before .before .args in
     let e : headerOf (a .s .now) ≡ Unreadable (c .before .fault .given .0 .0) = cc in
-    sym (rest-unreadable (a .s .now) _ e)
+    sym (rest-unreadable (a .runs) (a .s .now) _ e)
 
 pub summarize-spec : {M : Type 1} → statement M
 summarize-spec =

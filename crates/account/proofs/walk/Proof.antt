@@ -1,31 +1,37 @@
--- What is left keeps its answer with each item that the decoder finds; an end, a fault or one event too many is that answer. A walk takes
--- at most as many steps as events may come.
+-- What is left keeps its answer with each item that the decoder finds; an end, a fault or one event too many is that answer. Behind 64 items the walk has moved on.
 -- Assumes nothing.
-use Prim.Native.Nat.{_+_, _-_, _≤_}
+use Prim.Native.Nat.{ℕ, _+_, _-_, _*_, _≤_}
 use mathlib.Core.Path.{_≡_, refl, sym, ap, _∙_}
 use native.Mathlib.Omega.{arith}
 use borrow.Author.Needs.{needs}
-use lib.ListN.{drop}
-use Rattle.shaper.specs.Limits.{mostEvents}
+use lib.ListN.{length, drop}
+use Rattle.decide.proofs.Cases.{by-cases}
+use Rattle.decide.specs.Test.{Holds}
+use Rattle.shaper.specs.declared.Limits.{Limits}
+use Rattle.shaper.specs.Limits.{limitsOk, mostAmount, mostEvents}
 use Rattle.tally.specs.Tally.{stepOf, Ready}
+use Rattle.tally.specs.Part.{Steady}
 use Rattle.tally.proofs.Laws.{within-more}
-use Rattle.summary.specs.declared.Answer.the-variants.{Summed}
-use Rattle.summary.specs.Plain.{signedFrom}
+use Rattle.tally.proofs.Applied.{step-steady}
 use Rattle.record.specs.declared.Step.the-variants.{Stands, End, Faulty}
-use Rattle.record.specs.Step.{stepWithin}
-use Rattle.record.proofs.Steps.{Stood, stood-within, end-within}
+use Rattle.record.specs.Step.{itemWithin}
+use Rattle.record.proofs.Steps.{Stood, stood-within, end-within, stood-bound}
 use Rattle.account.specs.Rest.{restOf}
 use Rattle.account.proofs.Rest.{rest-end, rest-faulty}
-use Rattle.account.proofs.Passed.{rise-max, depth-max, passed-found}
+use Rattle.account.proofs.Passed.{rise-max, passed-found}
 use Rattle.account.proofs.walk.Statement.{statement}
 use Rattle.account.proofs.walk.Tie as tie
 
 abbrev Inv-loop : tie.InvT-loop
-Inv-loop s from limits done budget late mtu rise at₀ n₀ left₀ t₀ at n left t =
-    Ready limits n t × (n + left ≤ mostEvents) × (restOf late limits left n t (drop at s) ≡ restOf late limits budget done t₀ (drop from s))
+Inv-loop s limits budget late runs mtu rise k₀ at₀ n₀ left₀ t₀ k at n left t =
+    Ready limits n t × Steady (limits .hi - limits .lo) t × (n + left ≡ n₀ + budget) × (n₀ + budget ≤ mostEvents) × (at₀ + 6 * k ≤ at) × (at ≤ length s) × (k ≤ 64)
+    × (restOf runs late limits left n t (drop at s) ≡ restOf runs late limits budget n₀ t₀ (drop at₀ s))
 
 abbrev μ-loop : tie.MeasureT-loop
-μ-loop s from limits done budget late mtu rise at₀ n₀ left₀ t₀ at n left t = left
+μ-loop s limits budget late runs mtu rise k₀ at₀ n₀ left₀ t₀ k at n left t = 64 - k
+
+low-high : (l : Limits) → Holds (limitsOk l) → l .lo ≤ l .hi
+low-high l ok = omega arith
 
 cast-rise : tie.Need-cast-rise Inv-loop μ-loop
 cast-rise c = search needs
@@ -34,10 +40,12 @@ cast-rise-2 : tie.Need-cast-rise-2 Inv-loop μ-loop
 cast-rise-2 c = search needs
 
 sub-rise : tie.Need-sub-rise Inv-loop μ-loop
-sub-rise c = search needs
+sub-rise c = low-high _ (c .before .before .before .pre .1 .sound .0)
 
 loop-holds : tie.Need-loop-holds Inv-loop μ-loop
-loop-holds c = let p = c .before .before .before .pre in (p .0, p .1, refl)
+loop-holds c =
+    let p = c .before .before .before .before .pre in
+    (p .1, p .2, refl, p .3, omega arith, p .0, omega arith, refl)
 
 event-within-requires : tie.Need-event-within-requires Inv-loop μ-loop
 event-within-requires c κs = search needs
@@ -45,95 +53,109 @@ event-within-requires c κs = search needs
 enum-known-kind : tie.Need-enum-known-kind Inv-loop μ-loop
 enum-known-kind c = search needs
 
+cast-many : tie.Need-cast-many Inv-loop μ-loop
+cast-many c = search needs
+
 wide-requires : tie.Need-wide-requires Inv-loop μ-loop
 wide-requires c κs = search needs
 
 wide-requires-2 : tie.Need-wide-requires-2 Inv-loop μ-loop
 wide-requires-2 c κs = search needs
 
-step-requires : tie.Need-step-requires Inv-loop μ-loop
-step-requires c κs =
-    let L = c .before .before .before .before .before .before .loop in
-    let a = c .before .before .before .before .before .before .before .before .before .before .args in
-    (within-more (L .n) mostEvents (L .t) (L .inv .0 .few) (L .inv .0 .within), rise-max (a .limits) (L .n) (L .t) (L .inv .0), c .wide2 .ensures .1)
-
-cast-n : tie.Need-cast-n Inv-loop μ-loop
-cast-n c = search needs
-
 -- the item that was found stands at its place, and for no more events than may come
-found : (c : tie.After-step Inv-loop μ-loop) →
+found : (c : tie.After-wide2 Inv-loop μ-loop) →
     let L = c .before .before .before .before .before .before .before .loop in
-    let a = c .before .before .before .before .before .before .before .before .before .before .before .args in
-    let f = c .before .before .before .before .kind .given .0 in
-    Stood (a .limits .mtu) (a .s .now) (L .at) (f .0) (f .1 .0) (f .1 .1 .0) (f .1 .1 .1 .0) × (f .1 .1 .0 ≤ L .left)
+    let a = c .before .before .before .before .before .before .before .before .before .before .before .before .args in
+    let f = c .before .before .before .kind .given .0 in
+    Stood (a .runs) (a .limits .mtu) (a .s .now) (L .at) (f .0) (f .1 .0) (f .1 .1 .0) (f .1 .1 .1 .0) × (f .1 .1 .0 ≤ L .left)
 found c =
     let L = c .before .before .before .before .before .before .before .loop in
-    let a = c .before .before .before .before .before .before .before .before .before .before .before .args in
-    let f = c .before .before .before .before .kind .given .0 in
-    let e : stepWithin (a .late) (L .left) (a .limits .mtu) (a .s .now) (L .at) ≡ Stands (f .0) (f .1 .0) (f .1 .1 .0) (f .1 .1 .1 .0) = cc in
-    stood-within (a .late) (L .left) (a .limits .mtu) (a .s .now) (L .at) _ _ _ _ e
+    let a = c .before .before .before .before .before .before .before .before .before .before .before .before .args in
+    let f = c .before .before .before .kind .given .0 in
+    let e : itemWithin (a .runs) (a .late) (L .left) (a .limits .mtu) (a .s .now) (L .at) ≡ Stands (f .0) (f .1 .0) (f .1 .1 .0) (f .1 .1 .1 .0) = cc in
+    stood-within (a .runs) (a .late) (L .left) (a .limits .mtu) (a .s .now) (L .at) _ _ _ _ e
+
+brought-requires : tie.Need-brought-requires Inv-loop μ-loop
+brought-requires c κs =
+    let L = c .before .before .before .before .before .before .before .loop in
+    (c .wide2 .ensures .1, omega (arith, L .inv .2, L .inv .3, found c .1))
+
+step-requires : tie.Need-step-requires Inv-loop μ-loop
+step-requires c κs =
+    let L = c .before .before .before .before .before .before .before .before .loop in
+    let a = c .before .before .before .before .before .before .before .before .before .before .before .before .before .args in
+    (within-more (L .n) mostEvents (L .t) (L .inv .0 .few) (L .inv .0 .within), rise-max (a .limits) (L .n) (L .t) (L .inv .0), c .brought .ensures .1)
 
 add-n : tie.Need-add-n Inv-loop μ-loop
-add-n c = let L = c .before .before .before .before .before .before .before .loop in omega (arith, L .inv .1, found c .1)
-
-cast-left : tie.Need-cast-left Inv-loop μ-loop
-cast-left c = search needs
+add-n c = let L = c .before .before .before .before .before .before .before .before .before .loop in omega (arith, L .inv .2, L .inv .3, found (c .before .before) .1)
 
 sub-left : tie.Need-sub-left Inv-loop μ-loop
-sub-left c = found c .1
+sub-left c = found (c .before .before) .1
+
+add-k : tie.Need-add-k Inv-loop μ-loop
+add-k c = search needs
 
 loop-less : tie.Need-loop-less Inv-loop μ-loop
-loop-less c = omega (arith, found c .0 .one, found c .1)
+loop-less c = search needs
 
 loop-again : tie.Need-loop-again Inv-loop μ-loop
 loop-again c =
-    let L = c .before .before .before .before .before .before .before .loop in
-    let a = c .before .before .before .before .before .before .before .before .before .before .before .args in
-    let bytes = c .before .before .before .before .before .before .before .before .before .before .shared-slice-known .given in
-    let f = c .before .before .before .before .kind .given .0 in
-    let s = found c in
-    let few : L .n + f .1 .1 .0 ≤ mostEvents = omega (arith, L .inv .1, s .1) in
-    let p = passed-found (a .limits) (a .s .now) (L .at) (L .n) (L .t) (L .inv .0) (λ j. bytes j .fits) _ _ _ _ (s .0) few in
+    let L = c .before .before .before .before .before .before .before .before .before .loop in
+    let a = c .before .before .before .before .before .before .before .before .before .before .before .before .before .before .args in
+    let bytes = c .before .before .before .before .before .before .before .before .before .before .before .before .before .shared-slice-known .given in
+    let f = c .before .before .before .before .before .kind .given .0 in
+    let s = found (c .before .before) in
+    let i = L .inv in
+    let few : L .n + f .1 .1 .0 ≤ mostEvents = omega (arith, i .2, i .3, s .1) in
+    let p = passed-found (a .runs) (a .limits) (a .s .now) (L .at) (L .n) (L .t) (i .0) (λ j. bytes j .fits) _ _ _ _ (s .0) few in
     let left : L .left - f .1 .1 .0 + f .1 .1 .0 ≡ L .left = omega (arith, s .1) in
-    let q : c .step .result ≡ stepOf (a .limits .hi - a .limits .lo) (f .0) (f .1 .0) (L .t) =
-    rw (← c .before .before .wide .ensures .0, ← c .before .wide2 .ensures .0) (c .step .ensures) in
-    (rw q (p .ready), omega (arith, L .inv .1, s .1), rw q (sym (rw left at (p .same (a .late) (L .left - f .1 .1 .0))) ∙ L .inv .2))
+    let size : f .1 .1 .0 * f .1 .0 ≤ mostAmount * mostEvents = rw (c .before .brought .ensures .0, c .before .before .wide2 .ensures .0) at (c .before .brought .ensures .1) in
+    let alone : f .0 ≡ 3 → f .1 .1 .0 * f .1 .0 ≤ mostAmount = λ e. by-cases (s .0 .alone) (λ one. rw one (omega (arith, stood-bound (a .runs) (a .limits .mtu) (a .s .now) (L .at) _ _ _ _ (λ j. bytes j .fits) (s .0)))) (λ tick. absurd (omega arith)) in
+    let steady = step-steady (a .limits .hi - a .limits .lo) (f .0) (f .1 .1 .0 * f .1 .0) (L .t) alone (omega (arith, i .0 .within .level-min, i .0 .few, size)) (i .0 .within .peak-min) (i .1) in
+    let q : c .step .result ≡ stepOf (a .limits .hi - a .limits .lo) (f .0) (f .1 .1 .0 * f .1 .0) (L .t) =
+    rw (← c .before .before .before .wide .ensures .0, ← c .before .before .wide2 .ensures .0, ← c .before .brought .ensures .0) (c .step .ensures) in
+    (rw q (p .ready), rw q steady, omega (arith, i .2, s .1), i .3, omega (arith, i .4, s .0 .further), s .0 .fits, omega arith, rw q (sym (rw left at (p .same (a .late) (L .left - f .1 .1 .0))) ∙ i .7))
 
 enum-told : tie.Need-enum-told Inv-loop μ-loop
 enum-told c = search needs
 
-finish-requires : tie.Need-finish-requires Inv-loop μ-loop
-finish-requires c κs =
-    let L = c .before .before .before .loop in
-    within-more (L .n) mostEvents (L .t) (L .inv .0 .few) (L .inv .0 .within)
-
-signed-requires : tie.Need-signed-requires Inv-loop μ-loop
-signed-requires c κs =
-    let L = c .before .before .before .before .loop in
-    let a = c .before .before .before .before .before .before .before .before .args in
-    let few = L .inv .0 .few in
-    let deep = depth-max (a .limits) (L .n) (L .t) (L .inv .0) in
-    rw (c .finish .ensures) (omega arith, omega arith)
+summed-requires : tie.Need-summed-requires Inv-loop μ-loop
+summed-requires c κs = c .before .before .before .before .loop .inv .0
 
 returns : tie.Need-returns Inv-loop μ-loop
 returns c =
     let L = c .before .before .before .before .before .loop in
-    let a = c .before .before .before .before .before .before .before .before .before .args in
-    let e : stepWithin (a .late) (L .left) (a .limits .mtu) (a .s .now) (L .at) ≡ End = cc in
-    let h = end-within (a .late) (L .left) (a .limits .mtu) (a .s .now) (L .at) e in
-    ap Summed (c .signed .ensures ∙ ap signedFrom (c .before .finish .ensures))
-    ∙ sym (rest-end (a .limits) (L .n) (L .t) (L .inv .0) (a .late) (L .left) (a .s .now) (L .at) h)
-    ∙ L .inv .2
+    let a = c .before .before .before .before .before .before .before .before .before .before .args in
+    let e : itemWithin (a .runs) (a .late) (L .left) (a .limits .mtu) (a .s .now) (L .at) ≡ End = cc in
+    let h = end-within (a .runs) (a .late) (L .left) (a .limits .mtu) (a .s .now) (L .at) e in
+    c .summed .ensures
+    ∙ sym (rest-end (a .limits) (L .n) (L .t) (L .inv .0) (a .runs) (a .late) (L .left) (a .s .now) (L .at) h)
+    ∙ L .inv .7
 
 enum-known-fault : tie.Need-enum-known-fault Inv-loop μ-loop
 enum-known-fault c = search needs
 
 returns-2 : tie.Need-returns-2 Inv-loop μ-loop
 returns-2 c =
-    let L = c .before .before .before .before .loop in
-    let a = c .before .before .before .before .before .before .before .before .args in
-    let e : stepWithin (a .late) (L .left) (a .limits .mtu) (a .s .now) (L .at) ≡ Faulty (c .before .fault .given .0 .0) = cc in
-    sym (rest-faulty (a .late) (a .limits) (L .left) (L .n) (L .t) (a .s .now) (L .at) _ e) ∙ L .inv .2
+    let L = c .before .before .before .before .before .loop in
+    let a = c .before .before .before .before .before .before .before .before .before .before .args in
+    let e : itemWithin (a .runs) (a .late) (L .left) (a .limits .mtu) (a .s .now) (L .at) ≡ Faulty (c .before .fault .given .0 .0) = cc in
+    sym (rest-faulty (a .runs) (a .late) (a .limits) (L .left) (L .n) (L .t) (a .s .now) (L .at) _ e) ∙ L .inv .7
+
+returns-3 : tie.Need-returns-3 Inv-loop μ-loop
+returns-3 c =
+    let L = c .before .loop in
+    let i = L .inv in
+    let a = c .before .before .before .before .before .before .args in
+    let left : a .far .n + a .budget - L .n ≡ L .left = omega (arith, i .2) in
+    record {
+      further = omega (arith, i .4);
+      within = i .5;
+      few = omega (arith, i .2);
+      ready = i .0;
+      steady = i .1;
+      same = rw left (i .7);
+    }
 
 pub walk-spec : {M : Type 1} → statement M
 walk-spec =
@@ -147,18 +169,19 @@ walk-spec =
     loop-holds
     event-within-requires
     enum-known-kind
+    cast-many
     wide-requires
     wide-requires-2
+    brought-requires
     step-requires
-    cast-n
     add-n
-    cast-left
     sub-left
+    add-k
     loop-less
     loop-again
     enum-told
-    finish-requires
-    signed-requires
+    summed-requires
     returns
     enum-known-fault
-    returns-2)
+    returns-2
+    returns-3)

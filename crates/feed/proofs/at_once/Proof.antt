@@ -1,51 +1,53 @@
--- A number above 0 comes from the last return alone.
+-- The first try ends behind the last six bytes that stand whole, the second where the items end; each is joined as it is.
 -- Assumes nothing.
 use mathlib.Core.Path.{sym, _∙_}
-use borrow.Author.Tests.{not-false}
 use native.Mathlib.Omega.{arith}
+use lib.Seq.{length-take-le}
 use borrow.Author.Needs.{needs}
 use Rattle.feed.proofs.at_once.Statement.{statement}
 use Rattle.feed.proofs.at_once.Tie as tie
 
-returns : tie.Need-returns
-returns c = λ h. absurd (omega arith)
+mul-end : tie.Need-mul-end
+mul-end c = search needs
 
-in-range-requires : tie.Need-in-range-requires
-in-range-requires c κs = search needs
+slice-aggregate-with-items : tie.Need-slice-aggregate-with-items
+slice-aggregate-with-items c = sym (length-take-le _ _ (omega arith))
+
+with-items-requires : tie.Need-with-items-requires
+with-items-requires c κs = search needs
+
+enum-known-all : tie.Need-enum-known-all
+enum-known-all c = search needs
+
+enum-told : tie.Need-enum-told
+enum-told c = search needs
+
+items-end-requires : tie.Need-items-end-requires
+items-end-requires c κs = search needs
+
+slice-aggregate-with-items-2 : tie.Need-slice-aggregate-with-items-2
+slice-aggregate-with-items-2 c = sym (length-take-le _ _ (c .before .items-end .ensures .1))
+
+with-items-requires-2 : tie.Need-with-items-requires-2
+with-items-requires-2 c κs = search needs
+
+returns : tie.Need-returns
+returns c = record { some = omega arith; within = omega arith; same = sym (c .before .all .given .1) ∙ c .before .before .before .with-items .ensures }
 
 returns-2 : tie.Need-returns-2
-returns-2 c = λ h. absurd (omega arith)
-
-cast-may-come : tie.Need-cast-may-come
-cast-may-come c = search needs
-
-may-come-requires : tie.Need-may-come-requires
-may-come-requires c κs = search needs
-
-lesser-requires : tie.Need-lesser-requires
-lesser-requires c κs = search needs
-
-less-requires : tie.Need-less-requires
-less-requires c κs = search needs
-
-returns-3 : tie.Need-returns-3
-returns-3 c =
-    λ h. record {
-      begins = omega (arith, c .before .before .before .before .before .before .if1 .left);
-      sound = sym (c .before .before .before .before .before .in-range .ensures) ∙ not-false _ (c .before .before .before .before .if2 .left);
-      few = omega (arith, c .before .before .may-come .ensures);
-      fits = omega arith;
-    }
+returns-2 c = search needs
 
 pub at-once-spec : {M : Type 1} → statement M
 at-once-spec =
     tie.close
     (tie.spec
+    mul-end
+    slice-aggregate-with-items
+    with-items-requires
+    enum-known-all
+    enum-told
+    items-end-requires
+    slice-aggregate-with-items-2
+    with-items-requires-2
     returns
-    in-range-requires
-    returns-2
-    cast-may-come
-    may-come-requires
-    lesser-requires
-    less-requires
-    returns-3)
+    returns-2)

@@ -1,8 +1,17 @@
 -- Each arm is a row of the definition, by the stage and by what was read of the bytes held.
 -- Assumes nothing.
-use mathlib.Core.Path.{sym, ap, _∙_}
-use Rattle.feed.specs.Feed.{stageOf}
-use Rattle.feed.proofs.Rows.{next-settings, next-unreadable, next-stands, next-end, next-faulty, next-stopped}
+use Prim.Native.Nat.{ℕ, _-_}
+use mathlib.Core.List.{List}
+use mathlib.Core.Path.{_≡_, sym, ap, _∙_}
+use native.Mathlib.Omega.{arith}
+use lib.ListN.{take}
+use lib.Seq.{length-take-le}
+use Rattle.shaper.specs.Limits.{mostEvents}
+use Rattle.summary.specs.declared.Summary.{Summary}
+use Rattle.summary.specs.Answer.{joinNext}
+use Rattle.record.specs.Step.{stepWithin}
+use Rattle.feed.specs.Feed.{stageOf, itemSize}
+use Rattle.feed.proofs.Rows.{size-within, next-settings, next-unreadable, next-stands, next-end, next-faulty, next-stopped}
 use borrow.Author.Needs.{needs}
 use Rattle.feed.proofs.next_stage.Statement.{statement}
 use Rattle.feed.proofs.next_stage.Tie as tie
@@ -31,20 +40,23 @@ enum-known-n c = search needs
 enum-known-stage : tie.Need-enum-known-stage
 enum-known-stage c = search needs
 
-sub-event-within : tie.Need-sub-event-within
-sub-event-within c = search needs
+held-size-requires : tie.Need-held-size-requires
+held-size-requires c κs = search needs
 
-part-event-within-start : tie.Need-part-event-within-start
-part-event-within-start c = search needs
-
-part-event-within-end : tie.Need-part-event-within-end
-part-event-within-end c = search needs
+cast-end : tie.Need-cast-end
+cast-end c = search needs
 
 cast-may-come : tie.Need-cast-may-come
 cast-may-come c = search needs
 
 may-come-requires : tie.Need-may-come-requires
 may-come-requires c κs = search needs
+
+array-share-prefix-bytes : tie.Need-array-share-prefix-bytes
+array-share-prefix-bytes c = omega (arith, size-within _ _ (c .before .before .held-size .ensures))
+
+slice-aggregate-event-within : tie.Need-slice-aggregate-event-within
+slice-aggregate-event-within c = sym (length-take-le _ _ (omega (arith, size-within _ _ (c .before .before .before .held-size .ensures), c .before .before .before .before .before .before .before .good .1)))
 
 event-within-requires : tie.Need-event-within-requires
 event-within-requires c κs = search needs
@@ -54,6 +66,9 @@ enum-known-kind c = search needs
 
 counted-requires : tie.Need-counted-requires
 counted-requires c κs = search needs
+
+join-next-requires : tie.Need-join-next-requires
+join-next-requires c κs = search needs
 
 stage-of-requires-2 : tie.Need-stage-of-requires-2
 stage-of-requires-2 c κs = search needs
@@ -67,6 +82,20 @@ enum-known-n-2 c = search needs
 enum-known-stage-2 : tie.Need-enum-known-stage-2
 enum-known-stage-2 c = search needs
 
+-- among the events: the item that was read
+abbrev sum : tie.After-event-within → Summary
+sum c = c .before .before .before .before .before .before .stage .given .0 .0
+
+abbrev held : tie.After-event-within → List ℕ
+held c = c .before .before .before .before .before .before .before .before .args .t2
+
+seen : (c : tie.After-event-within) →
+    c .event-within .result ≡ stepWithin 9 (mostEvents - sum c .events) (sum c .limits .mtu) (take (itemSize (held c)) (held c)) 0
+seen c =
+    c .event-within .ensures
+    ∙ ap (λ n. stepWithin 9 n (sum c .limits .mtu) (take (c .before .before .before .before .held-size .result) (held c)) 0) (c .before .before .may-come .ensures)
+    ∙ ap (λ n. stepWithin 9 (mostEvents - sum c .events) (sum c .limits .mtu) (take n (held c)) 0) (c .before .before .before .before .held-size .ensures)
+
 returns : tie.Need-returns
 returns c =
     let read = sym (c .before .before .before .before .before .header-of .ensures) ∙ c .before .before .before .limits .given .1 in
@@ -79,23 +108,16 @@ returns-2 c = sym (next-unreadable _ _ _ (c .before .before .before .before .bef
 
 returns-3 : tie.Need-returns-3
 returns-3 c =
-    let read = sym (c .before .before .before .before .before .event-within .ensures) ∙ c .before .before .before .kind .given .1 in
-    let left = c .before .before .before .before .before .before .may-come .ensures in
+    let at = c .before .before .before .before .before .before in
     c .stage-of2 .ensures
-    ∙ ap stageOf (c .before .counted .ensures)
-    ∙ sym (next-stands _ _ _ _ _ _ _ (c .before .before .before .before .before .before .before .before .before .before .before .stage .given .1) (rw left at read))
+    ∙ ap stageOf (c .before .join-next .ensures ∙ ap (joinNext _) (c .before .before .counted .ensures))
+    ∙ sym (next-stands _ _ _ (at .before .before .before .before .before .before .stage .given .1) _ _ _ _ (sym (seen at) ∙ c .before .before .before .before .kind .given .1))
 
 returns-4 : tie.Need-returns-4
-returns-4 c =
-    let read = sym (c .before .before .event-within .ensures) ∙ c .enum-told2 .given .1 in
-    let left = c .before .before .before .may-come .ensures in
-    sym (next-end _ _ _ (c .before .before .before .before .before .before .before .before .stage .given .1) (rw left at read))
+returns-4 c = sym (next-end _ _ _ (c .before .before .before .before .before .before .before .before .stage .given .1) (sym (seen (c .before .before)) ∙ c .enum-told2 .given .1))
 
 returns-5 : tie.Need-returns-5
-returns-5 c =
-    let read = sym (c .before .before .before .event-within .ensures) ∙ c .before .n2 .given .1 in
-    let left = c .before .before .before .before .may-come .ensures in
-    sym (next-faulty _ _ _ _ (c .before .before .before .before .before .before .before .before .before .stage .given .1) (rw left at read))
+returns-5 c = sym (next-faulty _ _ _ (c .before .before .before .before .before .before .before .before .before .stage .given .1) _ (sym (seen (c .before .before .before)) ∙ c .before .n2 .given .1))
 
 returns-6 : tie.Need-returns-6
 returns-6 c = sym (next-stopped _ _ _ (c .before .stage2 .given .1))
@@ -112,14 +134,16 @@ next-stage-spec =
     stage-of-requires
     enum-known-n
     enum-known-stage
-    sub-event-within
-    part-event-within-start
-    part-event-within-end
+    held-size-requires
+    cast-end
     cast-may-come
     may-come-requires
+    array-share-prefix-bytes
+    slice-aggregate-event-within
     event-within-requires
     enum-known-kind
     counted-requires
+    join-next-requires
     stage-of-requires-2
     enum-told-2
     enum-known-n-2

@@ -1,26 +1,44 @@
--- Each return is a row of what stands at a place; the fields' fault is that of the place.
+-- Each return is a row of what stands at a place: of an event, or of a run where runs may stand.
 -- Assumes nothing.
-use mathlib.Core.Path.{sym}
+use mathlib.Core.Bool.{true, false, _&&_}
+use mathlib.Core.Path.{_≡_, sym, _∙_}
 use native.Mathlib.Omega.{arith}
-use Rattle.record.proofs.Rows.{event-end, event-short, event-faulty, event-stands}
+use borrow.Author.Tests.{eqb-true}
+use lib.Dec.{eqb}
+use lib.ListN.{drop}
+use Rattle.decide.specs.Test.{both}
+use Rattle.record.specs.Read.{isRun}
+use Rattle.record.proofs.Rows.{run-flag, item-end, item-short, event-faulty, event-stands}
 use borrow.Author.Needs.{needs}
 use Rattle.record.proofs.event_at.Statement.{statement}
 use Rattle.record.proofs.event_at.Tie as tie
 
 returns : tie.Need-returns
-returns c = sym (event-end _ _ _ (c .if1 .taken))
+returns c = sym (item-end _ _ _ _ (c .if1 .taken))
 
 sub-if2 : tie.Need-sub-if2
 sub-if2 c = search needs
 
 returns-2 : tie.Need-returns-2
-returns-2 c = sym (event-short _ _ _ (search needs) (omega arith))
+returns-2 c = sym (item-short _ _ _ _ (omega arith) (omega arith))
+
+add-get16 : tie.Need-add-get16
+add-get16 c = search needs
 
 get16-requires : tie.Need-get16-requires
 get16-requires c κs = search needs
 
-add-get16 : tie.Need-add-get16
-add-get16 c = search needs
+run-at-requires : tie.Need-run-at-requires
+run-at-requires c κs =
+    let a = c .before .before .before .before .before .args in
+    let k = eqb-true (c .before .get16 .result) 4 (both (a .runs) (eqb (c .before .get16 .result) 4) (c .if3 .taken) .1) in
+    (omega arith, sym (c .before .get16 .ensures) ∙ k)
+
+returns-3 : tie.Need-returns-3
+returns-3 c =
+    let a = c .before .before .before .before .before .before .args in
+    let r : a .runs ≡ true = both (a .runs) (eqb (c .before .before .get16 .result) 4) (c .before .if3 .taken) .0 in
+    c .run-at .ensures ∙ rw r
 
 get16-requires-2 : tie.Need-get16-requires-2
 get16-requires-2 c κs = search needs
@@ -34,21 +52,23 @@ get16-requires-3 c κs = search needs
 fault-requires : tie.Need-fault-requires
 fault-requires c κs = search needs
 
-returns-3 : tie.Need-returns-3
-returns-3 c =
-    let a = c .before .before .before .before .before .before .before .before .args in
-    sym (event-faulty (a .mtu) (a .s .now) (a .at) _ (omega arith) (cc) (c .if3 .taken))
-
-cast-t10 : tie.Need-cast-t10
-cast-t10 c = search needs
-
-add-t8 : tie.Need-add-t8
-add-t8 c = search needs
-
 returns-4 : tie.Need-returns-4
 returns-4 c =
-    let a = c .before .before .before .before .before .before .before .before .args in
-    let g = event-stands (a .mtu) (a .s .now) (a .at) (omega arith) (cc) in cc
+    let a = c .before .before .before .before .before .before .before .before .before .args in
+    let r : (a .runs && isRun (drop (a .at) (a .s .now))) ≡ false =
+    rw (run-flag (a .s .now) (a .at), ← c .before .before .before .before .before .get16 .ensures) (c .before .before .before .before .if3 .left) in
+    sym (event-faulty (a .runs) (a .mtu) (a .s .now) (a .at) r _ (omega arith) (cc) (c .if4 .taken))
+
+cast-t9 : tie.Need-cast-t9
+cast-t9 c = search needs
+
+add-t11 : tie.Need-add-t11
+add-t11 c = search needs
+
+returns-5 : tie.Need-returns-5
+returns-5 c =
+    let a = c .before .before .before .before .before .before .before .before .before .args in
+    let g = event-stands (a .runs) (a .mtu) (a .s .now) (a .at) (omega arith) (cc) in cc
 
 pub event-at-spec : {M : Type 1} → statement M
 event-at-spec =
@@ -57,13 +77,15 @@ event-at-spec =
     returns
     sub-if2
     returns-2
-    get16-requires
     add-get16
+    get16-requires
+    run-at-requires
+    returns-3
     get16-requires-2
     add-get16-2
     get16-requires-3
     fault-requires
-    returns-3
-    cast-t10
-    add-t8
-    returns-4)
+    returns-4
+    cast-t9
+    add-t11
+    returns-5)

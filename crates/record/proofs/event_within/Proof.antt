@@ -19,7 +19,7 @@ cast-if1 c = search needs
 returns : tie.Need-returns
 returns c =
     let e = sym (c .before .before .before .before .event-at .ensures) ∙ c .before .before .kind .given .1 in
-    sym (within-over _ _ _ _ _ _ _ _ _ e (c .if1 .taken))
+    sym (within-over _ _ _ _ _ _ _ _ _ _ e (c .if1 .taken))
 
 enum-told : tie.Need-enum-told
 enum-told c = search needs
@@ -30,20 +30,20 @@ enum-known-fault c = search needs
 returns-2 : tie.Need-returns-2
 returns-2 c =
     let e = sym (c .before .before .before .before .event-at .ensures) ∙ c .before .before .fault .given .1 in
-    sym (within-none _ _ _ _ _ _ e (c .if2 .taken))
+    sym (within-none _ _ _ _ _ _ _ e (c .if2 .taken))
 
 returns-3 : tie.Need-returns-3
 returns-3 c =
     let e = sym (c .before .before .before .before .event-at .ensures) ∙ c .before .before .kind .given .1 in
-    sym (within-stands _ _ _ _ _ _ _ _ _ e (omega arith))
+    sym (within-stands _ _ _ _ _ _ _ _ _ _ e (omega arith))
 
 returns-4 : tie.Need-returns-4
-returns-4 c = sym (within-end _ _ _ _ _ (sym (c .before .before .event-at .ensures) ∙ c .enum-told .given .1))
+returns-4 c = sym (within-end _ _ _ _ _ _ (sym (c .before .before .event-at .ensures) ∙ c .enum-told .given .1))
 
 returns-5 : tie.Need-returns-5
 returns-5 c =
     let e = sym (c .before .before .before .before .event-at .ensures) ∙ c .before .before .fault .given .1 in
-    sym (within-faulty _ _ _ _ _ _ e (omega (arith, c .if2 .left)))
+    sym (within-faulty _ _ _ _ _ _ _ e (omega (arith, c .if2 .left)))
 
 pub event-within-spec : {M : Type 1} → statement M
 event-within-spec =

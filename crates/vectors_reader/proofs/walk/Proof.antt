@@ -1,6 +1,7 @@
--- The place grows by an event's bytes and stays within the record, so what is left of the record falls; and no more than a million events are passed.
+-- The place grows by an item's bytes and stays within the record, so what is left of the record falls; and no more than a million events are passed.
 -- Assumes nothing.
 use Prim.Native.Nat.{_+_, _-_, _≤_}
+use mathlib.Core.Bool.{true}
 use mathlib.Core.Path.{sym, _∙_}
 use native.Mathlib.Omega.{arith}
 use borrow.Author.Needs.{needs}
@@ -27,15 +28,15 @@ read-at-requires c κs = search needs
 enum-known-kind : tie.Need-enum-known-kind Inv-loop μ-loop
 enum-known-kind c = search needs
 
-event-requires : tie.Need-event-requires Inv-loop μ-loop
-event-requires c κs = search needs
+events-requires : tie.Need-events-requires Inv-loop μ-loop
+events-requires c κs = search needs
 
 -- the item that was read stands at its place
 found : (c : tie.After-struct-known Inv-loop μ-loop) →
     let p = c .before .before .before .before .before .before .loop .place in
     let xs = c .before .before .before .before .before .before .before .before .args .bytes .now in
     let f = c .before .before .before .kind .given .0 in
-    Stood (limitsAt xs .mtu) xs (p .at) (f .0) (f .1 .0) (f .1 .1 .0) (f .1 .1 .1 .0) × (p .done + f .1 .1 .0 ≤ mostEvents)
+    Stood true (limitsAt xs .mtu) xs (p .at) (f .0) (f .1 .0) (f .1 .1 .0) (f .1 .1 .1 .0) × (p .done + f .1 .1 .0 ≤ mostEvents)
 found c = next-stands _ _ _ _ _ _ (sym (c .before .before .before .before .before .read-at .ensures) ∙ c .before .before .before .kind .given .1)
 
 cast-t12 : tie.Need-cast-t12 Inv-loop μ-loop
@@ -45,7 +46,7 @@ add-t13 : tie.Need-add-t13 Inv-loop μ-loop
 add-t13 c = omega (arith, found c .1)
 
 loop-less : tie.Need-loop-less Inv-loop μ-loop
-loop-less c = omega (arith, found c .0 .six, found c .0 .fits)
+loop-less c = omega (arith, found c .0 .further, found c .0 .fits)
 
 loop-again : tie.Need-loop-again Inv-loop μ-loop
 loop-again c = search needs
@@ -83,7 +84,7 @@ walk-spec =
     loop-holds
     read-at-requires
     enum-known-kind
-    event-requires
+    events-requires
     cast-t12
     add-t13
     loop-less

@@ -8,14 +8,15 @@
 //! Prints how often each thing came up. Ends with 1 on the first difference, or where something
 //! never came up. The last round's files stay in FOLDER.
 
-use model::command::{self, File, Given, Said, Shown};
+use model::command::{self, File, Given, Mover, Said, Shown};
+use model::item::Listed;
 use model::random::Random;
-use model::record::{self, Record, EVENT_LENGTH, HEADER_LENGTH, MOST_EVENTS};
+use model::record::{self, Form, EVENT_LENGTH, HEADER_LENGTH, MOST_EVENTS};
 use model::refusal::Refusal;
 use model::report::Outcome;
 use model::summary::Summary;
 use model::trial::{self, Seen};
-use model::{host, make, make_text};
+use model::{host, make, make_broken, make_runs, make_text};
 use std::env;
 use std::fs;
 use std::io::Write;
@@ -37,6 +38,14 @@ const WAYS: &[Way] = &[
     }),
     ("a long record", long),
     ("a long record with a fault", long_fault),
+    ("a record with runs", |random, _| {
+        make_runs::with_run(random).to_bytes()
+    }),
+    ("a record with a broken run", make_broken::in_turn),
+    ("a long record with runs", long_runs),
+    ("a long record with runs and a fault", |random, turn| {
+        faulty(random, turn, long_runs)
+    }),
 ];
 
 /// The ways that are taken once.
@@ -46,6 +55,14 @@ const MILLIONS: &[Way] = &[
     }),
     ("a million events and a byte", |random, _| {
         let mut bytes = make::long_record(random, MOST_EVENTS).to_bytes();
+        bytes.push(random.word() as u8);
+        bytes
+    }),
+    ("a million events in runs", |random, _| {
+        make_runs::million(random).to_bytes()
+    }),
+    ("a million events in runs and a byte", |random, _| {
+        let mut bytes = make_runs::million(random).to_bytes();
         bytes.push(random.word() as u8);
         bytes
     }),
@@ -74,6 +91,9 @@ const OUTCOMES: &[&str] = &[
     "join: refused 9",
 ];
 
+/// The same of each mover.
+const MOVED: [&str; 5] = ["done", "refused 1", "refused 2", "refused 3", "refused 9"];
+
 fn whole(random: &mut Random) -> Vec<u8> {
     make::some(random).to_bytes()
 }
@@ -83,11 +103,20 @@ fn long(random: &mut Random, turn: usize) -> Vec<u8> {
     make::mixed_record(random, length).to_bytes()
 }
 
+fn long_runs(random: &mut Random, turn: usize) -> Vec<u8> {
+    make_runs::long(random, LENGTHS[turn % LENGTHS.len()]).to_bytes()
+}
+
 fn long_fault(random: &mut Random, turn: usize) -> Vec<u8> {
+    faulty(random, turn, long)
+}
+
+/// One that is made so, and damaged.
+fn faulty(random: &mut Random, turn: usize, make: fn(&mut Random, usize) -> Vec<u8>) -> Vec<u8> {
     loop {
-        let mut bytes = long(random, turn);
+        let mut bytes = make(random, turn);
         make::damage(random, &mut bytes);
-        if record::read(&bytes).is_err() {
+        if record::read(&bytes, Form::Either).is_err() {
             return bytes;
         }
     }
@@ -109,7 +138,9 @@ impl Trial {
             self.summarized(&bytes, Given::Bytes, shown)?;
             self.summarized(&text, Given::Text, shown)?;
         }
-        let found = record::read(&bytes);
+        self.moved(&bytes, Mover::Roll)?;
+        self.moved(&bytes, Mover::Unroll)?;
+        let found = record::read_items(&bytes, Form::Either);
         // A record's own 2 and that of the text have words of their own: one of them at a time.
         if found != Err(Refusal::Bytes) {
             let mut text = text;
@@ -127,36 +158,53 @@ impl Trial {
 
     /// `rpr summarize` on this input.
     fn summarized(&mut self, input: &[u8], given: Given, shown: Shown) -> Outcome<Vec<u8>> {
-        let brought = self.random.pick(&BROUGHT);
-        let file = self.write("record", input)?;
-        let mut words: Vec<&str> = Vec::new();
+        let mut words = vec!["summarize"];
         words.extend((given == Given::Bytes).then_some("--bytes"));
         words.extend((shown == Shown::Sheet).then_some("--sheet"));
+        self.brought(&words, input, |file| command::summarize(file, given, shown))
+    }
+
+    /// `rpr roll` or `rpr unroll` on this input.
+    fn moved(&mut self, input: &[u8], mover: Mover) -> Outcome<Vec<u8>> {
+        self.brought(&[mover.name()], input, |file| command::moved(file, mover))
+    }
+
+    /// A command and its options on this input, brought in any way; what it printed.
+    fn brought(
+        &mut self,
+        command: &[&str],
+        input: &[u8],
+        said: impl Fn(&File) -> Said,
+    ) -> Outcome<Vec<u8>> {
+        let brought = self.random.pick(&BROUGHT);
+        let file = self.write("record", input)?;
         let name = match brought {
             "by name" => file.as_str(),
             _ => "standard input",
         };
+        let mut words = command[1..].to_vec();
         words.extend(match brought {
             "by name" => Some(file.as_str()),
             "by -" => Some("-"),
             _ => None,
         });
         self.shuffle(&mut words);
-        words.insert(0, "summarize");
+        words.insert(0, command[0]);
         let got = match brought {
             "by name" => self.ran(&words, Stdio::null(), None)?,
             "through a pipe" => self.ran(&words, Stdio::piped(), Some(input))?,
             _ => self.ran(&words, open(&file)?, None)?,
         };
-        let expected = command::summarize(&(name.to_string(), input.to_vec()), given, shown);
-        self.hold("summarize", &words, &expected, &got)?;
+        let expected = said(&(name.to_string(), input.to_vec()));
+        self.hold(command[0], &words, &expected, &got)?;
         self.seen.add(brought);
         Ok(got.stdout)
     }
 
-    /// The record cut in 1 to 20 pieces, each summarized on its own: joined, the whole's summary.
-    fn pieces(&mut self, record: &Record) -> Outcome<()> {
-        let events = record.events.len();
+    /// The record cut in 1 to 20 pieces, inside runs too, each summarized on its own: joined, the
+    /// whole's summary.
+    fn pieces(&mut self, record: &Listed) -> Outcome<()> {
+        let events = record.events();
         let count = self.random.below(20);
         let mut ends: Vec<usize> = (0..count).map(|_| self.random.below(events + 1)).collect();
         ends.extend([0, events]);
@@ -295,7 +343,11 @@ fn run(trial: &mut Trial, rounds: usize) -> Outcome<()> {
 fn required() -> Vec<String> {
     let ways = WAYS.iter().chain(MILLIONS).map(|(name, _)| *name);
     let names = ways.chain(BROUGHT).chain(OUTCOMES.iter().copied());
-    names.map(str::to_string).collect()
+    let mut names: Vec<String> = names.map(str::to_string).collect();
+    for mover in [Mover::Roll, Mover::Unroll].map(Mover::name) {
+        names.extend(MOVED.map(|outcome| format!("{mover}: {outcome}")));
+    }
+    names
 }
 
 fn main() -> ExitCode {

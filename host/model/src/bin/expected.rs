@@ -3,6 +3,8 @@
 //! `expected summarize [--bytes] < INPUT`: what summarize prints for this input, which is hex
 //! text, or with --bytes a record's bytes.
 //! `expected sheet [--bytes] < INPUT`: the 48 bytes of its summary; of a refusal nothing.
+//! `expected roll < RECORD`, `expected unroll < RECORD`: the bytes of this record, moved; of a
+//! refusal nothing.
 //! `expected join [--sheet] FILE..`: what join prints for these files of 48 bytes.
 //! `expected vectors < CASES`: what the vectors program prints for this case file.
 //! `expected ring < CASES`: what each call of this case file answers.
@@ -13,7 +15,7 @@
 //! `expected bytes NAME < CASES`: the bytes of the case of this name.
 //! `expected night SEED EVENTS`: the bytes of a random record of a shaper that was kept to.
 
-use model::command::{self, File, Given, Shown};
+use model::command::{self, File, Given, Mover, Shown};
 use model::random::Random;
 use model::station_script::Script;
 use model::{cases, compare, entry_script, make, ring_cases, walk};
@@ -22,17 +24,24 @@ use std::fs;
 use std::io::{self, BufRead, Read, Write};
 use std::process::ExitCode;
 
-const USAGE: &str = "usage: expected summarize|sheet [--bytes], \
+const USAGE: &str = "usage: expected summarize|sheet [--bytes], expected roll|unroll, \
                      expected vectors|ring|walk|station|entry, \
                      expected compare FIRST SECOND, expected join [--sheet] FILE.., \
                      expected bytes NAME, expected night SEED EVENTS";
 
-fn summarize(given: Given, shown: Shown) -> Result<(), String> {
+fn input() -> Result<File, String> {
     let mut input = Vec::new();
     let read = io::stdin().lock().read_to_end(&mut input);
     read.map_err(|fault| fault.to_string())?;
-    let input = ("standard input".to_string(), input);
-    write_bytes(&command::summarize(&input, given, shown).output)
+    Ok(("standard input".to_string(), input))
+}
+
+fn summarize(given: Given, shown: Shown) -> Result<(), String> {
+    write_bytes(&command::summarize(&input()?, given, shown).output)
+}
+
+fn moved(mover: Mover) -> Result<(), String> {
+    write_bytes(&command::moved(&input()?, mover).output)
 }
 
 fn join(names: &[&str], shown: Shown) -> Result<(), String> {
@@ -113,6 +122,8 @@ fn main() -> ExitCode {
         ["summarize", "--bytes"] => summarize(Given::Bytes, Shown::Lines),
         ["sheet"] => summarize(Given::Text, Shown::Sheet),
         ["sheet", "--bytes"] => summarize(Given::Bytes, Shown::Sheet),
+        ["roll"] => moved(Mover::Roll),
+        ["unroll"] => moved(Mover::Unroll),
         ["vectors"] => vectors(),
         ["ring"] => lines(ring_cases::print),
         ["walk"] => lines(walk::print),

@@ -9,7 +9,8 @@
 //! outcome never came up.
 
 use model::command::{self, File, Said};
-use model::make_pair::{Way, MILLIONS, WAYS};
+use model::compare;
+use model::make_pair::{self, Way};
 use model::random::Random;
 use model::record;
 use model::refusal::Refusal;
@@ -83,7 +84,8 @@ impl Trial {
 
 /// Every way and every outcome.
 fn required() -> Vec<String> {
-    let ways = WAYS.iter().chain(MILLIONS).map(|(name, _)| *name);
+    let ways = make_pair::ways().concat();
+    let ways = ways.iter().map(|(name, _)| *name);
     let names = ways.chain(OUTCOMES.iter().copied()).map(str::to_string);
     let both = (1..=3).flat_map(|one| (1..=3).map(move |other| both_refused(one, other)));
     names.chain(both).collect()
@@ -95,7 +97,11 @@ fn both_refused(first: u8, second: u8) -> String {
 
 /// What came up with a pair.
 fn outcomes([(_, first), (_, second)]: &[File; 2], said: &Said) -> BTreeSet<String> {
-    let number = |bytes| record::read(bytes).err().map(Refusal::number);
+    let number = |bytes| {
+        record::read(bytes, compare::FORM)
+            .err()
+            .map(Refusal::number)
+    };
     match (number(first), number(second)) {
         (None, None) => listed(&String::from_utf8_lossy(&said.output)),
         (Some(one), None) => [format!("first refused {one}")].into(),
@@ -136,8 +142,9 @@ fn difference(line: &str) -> &'static str {
 
 /// Every pair.
 fn run(trial: &mut Trial, pairs: usize) -> Outcome<()> {
-    let ways = (0..pairs).map(|turn| (&WAYS[turn % WAYS.len()], turn / WAYS.len()));
-    for (turn, (way, before)) in ways.chain(MILLIONS.iter().map(|way| (way, 0))).enumerate() {
+    let [ways, once] = make_pair::ways();
+    let again = (0..pairs).map(|turn| (&ways[turn % ways.len()], turn / ways.len()));
+    for (turn, (way, before)) in again.chain(once.iter().map(|way| (way, 0))).enumerate() {
         trial
             .run(way, before)
             .map_err(|fault| format!("pair {turn}, {fault}"))?;

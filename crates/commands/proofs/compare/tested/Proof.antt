@@ -1,32 +1,29 @@
--- The windows keep their length; the turns are counted up to the most windows of a record.
+-- The windows keep their lengths, and what each holds lies within it; the turns are counted up to the most windows of a record.
 -- Assumes nothing.
-use mathlib.Core.Path.{_≡_, sym}
-use Prim.Native.Nat.{ℕ, _-_}
+use mathlib.Core.Path.{_≡_}
+use Prim.Native.Nat.{ℕ, _-_, _≤_}
 use lib.ListN.{length, length-replicate}
 use borrow.Author.Needs.{needs}
 use Rattle.commands.proofs.compare.tested.Statement.{statement}
 use Rattle.commands.proofs.compare.tested.Tie as tie
 
 abbrev Inv-loop : tie.InvT-loop
-Inv-loop a b first₀ second₀ reach₀ k₀ first second reach k = (length first ≡ 30014) × (length second ≡ 30014)
+Inv-loop a b w₀ v₀ reach₀ k₀ w v reach k = (length w ≡ 30000) × (length v ≡ 30000) × (reach .first .end ≤ 30000) × (reach .second .end ≤ 30000)
 
 abbrev μ-loop : tie.MeasureT-loop
-μ-loop a b first₀ second₀ reach₀ k₀ first second reach k = 201 - k
+μ-loop a b w₀ v₀ reach₀ k₀ w v reach k = 201 - k
 
-slice-aggregate-front : tie.Need-slice-aggregate-front Inv-loop μ-loop
-slice-aggregate-front c = sym (length-replicate {A = ℕ} 30014 0)
-
-slice-aggregate-front-2 : tie.Need-slice-aggregate-front-2 Inv-loop μ-loop
-slice-aggregate-front-2 c = sym (length-replicate {A = ℕ} 30014 0)
-
-front-requires : tie.Need-front-requires Inv-loop μ-loop
-front-requires c κs = (length-replicate {A = ℕ} 30014 0, length-replicate {A = ℕ} 30014 0)
+unread-requires : tie.Need-unread-requires Inv-loop μ-loop
+unread-requires c κs = search needs
 
 loop-holds : tie.Need-loop-holds Inv-loop μ-loop
-loop-holds c = search needs
+loop-holds c = (length-replicate {A = ℕ} 30000 0, length-replicate {A = ℕ} 30000 0, search needs, search needs)
 
-goes-on-requires : tie.Need-goes-on-requires Inv-loop μ-loop
-goes-on-requires c κs = tt
+tests-first-requires : tie.Need-tests-first-requires Inv-loop μ-loop
+tests-first-requires c κs = search needs
+
+tests-second-requires : tie.Need-tests-second-requires Inv-loop μ-loop
+tests-second-requires c κs = search needs
 
 returns : tie.Need-returns Inv-loop μ-loop
 returns c = search needs
@@ -58,11 +55,10 @@ tested-spec =
     (tie.spec
     Inv-loop
     μ-loop
-    slice-aggregate-front
-    slice-aggregate-front-2
-    front-requires
+    unread-requires
     loop-holds
-    goes-on-requires
+    tests-first-requires
+    tests-second-requires
     returns
     slice-aggregate-further
     slice-aggregate-further-2

@@ -2,7 +2,7 @@
 -- Assumes nothing.
 use mathlib.Core.Path.{sym, _∙_}
 use native.Mathlib.Omega.{arith}
-use Rattle.feed.proofs.Rows.{byte-heading, byte-over, byte-event, byte-stopped}
+use Rattle.feed.proofs.Rows.{byte-heading, byte-over, byte-item, byte-stopped}
 use borrow.Author.Needs.{needs}
 use Rattle.feed.proofs.Feed.byte.Statement.{statement}
 use Rattle.feed.proofs.Feed.byte.Tie as tie
@@ -22,6 +22,9 @@ stopped-requires c κs = search needs
 returns : tie.Need-returns
 returns c = c .stopped .ensures ∙ sym (byte-over _ _ _ (c .before .before .before .before .stage .given .1) (omega (arith, c .before .if1 .taken)))
 
+held-size-requires : tie.Need-held-size-requires
+held-size-requires c κs = search needs
+
 hold-requires-2 : tie.Need-hold-requires-2
 hold-requires-2 c κs = search needs
 
@@ -32,7 +35,11 @@ returns-2 : tie.Need-returns-2
 returns-2 c = c .hold .ensures ∙ sym (byte-heading _ _ (c .before .enum-told .given .1))
 
 returns-3 : tie.Need-returns-3
-returns-3 c = c .hold2 .ensures ∙ sym (byte-event _ _ _ (c .before .before .before .before .stage .given .1) (omega (arith, c .before .if1 .left)))
+returns-3 c =
+    let left = c .before .before .before in
+    c .hold2 .ensures
+    ∙ rw (c .before .held-size .ensures)
+    (sym (byte-item _ _ _ (left .before .before .before .stage .given .1) (omega (arith, left .if1 .left))))
 
 returns-4 : tie.Need-returns-4
 returns-4 c = sym (byte-stopped _ _ _ (c .enum-told2 .given .1))
@@ -46,6 +53,7 @@ byte-spec =
     enum-known-stage
     stopped-requires
     returns
+    held-size-requires
     hold-requires-2
     enum-told-2
     returns-2

@@ -1,61 +1,84 @@
--- The lead and the rest are the chunk.
+-- What is left of the chunk, fed from here, gives what the whole chunk gives from the start.
 -- Assumes nothing.
-use Prim.Native.Nat.{_-_}
-use mathlib.Core.Path.{sym, ap, _∙_}
+use Prim.Native.Nat.{_+_, _-_, _≤_}
+use mathlib.Core.Path.{_≡_, refl, sym, ap, _∙_}
 use native.Mathlib.Omega.{arith}
-use lib.ListN.{length, take, drop, length-drop, take-append-drop}
-use lib.Seq.{length-take-le, take-all}
+use lib.ListN.{length, drop, length-drop}
+use lib.Seq.{take-all}
 use Rattle.feed.specs.Feed.{fedOf}
-use Rattle.feed.proofs.Promises.{fed-chunks}
-use borrow.Author.Needs.{needs}
+use Rattle.feed.proofs.Rows.{fed-next, fed-end}
 use Rattle.feed.proofs.Feed.feed.Statement.{statement}
 use Rattle.feed.proofs.Feed.feed.Tie as tie
 
-missing-requires : tie.Need-missing-requires
-missing-requires c κs = search needs
+abbrev Inv-loop : tie.InvT-loop
+Inv-loop chunk next₀ i₀ next i = (i ≤ length chunk) × (fedOf next (drop i chunk) ≡ fedOf next₀ chunk)
 
-lesser-requires : tie.Need-lesser-requires
-lesser-requires c κs = search needs
+abbrev μ-loop : tie.MeasureT-loop
+μ-loop chunk next₀ i₀ next i = length chunk - i
 
-slice-aggregate-bytes : tie.Need-slice-aggregate-bytes
-slice-aggregate-bytes c = sym (length-take-le _ _ (omega arith))
+loop-holds : tie.Need-loop-holds Inv-loop μ-loop
+loop-holds c = (omega arith, refl)
 
-bytes-requires : tie.Need-bytes-requires
-bytes-requires c κs = search needs
+is-between-requires : tie.Need-is-between-requires Inv-loop μ-loop
+is-between-requires c κs = tt
 
-sub-events : tie.Need-sub-events
-sub-events c = search needs
+sub-items : tie.Need-sub-items Inv-loop μ-loop
+sub-items c = omega arith
 
-part-events-start : tie.Need-part-events-start
-part-events-start c = search needs
+part-items-start : tie.Need-part-items-start Inv-loop μ-loop
+part-items-start c = omega arith
 
-part-events-end : tie.Need-part-events-end
-part-events-end c = search needs
+part-items-end : tie.Need-part-items-end Inv-loop μ-loop
+part-items-end c = omega arith
 
-events-requires : tie.Need-events-requires
-events-requires c κs = search needs
+items-requires : tie.Need-items-requires Inv-loop μ-loop
+items-requires c κs = tt
 
-returns : tie.Need-returns
+returns : tie.Need-returns Inv-loop μ-loop
 returns c =
-    let a = c .before .before .before .before .before .before .before .args in
-    let lead = c .before .before .before .before .lesser .result in
-    let xs = a .chunk .now in
-    c .events .ensures
-    ∙ ap (λ f. fedOf f (take (length xs - lead) (drop lead xs))) (c .before .before .bytes .ensures)
-    ∙ ap (fedOf (fedOf (a .self) (take lead xs))) (take-all (length xs - lead) (drop lead xs) (omega (arith, length-drop lead xs)))
-    ∙ sym (fed-chunks (a .self) (take lead xs) (drop lead xs))
-    ∙ ap (fedOf (a .self)) (take-append-drop lead xs)
+    let at = c .before .before .before .before .before .loop in
+    let xs = c .before .before .before .before .before .before .before .args .chunk .now in
+    c .items .ensures ∙ ap (fedOf (at .next)) (take-all (length xs - at .i) (drop (at .i) xs) (omega (arith, length-drop (at .i) xs))) ∙ at .inv .1
+
+shared-slice-read-byte : tie.Need-shared-slice-read-byte Inv-loop μ-loop
+shared-slice-read-byte c = omega arith
+
+byte-requires : tie.Need-byte-requires Inv-loop μ-loop
+byte-requires c κs = tt
+
+add-i : tie.Need-add-i Inv-loop μ-loop
+add-i c = omega arith
+
+loop-less : tie.Need-loop-less Inv-loop μ-loop
+loop-less c = omega arith
+
+loop-again : tie.Need-loop-again Inv-loop μ-loop
+loop-again c =
+    let xs = c .before .before .before .before .before .before .before .args .chunk .now in
+    let at = c .before .before .before .before .before .loop in
+    (omega arith, ap (λ f. fedOf f (drop (at .i + 1) xs)) (c .byte .ensures) ∙ sym (fed-next (at .next) xs (at .i) (omega arith)) ∙ at .inv .1)
+
+returns-2 : tie.Need-returns-2 Inv-loop μ-loop
+returns-2 c =
+    let at = c .before .loop in
+    sym (fed-end (at .next) (c .before .before .before .args .chunk .now) (at .i) (omega arith)) ∙ at .inv .1
 
 pub feed-spec : {M : Type 1} → statement M
 feed-spec =
     tie.close
     (tie.spec
-    missing-requires
-    lesser-requires
-    slice-aggregate-bytes
-    bytes-requires
-    sub-events
-    part-events-start
-    part-events-end
-    events-requires
-    returns)
+    Inv-loop
+    μ-loop
+    loop-holds
+    is-between-requires
+    sub-items
+    part-items-start
+    part-items-end
+    items-requires
+    returns
+    shared-slice-read-byte
+    byte-requires
+    add-i
+    loop-less
+    loop-again
+    returns-2)

@@ -9,8 +9,14 @@ use Rattle.feed.proofs.Feed.hold.Tie as tie
 placed-requires : tie.Need-placed-requires
 placed-requires c κs = search needs
 
-add-t10 : tie.Need-add-t10
-add-t10 c = search needs
+cast-if1 : tie.Need-cast-if1
+cast-if1 c = search needs
+
+add-if1 : tie.Need-add-if1
+add-if1 c = search needs
+
+add-t14 : tie.Need-add-t14
+add-t14 c = search needs
 
 returns : tie.Need-returns
 returns c = rw (c .before .placed .ensures) (sym (hold-more _ _ _ (c .if1 .taken)))
@@ -22,4 +28,6 @@ returns-2 : tie.Need-returns-2
 returns-2 c = rw (c .next-stage .ensures, c .before .before .placed .ensures) (sym (hold-whole _ _ _ (c .before .if1 .left)))
 
 pub hold-spec : {M : Type 1} → statement M
-hold-spec = tie.close (tie.spec placed-requires add-t10 returns next-stage-requires returns-2)
+hold-spec =
+    tie.close
+    (tie.spec placed-requires cast-if1 add-if1 add-t14 returns next-stage-requires returns-2)

@@ -16,13 +16,13 @@ in-range-requires c κs = search needs
 returns : tie.Need-returns
 returns c = sym (single-1 _ _ (sym (c .before .in-range .ensures) ∙ not-true _ (c .if1 .taken)))
 
-one-tick-requires : tie.Need-one-tick-requires
-one-tick-requires c κs = search needs
+ticks-requires : tie.Need-ticks-requires
+ticks-requires c κs = search needs
 
 returns-2 : tie.Need-returns-2
 returns-2 c =
-    rw (c .one-tick .ensures)
+    rw (c .ticks .ensures)
     (sym (single-made _ _ (sym (c .before .before .in-range .ensures) ∙ not-false _ (c .before .if1 .left)) (passes (_ ≤? mostAmount) (omega arith))))
 
 pub waiting-tick-spec : {M : Type 1} → statement M
-waiting-tick-spec = tie.close (tie.spec in-range-requires returns one-tick-requires returns-2)
+waiting-tick-spec = tie.close (tie.spec in-range-requires returns ticks-requires returns-2)

@@ -1,6 +1,6 @@
 //! The library against the model.
 //!
-//! `differ record SEED CALLS`, or without `record`: records and summaries.
+//! `differ record SEED CALLS`, or without `record`: records of both forms, the movers, summaries.
 //! `differ ring SEED CALLS`: ringlet choice and path.
 //! `differ station SEED CALLS`: the station, with the feature `station`.
 //!
@@ -15,6 +15,7 @@ mod calls {
     include!(concat!(env!("OUT_DIR"), "/calls.rs"));
 }
 mod record;
+mod record_runs;
 mod ring;
 mod ring_defaults;
 #[cfg(feature = "station")]

@@ -1,32 +1,49 @@
-//! Records and summaries: random calls, every answer and every lent byte compared.
+//! Records of both forms and summaries: random calls, every answer and every lent byte compared.
 
 use crate::calls::{rpr_join, rpr_settle, rpr_summarize};
+use crate::record_runs::Sights;
 use model::host::{self, SUMMARY_LENGTH};
+use model::item::Listed;
 use model::lent::Lent;
 use model::make;
+use model::make_runs;
 use model::random::Random;
-use model::record::{Record, MOST_EVENTS};
+use model::record::MOST_EVENTS;
 use model::report::{notation, Call, Outcome};
 use model::summary::{self, Summary};
 use model::tally::{self, Tally};
 use model::text;
 
 /// One in so many rounds is about a record of a million events.
-const ROUNDS_PER_MILLION: usize = 5_000;
+const ROUNDS_PER_MILLION: usize = 2_000;
 
-struct Trial {
-    random: Random,
-    tally: Tally,
+/// A call that reads a record and writes a room: its name, the library's and the model's.
+pub struct Reads {
+    pub function: &'static str,
+    pub library: unsafe extern "C" fn(*const u8, usize, *mut u8, usize) -> u64,
+    pub model: fn(&[u8], &[u8]) -> (u64, Vec<u8>),
+}
+
+const SUMMARIZE: Reads = Reads {
+    function: "rpr_summarize",
+    library: rpr_summarize,
+    model: host::summarize,
+};
+
+pub struct Trial {
+    pub random: Random,
+    pub tally: Tally,
+    pub sights: Sights,
 }
 
 impl Trial {
-    /// Calls rpr_summarize; the room's bytes afterwards.
-    fn summarize(&mut self, record: &[u8], room: &[u8]) -> Outcome<Vec<u8>> {
+    /// Calls a function that reads a record; the answer and the room's bytes afterwards.
+    pub fn reads(&mut self, reads: &Reads, record: &[u8], room: &[u8]) -> Outcome<(u64, Vec<u8>)> {
         let mut lent = Lent::new(&mut self.random, record);
         let mut lent_room = Lent::new(&mut self.random, room);
         // SAFETY: both slices are real memory that nothing else uses.
         let answer = unsafe {
-            rpr_summarize(
+            (reads.library)(
                 lent.pointer(),
                 lent.length(),
                 lent_room.pointer(),
@@ -34,17 +51,23 @@ impl Trial {
             )
         };
         let call = Call {
-            function: "rpr_summarize",
+            function: reads.function,
             slices: vec![("record", record), ("room", room)],
             start: None,
         };
-        let (expected, after) = host::summarize(record, room);
+        let (expected, after) = (reads.model)(record, room);
         call.same_answer(expected, answer)?;
         call.same_bytes("record", record, &lent)?;
         call.same_bytes("room", &after, &lent_room)?;
         let wrong_room = room.len() != SUMMARY_LENGTH;
         self.tally.count(call.function, answer, wrong_room);
-        Ok(after)
+        Ok((answer, after))
+    }
+
+    /// Calls rpr_summarize; the room's bytes afterwards.
+    pub fn summarize(&mut self, record: &[u8]) -> Outcome<Vec<u8>> {
+        let room = self.room();
+        Ok(self.reads(&SUMMARIZE, record, &room)?.1)
     }
 
     /// Calls rpr_join; the answer and the room's bytes afterwards.
@@ -108,12 +131,19 @@ impl Trial {
         self.random.bytes(length)
     }
 
+    /// A valid record of the old form, or of either.
+    fn valid(&mut self, most: usize) -> Listed {
+        match self.random.one_in(2) {
+            true => Listed::plain(&make::record(&mut self.random, most)),
+            false => make_runs::listed(&mut self.random),
+        }
+    }
+
     /// A valid record's summary, settled from random credits; each end is also that
     /// of the events one by one.
     fn whole(&mut self) -> Outcome<()> {
-        let record = make::record(&mut self.random, 200);
-        let room = self.room();
-        let bytes = self.summarize(&record.to_bytes(), &room)?;
+        let record = self.valid(200);
+        let bytes = self.summarize(&record.to_bytes())?;
         let read = host::from_bytes(&bytes).map_err(|_| "no summary in the room")?;
         for _ in 0..3 {
             let start = make::start(&mut self.random, &read);
@@ -125,19 +155,22 @@ impl Trial {
         Ok(())
     }
 
-    /// A record cut between events, its pieces joined in a random grouping.
-    fn pieces(&mut self, record: &Record) -> Outcome<()> {
-        let mut cuts = vec![0, record.events.len()];
+    /// A record cut between events, inside runs too; its pieces joined in a random grouping.
+    fn pieces(&mut self, record: &Listed) -> Outcome<()> {
+        let events = record.events();
+        let mut cuts = vec![0, events];
         for _ in 0..self.random.below(7) {
-            cuts.push(self.random.below(record.events.len() + 1));
+            cuts.push(self.random.below(events + 1));
         }
         cuts.sort_unstable();
         let mut parts = Vec::new();
+        let mut items = 0;
         for ends in cuts.windows(2) {
-            let piece = record.piece(ends[0], ends[1]).to_bytes();
-            let room = self.room();
-            parts.push(self.summarize(&piece, &room)?);
+            let piece = record.piece(ends[0], ends[1]);
+            items += piece.items.len();
+            parts.push(self.summarize(&piece.to_bytes())?);
         }
+        self.sights.see_cut(items > record.items.len());
         while parts.len() > 1 {
             let at = self.random.below(parts.len() - 1);
             let second = parts.remove(at + 1);
@@ -155,15 +188,21 @@ impl Trial {
     }
 
     fn damaged(&mut self) -> Outcome<()> {
-        let record = make::damaged(&mut self.random, 40);
-        let room = self.room();
-        self.summarize(&record, &room).map(|_| ())
+        let record = match self.random.one_in(2) {
+            true => make::damaged(&mut self.random, 40),
+            false => make_runs::damaged(&mut self.random),
+        };
+        self.summarize(&record)?;
+        self.moved_both_ways(&record)
     }
 
     fn near_million(&mut self) -> Outcome<()> {
-        let record = make::near_million(&mut self.random);
-        let room = self.room();
-        self.summarize(&record, &room).map(|_| ())
+        let record = match self.random.one_in(2) {
+            true => make::near_million(&mut self.random),
+            false => make_runs::near_million(&mut self.random),
+        };
+        self.summarize(&record)?;
+        self.moved_both_ways(&record)
     }
 
     /// A summary's bytes: in range, or nearly, or with a bit changed.
@@ -246,7 +285,7 @@ impl Trial {
                     0 => make::damaged(&mut self.random, 10),
                     _ => make::record(&mut self.random, 10).to_bytes(),
                 };
-                self.summarize(&record, &wrong).map(|_| ())
+                self.reads(&SUMMARIZE, &record, &wrong).map(|_| ())
             }
             1 => {
                 let summary = self.summary_near(summary);
@@ -266,28 +305,35 @@ impl Trial {
     }
 
     fn round(&mut self) -> Outcome<()> {
-        match self.random.below(20) {
+        match self.random.below(26) {
             0..=5 => self.whole(),
             6..=9 => {
-                let record = make::record(&mut self.random, 100);
+                let record = self.valid(100);
                 self.pieces(&record)
             }
             10..=13 => self.damaged(),
             14 | 15 => self.groupings(),
             16 | 17 => self.odd_join(),
             18 => self.odd_settle(),
-            _ => self.wrong_lengths(),
+            19 => self.wrong_lengths(),
+            20..=22 => self.any_moved_and_back(),
+            23 | 24 => self.moved_again(),
+            _ => self.any_broken(),
         }
     }
 
-    /// Records of a million events come first, then now and then.
+    /// Records of a million events come first, then now and then; each rule of runs broken too.
     fn rounds(&mut self, calls: u64) -> Outcome<()> {
-        let million = make::long_record(&mut self.random, MOST_EVENTS);
+        let million = Listed::plain(&make::long_record(&mut self.random, MOST_EVENTS));
         self.pieces(&million)?;
-        let mut bytes = million.to_bytes();
-        bytes.push(0);
-        let room = self.room();
-        self.summarize(&bytes, &room)?;
+        let run = make_runs::filled(&mut self.random, 0, 2).items[0].to_bytes();
+        for behind in [&[0][..], &run] {
+            let bytes = [&million.to_bytes(), behind].concat();
+            self.summarize(&bytes)?;
+            self.moved_both_ways(&bytes)?;
+        }
+        self.long_moved_and_back()?;
+        self.every_broken()?;
         while self.tally.calls() < calls {
             match self.random.one_in(ROUNDS_PER_MILLION) {
                 true => self.near_million()?,
@@ -303,14 +349,17 @@ pub fn run(seed: u64, calls: u64) -> (Tally, Outcome<Vec<String>>) {
     let mut trial = Trial {
         random: Random::new(seed),
         tally: Tally::new(tally::OF_RECORDS),
+        sights: Sights::default(),
     };
     let outcome = trial.rounds(calls);
-    (trial.tally, outcome.map(|()| Vec::new()))
+    let missing = trial.sights.missing();
+    (trial.tally, outcome.map(|()| missing))
 }
 
 /// The answer of rpr_settle against the shaper run event by event.
-fn same_run(record: &Record, start: u64, answer: u64) -> Outcome<()> {
-    let end = summary::run(&record.settings, &record.events, i128::from(start));
+fn same_run(record: &Listed, start: u64, answer: u64) -> Outcome<()> {
+    let events = record.unrolled().events;
+    let end = summary::run(&record.settings, &events, i128::from(start));
     let expected = end.map_or(0, |end| 1 << 8 | (end as u64) << 32);
     if expected == answer {
         return Ok(());

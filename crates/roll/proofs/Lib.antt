@@ -1,0 +1,11 @@
+pub mod Rolled
+pub mod Longest
+pub mod Once
+pub mod Rooms
+pub mod Refusals
+pub mod Promises
+pub mod Laying
+pub mod Ahead
+pub mod Moving
+pub mod Unrolling
+pub mod Told

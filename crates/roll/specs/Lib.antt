@@ -1,0 +1,4 @@
+pub mod Rolled
+pub mod Moved
+pub mod Exactly
+pub mod Steps
