@@ -29,17 +29,18 @@ struct part {
     bool good;     /* whether no event has a fault */
 };
 
-/* What is tested and cut by: hiLimit less loLimit, and the largest size less the smallest. */
+/* What is cut and tested by: hiLimit less loLimit; and the largest size less the smallest, in the upper half of a word that counts from the least number on. */
 struct cuts {
-    int32_t rise, span;
+    int32_t rise, most;
 };
 
 static inline struct part grow(struct part p, struct cuts c, const uint8_t *event) {
-    int32_t head = (int32_t)get32(event), number = (int32_t)(get32(event + 2) >> 16);
+    uint32_t tail = get32(event + 2);
+    int32_t head = (int32_t)get32(event), number = (int32_t)(tail >> 16);
     bool send = head == SEND, idle = head == IDLE, waits = head == WAITING;
     int32_t bar = p.top < p.level ? p.level : 0;
     int32_t level = send ? p.level - number : p.level + number, cut = level - (idle ? 0 : c.rise);
-    bool sized = ((number - 16) & 0xffff) <= c.span;
+    bool sized = (int32_t)(tail + (UINT32_C(1) << 31) - (UINT32_C(16) << 16)) <= c.most;
     return (struct part){
         .level = level,
         .top = p.top < cut ? cut : p.top,
@@ -90,7 +91,7 @@ static inline int add_block(struct chain *sum, struct cuts c, const uint8_t *blo
 /* The whole blocks of these events, at most so many events, up to the first with a fault or a run. How many events they hold. */
 static inline size_t sum_blocks(const uint8_t *items, size_t most, struct sum *sum) {
     int64_t hi = sum->hi, lo = sum->lo, level = LEVEL + sum->accrued - sum->sent;
-    struct cuts c = {(int32_t)(hi - lo), (int32_t)sum->mtu - 16};
+    struct cuts c = {(int32_t)(hi - lo), INT32_MIN + (((int32_t)sum->mtu - 16) << 16 | 0xffff)};
     struct chain t = {.accrued = sum->accrued, .level = level, .top = level + hi - sum->ceiling, .low = LEVEL + lo + 1 - sum->need};
     size_t done = 0;
     while (most - done >= BLOCK && add_block(&t, c, items + EVENT * done)) done += BLOCK;

@@ -1,12 +1,16 @@
 -- The first four bytes of an event as one number say its length and kind, and the block reader's test of them is `good`.
 -- Assumes nothing.
-use Prim.Native.Nat.{ℕ, _+_, _-_, _*_, _/_, _%_, _≤_, _<_}
+use Prim.Native.Nat.{ℕ, suc, _+_, _-_, _*_, _/_, _%_, _≤_, _<_}
 use mathlib.Core.Bool.{Bool, false, not, _&&_, _||_, or-false}
 use mathlib.Core.List.{List}
-use mathlib.Core.Path.{_≡_, refl}
+use mathlib.Core.Path.{_≡_, refl, ap}
 use native.Mathlib.Omega.{arith}
 use borrow.Author.Tests.{eq-eqb, ne-eqb, le-leb, lt-leb, lt-ltb, le-ltb}
-use lib.Dec.{eqb, ltb}
+use lib.Dec.{eqb}
+use lib.IntN.{pos, negsuc}
+use lib.Signed.{ltZ}
+use mir.Syntax.{w32}
+use mir.Val.{toZ}
 use Rattle.decide.specs.Test.{test, split, _≡?_}
 use Rattle.decide.specs.Size.{sizeOk}
 use Rattle.decide.proofs.Cases.{by-cases, le-or}
@@ -41,15 +45,28 @@ module _ (mtu len kind num head : ℕ) (hl : len < 65536) (hk : kind < 65536) (e
   unfolding test
   tested-good = by-cases (split (len ≡? 6)) of-six (λ z. rw (none (omega arith) (omega arith) (omega arith), ne-eqb len 6 z) refl)
 
--- a number is 16 to mtu exactly if it is not above mtu − 16 after 16 is taken off, in 16 bits
-pub sized-by : (span num : ℕ) → span ≤ 9200 → num ≤ 65535 → not (ltb span ((num + 65520) % 65536)) ≡ test (sizeOk num (span + 16))
+-- the signed number whose 32 bits are those of x
+signed-low : (x : ℕ) → x < 2147483648 → toZ w32 x ≡ pos x
+signed-low x h = simp (lt-ltb x 2147483648 h)
+
+signed-high : (x : ℕ) → 2147483648 ≤ x → toZ w32 x ≡ negsuc (4294967295 - x)
+signed-high x h = let e : 4294967296 - suc x ≡ 4294967295 - x = omega arith in rw (le-ltb x 2147483648 h) (ap negsuc e)
+
+-- A number in the upper 16 of 32 bits is 16 to mtu exactly if it is not above mtu − 16 after 16 is taken off in 32 bits, both as signed numbers from the least on.
+pub sized-by : (span tail : ℕ) → span ≤ 9200 → tail < 4294967296 →
+    not (ltZ (toZ w32 (2147483648 + span * 65536 + 65535)) (toZ w32 ((tail + 2146435072) % 4294967296))) ≡ test (sizeOk (tail / 65536) (span + 16))
 unfolding test
-sized-by span num hs hn =
-    by-cases (le-or 16 num)
-    (λ h. by-cases (le-or num (span + 16))
-    (λ k. simp (le-ltb span ((num + 65520) % 65536) (omega arith), le-leb 16 num h, le-leb num (span + 16) k))
-    (λ k. simp (lt-ltb span ((num + 65520) % 65536) (omega arith), le-leb 16 num h, lt-leb num (span + 16) k)))
-    (λ h. simp (lt-ltb span ((num + 65520) % 65536) (omega arith), lt-leb 16 num h))
+sized-by span tail hs ht =
+    let most = 2147483648 + span * 65536 + 65535 in
+    let there = (tail + 2146435072) % 4294967296 in
+    let high = signed-high most (omega arith) in
+    by-cases (le-or 16 (tail / 65536))
+    (λ h. by-cases (le-or (tail / 65536) (span + 16))
+    (λ k. rw (high, signed-high there (omega arith)) (simp (le-ltb (4294967295 - there) (4294967295 - most) (omega arith), le-leb 16 (tail / 65536) h, le-leb (tail / 65536) (span + 16) k)))
+    (λ k. by-cases (le-or 2147483648 there)
+    (λ j. rw (high, signed-high there j) (simp (lt-ltb (4294967295 - there) (4294967295 - most) (omega arith), le-leb 16 (tail / 65536) h, lt-leb (tail / 65536) (span + 16) k)))
+    (λ j. rw (high, signed-low there j) (simp (le-leb 16 (tail / 65536) h, lt-leb (tail / 65536) (span + 16) k)))))
+    (λ h. rw (high, signed-low there (omega arith)) (simp (lt-leb 16 (tail / 65536) h)))
 
 -- ---- at a place
 

@@ -1,12 +1,14 @@
 // The account of a shaper record: its summary, read from lent bytes.
 ghost use mathlib.Core.Path.{_≡_};
 ghost use mathlib.Core.Bool.{Bool, true};
-ghost use Prim.Native.Nat.{_+_, _-_, _*_, _≤_};
-ghost use lib.ListN.{length, drop};
+ghost use Prim.Native.Nat.{_+_, _-_, _*_, _/_, _≤_};
+ghost use lib.ListN.{length};
+ghost use mir.Syntax.{w32};
+ghost use mir.Val.{toZ};
 ghost use Rattle.decide.specs.Test.{Holds, test};
 ghost use Rattle.decide.specs.Size.{sizeOk};
 ghost use Rattle.shaper.specs.Limits.{limitsOk, mostAmount, mostEvents};
-ghost use Rattle.tally.specs.Tally.{plainAt, Ready};
+ghost use Rattle.tally.specs.Tally.{stepOf, plainAt, Within, Ready};
 ghost use Rattle.summary.specs.Plain.{signedFrom};
 ghost use Rattle.tally.specs.Part.{Roomy, Lanes, Steady, goodOf};
 ghost use Rattle.account.specs.Account.{summarizeIn, eventsOf};
@@ -35,6 +37,15 @@ const IDLE: u32 = 6 + 2 * 65536;
 
 // and of a send.
 const SEND: u32 = 6 + 3 * 65536;
+
+// The kind of a send.
+const SEND_KIND: u64 = 3;
+
+// The 32 bits of the least signed number,
+const LEAST: u32 = 2147483648;
+
+// and what takes the smallest size there, where it stands in the upper 16 of them.
+const TO_LEAST: u32 = 2147483648 - 16 * 65536;
 
 // How many items are walked at once: as many as a block has events.
 const ITEMS: u64 = 64;
@@ -192,10 +203,11 @@ fn event(p: Part, s: &[u8], at: usize, rise: u32, span: u32) -> Part
     ensures { λ r. ⌜ r ≡ partAfter rise (span + 16) (now (s .entry)) at p ⌝ }
 {
     let head = wire::get32(s, at);
-    let v = wire::get32(s, at + 2) / 65536;
+    let tail = wire::get32(s, at + 2);
+    let v = tail / 65536;
     let send = head == SEND;
     let idle = head == IDLE;
-    let fits = sized(v, span);
+    let fits = sized(tail, span);
     p.grow(
         rise,
         send,
@@ -205,13 +217,25 @@ fn event(p: Part, s: &[u8], at: usize, rise: u32, span: u32) -> Part
     )
 }
 
-// Whether a number is 16 to mtu, by one comparison: 16 is taken off it in 16 bits, where a number below 16 comes out above every span. "Not above" spares the
-// compiler a copy that "at most" takes.
-fn sized(v: u32, span: u32) -> bool
-    requires { ⌜ (v ≤ 65535) × (span ≤ 9200) ⌝ }
-    ensures { λ r. ⌜ r ≡ test (sizeOk v (span + 16)) ⌝ }
+// Whether the number in the upper 16 of 32 bits is 16 to mtu, by one comparison: 16 is taken off it in 32 bits, where a number below 16 comes out above every span. Both sides
+// count from the least signed number, as signed numbers are compared side by side with no step more. "Not above" spares the compiler a copy that "at most" takes.
+fn sized(tail: u32, span: u32) -> bool
+    requires { ⌜ span ≤ 9200 ⌝ }
+    ensures { λ r. ⌜ r ≡ test (sizeOk (tail / 65536) (span + 16)) ⌝ }
 {
-    !decide::below(span, (v + 65520) % 65536)
+    let most = signed(LEAST + span * 65536 + 65535);
+    !(most < signed(std::num::wrapping_add_u32(tail, TO_LEAST)))
+}
+
+// The signed number whose 32 bits are those of x.
+fn signed(x: u32) -> i32
+    ensures { λ r. ⌜ r ≡ toZ w32 x ⌝ }
+{
+    if x < LEAST {
+        x as i32
+    } else {
+        -1i32 - ((4294967295 - x) as i32)
+    }
 }
 
 // The answer to a record that is tallied so far: one item at a time, to the end or the first fault, or how far 64 items go. So many
@@ -224,7 +248,6 @@ fn walk(s: &[u8], far: Reach, limits: Limits, budget: u64, late: u64, runs: bool
     let rise = limits.hi as u64 - limits.lo as u64;
     let mut k: u64 = 0;
     let mut at = far.at;
-    let mut n = far.n;
     let mut left = budget;
     let mut t = far.tally;
     while k < ITEMS {
@@ -236,14 +259,13 @@ fn walk(s: &[u8], far: Reach, limits: Limits, budget: u64, late: u64, runs: bool
                 next,
             } => {
                 let many = count as u64;
-                t = tally::step(t, rise, wide(kind), brought(wide(number), many));
-                n += many;
+                t = stepped(t, rise, wide(kind), brought(wide(number), many));
                 left -= many;
                 at = next;
                 k += 1;
             }
             Step::End => {
-                return Walked::Ended(summed(limits, n, t));
+                return Walked::Ended(summed(limits, far.n + (budget - left), t));
             }
             Step::Faulty(fault) => {
                 return Walked::Ended(Answer::Refused(fault));
@@ -252,7 +274,7 @@ fn walk(s: &[u8], far: Reach, limits: Limits, budget: u64, late: u64, runs: bool
     }
     Walked::On(Reach {
         at: at,
-        n: n,
+        n: far.n + (budget - left),
         tally: t,
     })
 }
@@ -263,6 +285,17 @@ fn summed(limits: Limits, n: u64, t: Tally) -> Answer
     ensures { λ r. ⌜ r ≡ Answer.Summed (signedFrom (plainAt limits n t)) ⌝ }
 {
     Answer::Summed(summary::signed(tally::finish(limits, n, t)))
+}
+
+// The tally after an item. A send is stepped on its own: where it was read it was told from a tick already, and so neither pays for the other.
+fn stepped(t: Tally, rise: u64, kind: u64, v: u64) -> Tally
+    requires { ⌜ Within mostEvents t × (rise ≤ 1048576) × (v ≤ mostAmount * mostEvents) ⌝ }
+    ensures { λ r. ⌜ r ≡ stepOf rise kind v t ⌝ }
+{
+    if kind == SEND_KIND {
+        return tally::step(t, rise, SEND_KIND, v);
+    }
+    tally::step(t, rise, kind, v)
 }
 
 // What so many equal events bring.

@@ -35,6 +35,10 @@ module _ (mtu len kind num : ℕ) where
   unfolding fieldFault
   fields-above e h = rw (in-order (fieldFaults mtu len kind num) refl, eq-eqb len 6 e, le-leb 1 kind (omega arith), lt-leb kind 3 h)
 
+  -- A kind above is a fault at every length.
+  pub fields-other : 3 < kind → fieldFault mtu len kind num ≡ 2
+  fields-other h = by-cases (split (len ≡? 6)) (λ e. fields-above e h) fields-length
+
   -- Kind 3 send (size 2), frame size 16 to mtu:
   fields-size : len ≡ 6 → kind ≡ 3 → test (sizeOk num mtu) ≡ false → fieldFault mtu len kind num ≡ 3
   unfolding fieldFault

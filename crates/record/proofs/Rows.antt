@@ -1,7 +1,7 @@
 -- What stands at the front of a record and at each place, row by row: faults are tried in the order in which they are written.
 -- Assumes nothing.
 use Prim.Native.Nat.{ℕ, zero, suc, _+_, _≤_, _<_}
-use mathlib.Core.Bool.{Bool, true, false, _&&_}
+use mathlib.Core.Bool.{Bool, true, false, _&&_, and-false}
 use mathlib.Core.List.{List}
 use mathlib.Core.Path.{_≡_, refl, sym, _∙_}
 use native.Mathlib.Omega.{arith}
@@ -128,8 +128,7 @@ pub no-run : (mtu : ℕ) (xs : List ℕ) (at : ℕ) → faultAt mtu xs at ≡ 0 
 no-run mtu xs at e = run-not-at xs at (λ k. omega (arith, free-facts mtu (le 2 xs at) (le 2 xs (at + 2)) (le 2 xs (at + 4)) e .last))
 
 pub no-run-in : (runs : Bool) (mtu : ℕ) (xs : List ℕ) (at : ℕ) → faultAt mtu xs at ≡ 0 → (runs && isRun (drop at xs)) ≡ false
-no-run-in true mtu xs at e = no-run mtu xs at e
-no-run-in false mtu xs at e = refl
+no-run-in runs mtu xs at e = rw (no-run mtu xs at e) (and-false runs)
 
 module _ (runs : Bool) (mtu : ℕ) (xs : List ℕ) (at : ℕ) where
   pub item-end : length xs ≤ at → itemAt runs mtu xs at ≡ End

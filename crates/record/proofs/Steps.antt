@@ -5,10 +5,10 @@ use Prim.Native.Nat.{ℕ, zero, suc, _+_, _-_, _≤_, _<_}
 use mathlib.Core.Bool.{Bool, true, false, _&&_}
 use mathlib.Core.List.{List, [], _∷_}
 use mathlib.Core.Logic.{_⊎_, inl, inr, ⊎-elim}
-use mathlib.Core.Path.{_≡_, refl, sym, ap, _∙_}
+use mathlib.Core.Path.{_≡_, refl, ap, _∙_}
 use native.Mathlib.Omega.{arith}
 use native.Mathlib.Nat.{add-zero, zero-add, suc-add}
-use borrow.Author.Tests.{le-leb, lt-leb, le-ltb, lt-ltb}
+use borrow.Author.Tests.{le-ltb, lt-ltb}
 use lib.ListN.{length, drop, length-drop, drop-of-length-le}
 use lib.Seq.{drop-drop}
 use Rattle.decide.specs.Refusal.{firstOf}
@@ -25,7 +25,7 @@ use Rattle.record.specs.declared.Header.the-variants.{Settings, Unreadab
 use Rattle.record.specs.declared.Step.{Step}
 use Rattle.record.specs.declared.Step.the-variants.{Stands, End, Faulty}
 use Rattle.record.specs.Items.{mostOfRun}
-use Rattle.record.specs.Read.{limitsAt, headerFaults, lengthAt, isRun, itemFaults, itemKind, itemNumber, itemCount, Events, faulty, events, onward, ahead, goneBehind, bytesBehind, readItems, Read, unreadable, under, openedIn, readIn}
+use Rattle.record.specs.Read.{limitsAt, headerFaults, lengthAt, isRun, itemFaults, itemKind, itemNumber, itemCount, faulty, events, onward, ahead, goneBehind, bytesBehind, readItems, Read, unreadable, under, openedIn, readIn}
 use Rattle.record.specs.Step.{headed, headerOf, itemAt, itemWithin}
 use Rattle.record.proofs.Fields.{Good, GoodRun, free-facts, facts-free, run-facts, valid-good}
 use Rattle.record.proofs.Rows.{Told, faultAt, runFaultAt, kind-there, no-run, no-run-in, told-event, told-run, header-short, header-length, header-kind, header-outside, header-settings, item-end, item-faulty, event-fields-at, event-cut, event-stands, run-fields-at, run-cut, run-stands, within-stands, within-over, within-end, within-faulty, within-none}
@@ -326,10 +326,3 @@ module _ (runs : Bool) (mtu : ℕ) (xs : List ℕ) (at k v c next : ℕ) (b : By
 
   pub count-bound : c ≤ mostOfRun
   count-bound = ⊎-elim (λ e. omega (arith, e .one)) (λ r. omega (arith, r .1 .count-field, le-bound 2 xs (at + 8) b)) (s .there)
-
--- in a record of the old form each item is an event
-pub stood-old : (mtu : ℕ) (xs : List ℕ) (at k v c next : ℕ) → Stood false mtu xs at k v c next → EventThere xs at k v c next
-stood-old mtu xs at k v c next s = ⊎-elim (λ e. e) (λ r. let z : _≡_ {A = ℕ} 0 1 = rw-absurd (r .0) in absurd (omega arith)) (s .there)
-  where
-    rw-absurd : false ≡ true → _≡_ {A = ℕ} 0 1
-    rw-absurd e = cc

@@ -1,7 +1,7 @@
 // A shaper record, read from lent bytes: its header, and each event at its place.
 ghost use mathlib.Core.Bool.{true};
 ghost use mathlib.Core.Path.{_≡_};
-ghost use Prim.Native.Nat.{_+_, _-_, _≤_};
+ghost use Prim.Native.Nat.{_+_, _-_, _≤_, _<_};
 ghost use lib.ListN.{length};
 ghost use Rattle.wire.specs.Wire.{le};
 ghost use Rattle.shaper.specs.Limits.{mostEvents};
@@ -9,6 +9,9 @@ ghost use Rattle.record.specs.Read.{fieldFault, runFieldFault};
 ghost use Rattle.record.specs.Step.{headerOf, itemAt, itemWithin};
 use shaper::Event;
 use shaper::Limits;
+
+// The kind of a send: the last that an event may have.
+const SEND: u16 = 3;
 
 // What a record's header says.
 pub enum Header {
@@ -63,8 +66,8 @@ pub fn event_at(s: &[u8], at: usize, mtu: u32, runs: bool) -> Step
         return Step::Faulty(2);
     }
     let kind = wire::get16(s, at + 2);
-    if runs & (kind == 4) {
-        return run_at(s, at, mtu);
+    if SEND < kind {
+        return other_at(s, at, mtu, kind, runs);
     }
     let length = wire::get16(s, at);
     let number = wire::get16(s, at + 4);
@@ -78,6 +81,17 @@ pub fn event_at(s: &[u8], at: usize, mtu: u32, runs: bool) -> Step
         count: 1,
         next: at + length as usize,
     }
+}
+
+// What stands at a place whose kind is no event's: a run, where runs may stand, or a fault. Told apart here, runs cost an event no test.
+fn other_at(s: &[u8], at: usize, mtu: u32, kind: u16, runs: bool) -> Step
+    requires { ⌜ (at + 6 ≤ length (now s)) × (kind ≡ le 2 (now s) (at + 2)) × (3 < kind) ⌝ }
+    ensures { λ r. ⌜ r ≡ itemAt runs mtu (now (s .entry)) at ⌝ }
+{
+    if runs & (kind == 4) {
+        return run_at(s, at, mtu);
+    }
+    Step::Faulty(2)
 }
 
 // The run at a place, where an item of kind 4 stands.

@@ -52,12 +52,6 @@ roll-back xs ys b e =
     let r = rolls-to xs ys b e in
     ap unrolledBytes (r .new) ∙ ap unrolledRead (new-read (r .limits) (r .events) (r .well)) ∙ ap bytes (sym (r .old))
 
--- What is written of a record has its events, and only longest runs.
-pub rolled-again : (xs : List ℕ) (l : Limits) (es : List Event) → readIn false xs ≡ whole l es →
-    (rolledBytes xs ≡ bytes (writtenItems l (rolled es))) × (unrolled (rolled es) ≡ es) × Longest (rolled es)
-unfolding rolledBytes
-rolled-again xs l es e = (ap rolledRead e, rolled-unrolled es, longest.rolled-longest es)
-
 -- Room as long as the record is enough.
 pub roll-shorter : (xs ys : List ℕ) → Bytes xs → rolledBytes xs ≡ bytes ys → length ys ≤ length xs
 roll-shorter xs ys b e =

@@ -1,7 +1,7 @@
 -- A step is the join with one event's summary, since peak is level + depth: what a tick adds to the level is what a join takes off the depth. And it
 -- keeps the bounds, whatever the event holds. Assumes nothing.
 use Prim.Native.Nat.{ℕ, _+_, _-_, _*_, _≤_, _<_, min, max}
-use mathlib.Core.List.{List, [], _∷_}
+use mathlib.Core.List.{List, []}
 use mathlib.Core.Logic.{_⊎_, inl, inr}
 use mathlib.Core.Path.{_≡_, refl, sym, ap, subst, _∙_}
 use native.Mathlib.Omega.{arith}
@@ -17,7 +17,7 @@ use Rattle.plain.specs.declared.Plain.{Plain}
 use Rattle.plain.specs.Plain.{plainEmpty, plainTicks, plainSingle, plainDepth, plainJoined, plainOf}
 use Rattle.plain.specs.Range.{Sound, Same}
 use Rattle.plain.proofs.Laws.{need-is, plain-eq, joined-sound, joined-assoc, empty-left, empty-right}
-use Rattle.plain.proofs.Meaning.{single-limits, plain-limits, alike, single-sound, plain-sound}
+use Rattle.plain.proofs.Meaning.{plain-limits, alike, plain-sound}
 use Rattle.tally.specs.declared.Tally.{Tally}
 use Rattle.tally.specs.Tally.{base, startOf, pickOf, fallOf, barOf, stepOf, plainAt, Within, Ready}
 use Rattle.tally.proofs.Cases.{pick-send, pick-tick, fall-max, bar-never, bar-level}
@@ -156,19 +156,6 @@ module _ (l : Limits) (n : ℕ) (t : Tally) (p : Ready l n t) (k v c : ℕ) (s :
       (joined-assoc (plainAt l n t) s (plainOf l es) (p .sound) sound (plain-sound l (p .sound .0) es a) same-behind
       (alike l s (plainOf l es) settings (plain-limits l es)))
       ∙ ap (λ (q : Plain). plainJoined q (plainOf l es)) (sym joins)
-
--- one event
-module _ (l : Limits) (n : ℕ) (t : Tally) (p : Ready l n t) (e : Event) (ok : Valid l e) where
-  abbrev next : Tally
-  next = stepOf (l .hi - l .lo) (kindOf e) (numberOf e) t
-
-  pub step-ready : n < mostEvents → Ready l (n + 1) next
-  step-ready h =
-      let v = number-max l (p .sound .0) e ok in
-      more-ready l n t p (kindOf e) (numberOf e) 1 (plainSingle l e) (single-sound l (p .sound .0) e ok) (single-limits l e) (step-joined l n t p e ok) (omega arith) (omega arith)
-
-  pub step-rest : (es : List Event) → AllValid l es → plainJoined (plainAt l n t) (plainOf l (e ∷ es)) ≡ plainJoined (plainAt l (n + 1) next) (plainOf l es)
-  step-rest = more-rest l n t p (kindOf e) (numberOf e) 1 (plainSingle l e) (single-sound l (p .sound .0) e ok) (single-limits l e) (step-joined l n t p e ok)
 
 -- ---- the beginning and the end
 

@@ -1,13 +1,23 @@
 -- Two's complement: `signedOf` and `unsignedOf` are each other's inverse. Assumes nothing.
-use mathlib.Core.Path.{_≡_, ap, _∙_}
+use mathlib.Core.Path.{_≡_, refl, ap, _∙_}
 use mathlib.Core.Logic.{⊎-elim}
-use Prim.Native.Nat.{ℕ, _-_, _≤_, _<_}
+use Prim.Native.Nat.{ℕ, zero, suc, _-_, _^_, _≤_, _<_}
 use native.Mathlib.Omega.{arith}
-use native.Mathlib.Nat.{eq-zero-or-pos}
+use native.Mathlib.Nat.{zero-add, eq-zero-or-pos}
 use borrow.Author.Tests.{lt-ltb, le-ltb}
-use lib.IntN.{ℤ, pos, negsuc}
+use lib.IntN.{ℤ, pos, negsuc, _-ℤ_}
 use lib.Signed.{mag}
+use mir.Syntax.{Width}
+use mir.Val.{hbits, toZ}
 use Rattle.wire.specs.Signed.{signedOf, unsignedOf}
+
+-- counting down from -1, at every width
+down-from : (m : ℕ) → negsuc 0 -ℤ pos m ≡ negsuc m
+down-from zero = refl
+down-from (suc m) = ap (λ (k : ℕ). negsuc (suc k)) (zero-add m)
+
+pub downward : (w : Width) (m : ℕ) → m < 2 ^ hbits w → negsuc 0 -ℤ toZ w m ≡ negsuc m
+downward w m h = rw (lt-ltb m (2 ^ hbits w) h) (down-from m)
 
 -- the two rows of `signedOf`
 pub signed-low : (n : ℕ) → n < 9223372036854775808 → signedOf n ≡ pos n

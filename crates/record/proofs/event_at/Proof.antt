@@ -1,14 +1,11 @@
--- Each return is a row of what stands at a place: of an event, or of a run where runs may stand.
+-- Each return is a row of what stands at a place: of an event, or of what has another kind.
 -- Assumes nothing.
-use mathlib.Core.Bool.{true, false, _&&_}
-use mathlib.Core.Path.{_≡_, sym, _∙_}
+use mathlib.Core.Bool.{false, _&&_, and-false}
+use mathlib.Core.Path.{_≡_, sym}
 use native.Mathlib.Omega.{arith}
-use borrow.Author.Tests.{eqb-true}
-use lib.Dec.{eqb}
 use lib.ListN.{drop}
-use Rattle.decide.specs.Test.{both}
 use Rattle.record.specs.Read.{isRun}
-use Rattle.record.proofs.Rows.{run-flag, item-end, item-short, event-faulty, event-stands}
+use Rattle.record.proofs.Rows.{run-not-at, item-end, item-short, event-faulty, event-stands}
 use borrow.Author.Needs.{needs}
 use Rattle.record.proofs.event_at.Statement.{statement}
 use Rattle.record.proofs.event_at.Tie as tie
@@ -28,17 +25,11 @@ add-get16 c = search needs
 get16-requires : tie.Need-get16-requires
 get16-requires c κs = search needs
 
-run-at-requires : tie.Need-run-at-requires
-run-at-requires c κs =
-    let a = c .before .before .before .before .before .args in
-    let k = eqb-true (c .before .get16 .result) 4 (both (a .runs) (eqb (c .before .get16 .result) 4) (c .if3 .taken) .1) in
-    (omega arith, sym (c .before .get16 .ensures) ∙ k)
+other-at-requires : tie.Need-other-at-requires
+other-at-requires c κs = (omega arith, c .before .get16 .ensures, omega arith)
 
 returns-3 : tie.Need-returns-3
-returns-3 c =
-    let a = c .before .before .before .before .before .before .args in
-    let r : a .runs ≡ true = both (a .runs) (eqb (c .before .before .get16 .result) 4) (c .before .if3 .taken) .0 in
-    c .run-at .ensures ∙ rw r
+returns-3 c = c .other-at .ensures
 
 get16-requires-2 : tie.Need-get16-requires-2
 get16-requires-2 c κs = search needs
@@ -55,8 +46,8 @@ fault-requires c κs = search needs
 returns-4 : tie.Need-returns-4
 returns-4 c =
     let a = c .before .before .before .before .before .before .before .before .before .args in
-    let r : (a .runs && isRun (drop (a .at) (a .s .now))) ≡ false =
-    rw (run-flag (a .s .now) (a .at), ← c .before .before .before .before .before .get16 .ensures) (c .before .before .before .before .if3 .left) in
+    let k = c .before .before .before .before .before .get16 .ensures in
+    let r : (a .runs && isRun (drop (a .at) (a .s .now))) ≡ false = rw (run-not-at (a .s .now) (a .at) (λ e. omega arith)) (and-false (a .runs)) in
     sym (event-faulty (a .runs) (a .mtu) (a .s .now) (a .at) r _ (omega arith) (cc) (c .if4 .taken))
 
 cast-t9 : tie.Need-cast-t9
@@ -79,7 +70,7 @@ event-at-spec =
     returns-2
     add-get16
     get16-requires
-    run-at-requires
+    other-at-requires
     returns-3
     get16-requires-2
     add-get16-2
