@@ -9,8 +9,8 @@ functions =
       bytes-put-header = λ s limits. by-equation;
       bytes-put-item = λ s at kind number count. both;
       bytes-item-length = λ count. by-equation;
-      bytes-put-events = λ s at kind number count. both;
-      bytes-put-event = λ s at kind number. by-equation;
+      bytes-put-ticks = λ s at tick count. both;
+      bytes-put-word = λ s at word. by-equation;
       roll = λ s room. both;
       unroll = λ s room. both;
     }

@@ -1,6 +1,6 @@
 -- Public functions of `roll`, by name: two answers that meet the contract are equal.
 -- Assumes nothing.
-use Prim.Native.Nat.{_*_, _+_, ℕ}
+use Prim.Native.Nat.{_%_, _*_, _+_, _/_, ℕ}
 use Rattle.record.specs.Record.{headerBytes}
 use Rattle.roll.specs.Moved.{leftOf, movedOf, rolledBytes, unrolledBytes}
 use Rattle.roll.specs.Steps.{eventFields, itemFields, itemLength, repeatedFields}
@@ -18,10 +18,10 @@ pub record Functions : Type 0 where
   pub bytes-put-item : (s : List ℕ) (at kind number count : ℕ) → Determined² (λ (r : ℕ) (after-s : List ℕ). (r ≡ at + itemLength count) × (after-s ≡ put s at (itemFields kind number count)))
   -- bytes::item_length
   pub bytes-item-length : (count : ℕ) → Determined (λ (r : ℕ). r ≡ itemLength count)
-  -- bytes::put_events (a leaf: it asks that at + 6 * count ≤ length (now s))
-  pub bytes-put-events : (s : List ℕ) (at kind number count : ℕ) → Determined² (λ (r : ℕ) (after-s : List ℕ). (r ≡ at + 6 * count) × (after-s ≡ put s at (repeatedFields count kind number)))
-  -- bytes::put_event (a leaf: it asks that at + 6 ≤ length (now s))
-  pub bytes-put-event : (s : List ℕ) (at kind number : ℕ) → Determined (λ (after-s : List ℕ). after-s ≡ put s at (eventFields kind number))
+  -- bytes::put_ticks (a leaf: it asks that at + 6 * count ≤ length (now s))
+  pub bytes-put-ticks : (s : List ℕ) (at tick count : ℕ) → Determined² (λ (r : ℕ) (after-s : List ℕ). (r ≡ at + 6 * count) × (after-s ≡ put s at (repeatedFields count (tick % 65536) (tick / 65536))))
+  -- bytes::put_word (a leaf: it asks that at + 6 ≤ length (now s))
+  pub bytes-put-word : (s : List ℕ) (at word : ℕ) → Determined (λ (after-s : List ℕ). after-s ≡ put s at (eventFields (word % 65536) (word / 65536)))
   -- roll
   pub roll : (s room : List ℕ) → Determined² (λ (r : Moved) (after-room : List ℕ). (r ≡ movedOf (rolledBytes s) room) × (after-room ≡ leftOf (rolledBytes s) room))
   -- unroll

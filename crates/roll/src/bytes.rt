@@ -1,6 +1,6 @@
 // What the movers write, each to a slice from a place on. A function that answers a number answers the place behind what it wrote.
 ghost use mathlib.Core.Path.{_≡_};
-ghost use Prim.Native.Nat.{_+_, _*_, _≤_};
+ghost use Prim.Native.Nat.{_+_, _*_, _/_, _%_, _≤_};
 ghost use lib.ListN.{length};
 ghost use Rattle.decide.specs.Test.{Holds};
 ghost use Rattle.shaper.specs.Limits.{limitsOk};
@@ -42,24 +42,33 @@ pub fn item_length(count: usize) -> usize
     if count == 1 { 6 } else { 10 }
 }
 
-// So many equal events, one by one.
-pub fn put_events(s: &mut [u8], at: usize, kind: u16, number: u16, count: u32) -> usize
+// So many equal ticks, one by one: a tick's kind and amount are one word.
+pub fn put_ticks(s: &mut [u8], at: usize, tick: u32, count: u32) -> usize
     requires { ⌜ at + 6 * count ≤ length (now s) ⌝ }
     ensures { λ r. ⌜ r ≡ at + 6 * count ⌝ }
-    ensures { λ _. ⌜ now (s .exit) ≡ put (now (s .entry)) at (repeatedFields count kind number) ⌝ }
+    ensures { λ _. ⌜ now (s .exit) ≡ put (now (s .entry)) at (repeatedFields count (tick % 65536) (tick / 65536)) ⌝ }
 {
     let mut end = at;
     let mut left = count;
     while 0 < left {
-        put_event(s, end, kind, number);
+        put_word(s, end, tick);
         end += 6;
         left -= 1;
     }
     end
 }
 
+// An event whose kind and number are one word, as they lie in a record: read together, they are written together.
+pub fn put_word(s: &mut [u8], at: usize, word: u32)
+    requires { ⌜ at + 6 ≤ length (now s) ⌝ }
+    ensures { λ _. ⌜ now (s .exit) ≡ put (now (s .entry)) at (eventFields (word % 65536) (word / 65536)) ⌝ }
+{
+    wire::put16(s, at, 6);
+    wire::put32(s, at + 2, word);
+}
+
 // An event.
-pub fn put_event(s: &mut [u8], at: usize, kind: u16, number: u16)
+fn put_event(s: &mut [u8], at: usize, kind: u16, number: u16)
     requires { ⌜ at + 6 ≤ length (now s) ⌝ }
     ensures { λ _. ⌜ now (s .exit) ≡ put (now (s .entry)) at (eventFields kind number) ⌝ }
 {

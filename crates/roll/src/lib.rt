@@ -12,10 +12,10 @@ ghost use Rattle.wire.specs.Wire.{put};
 ghost use Rattle.roll.specs.Moved.{rolledBytes, unrolledBytes, movedOf, leftOf};
 ghost use Rattle.roll.specs.Steps.{Reads, Readable, outputOf, TakenAt, itemBytes, repeatedAt};
 use bytes::item_length;
-use bytes::put_event;
-use bytes::put_events;
 use bytes::put_header;
 use bytes::put_item;
+use bytes::put_ticks;
+use bytes::put_word;
 use shaper::Limits;
 use summary::Answer;
 
@@ -168,17 +168,17 @@ fn put_next(s: &[u8], at: usize, room: &mut [u8], end: usize) -> Ends
     ensures { λ _. ⌜ now (room .exit) ≡ put (now (room .entry)) end (repeatedAt (now (s .entry)) at) ⌝ }
 {
     let kind = wire::get16(s, at + 2);
-    let number = wire::get16(s, at + 4);
     if kind == RUN {
-        let amount = wire::get16(s, at + 6);
+        let tick = wire::get32(s, at + 4);
         let count = wire::get16(s, at + 8);
-        let after = put_events(room, end, number, amount, count as u32);
+        let after = put_ticks(room, end, tick, count as u32);
         return Ends {
             at: at + 10,
             end: after,
         };
     }
-    put_event(room, end, kind, number);
+    let event = wire::get32(s, at + 2);
+    put_word(room, end, event);
     Ends {
         at: at + EVENT,
         end: end + EVENT,
