@@ -15,7 +15,7 @@ use Rattle.decide.specs.Test.{test, split, _≡?_}
 use Rattle.decide.specs.Size.{sizeOk}
 use Rattle.decide.proofs.Cases.{by-cases, le-or}
 use Rattle.wire.specs.Wire.{le, Bytes}
-use Rattle.wire.proofs.Numbers.{le-add, le-bound}
+use Rattle.wire.proofs.Numbers.{le-add, le-bound, le-halves}
 use Rattle.tally.specs.declared.Part.{Part}
 use Rattle.tally.specs.Part.{growOf}
 use Rattle.record.specs.Read.{good}
@@ -76,10 +76,7 @@ module _ (xs : List ℕ) (at : ℕ) (b : Bytes xs) where
 
   -- the number is what stands above the kind
   pub number-at : le 4 xs (at + 2) / 65536 ≡ le 2 xs (at + 4)
-  number-at =
-      let e : le 4 xs (at + 2) ≡ le 2 xs (at + 2) + 65536 * le 2 xs (at + 2 + 2) = le-add 2 2 xs (at + 2) in
-      let k : at + 2 + 2 ≡ at + 4 = omega arith in
-      omega (arith, rw k at e, le-bound 2 xs (at + 2) b)
+  number-at = let k : at + 2 + 2 ≡ at + 4 = omega arith in rw k at (le-halves xs (at + 2) b .1)
 
   pub tested-at : (mtu : ℕ) →
       (((eqb (le 4 xs at) 196614 && test (sizeOk (le 2 xs (at + 4)) mtu)) || eqb (le 4 xs at) 131078) || eqb (le 4 xs at) 65542)

@@ -141,6 +141,10 @@ be-add m zero xs at = simp add-zero (omega arith)
 be-add m (suc n) xs at =
     rw (add-suc, add-assoc) (omega (arith, pow-times n (be m xs at), be-add m n xs at))
 
+-- a word that is read is the two numbers that stand there
+pub le-halves : (xs : List ℕ) (at : ℕ) → Bytes xs → (le 4 xs at % 65536 ≡ le 2 xs at) × (le 4 xs at / 65536 ≡ le 2 xs (at + 2))
+le-halves xs at b = let e = le-add 2 2 xs at in let m = le-bound 2 xs at b in (omega (arith, e, m), omega (arith, e, m))
+
 -- what is above n bytes is not written
 digits-above : (n r q : ℕ) → digits n (r + 256 ^ n * q) ≡ digits n r
 unfolding digits

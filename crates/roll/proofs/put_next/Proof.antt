@@ -5,17 +5,17 @@ use mathlib.Core.List.{List}
 use mathlib.Core.Path.{_≡_, sym, ap, _∙_}
 use native.Mathlib.Omega.{arith}
 use Rattle.wire.specs.Wire.{le, Bytes}
-use Rattle.wire.proofs.Numbers.{le-add, le-bound}
+use Rattle.wire.proofs.Numbers.{le-halves}
 use Rattle.roll.proofs.Laying.{RunFields, run-fields, EventFields, event-fields, item-least, repeated-one}
 use borrow.Author.Needs.{needs}
 use Rattle.roll.proofs.put_next.Statement.{statement}
 use Rattle.roll.proofs.put_next.Tie as tie
 
--- a word that is read is the two numbers that stand there
+-- a word that is read is the two numbers that it stands for, by `le-halves`
 halves : (xs : List ℕ) (at next w k v : ℕ) → Bytes xs → next ≡ at + 2 → w ≡ le 4 xs at → k ≡ le 2 xs at → v ≡ le 2 xs next → (w % 65536 ≡ k) × (w / 65536 ≡ v)
 halves xs at next w k v b n e ek ev =
-    let all : le 4 xs at ≡ le 2 xs at + 65536 * le 2 xs next = rw n (le-add 2 2 xs at) in
-    (omega (arith, all, e, ek, le-bound 2 xs at b), omega (arith, all, e, ev, le-bound 2 xs at b))
+    let h = le-halves xs at b in
+    (ap (λ (x : ℕ). x % 65536) e ∙ h .0 ∙ sym ek, ap (λ (x : ℕ). x / 65536) e ∙ h .1 ∙ sym (rw n at ev))
 
 add-get16 : tie.Need-add-get16
 add-get16 c = search needs
