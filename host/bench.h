@@ -12,7 +12,8 @@ extern const struct calls same;
  * its bound is not above it in one run and below it in the next. Mixed records have another bound on Arm, where the branches that plain C mispredicts cost less.
  * BOUND_FLAGS is for regular and for short records beside plain C whose loop lies where two flags put it, BOUND_PLACED beside plain C at its best place (tools/bench).
  * BOUND_RUNS is for rolling and unrolling, and for a record in runs. FASTER is another bound: so many times faster, at least, a million ticks are summed in runs than one
- * by one. The bounds of the commands are in tools/bench-commands.
+ * by one, and a million repeats are answered than plain C goes through them. BOUND_DOUBLED is for repeats beside C that joins a summary with itself as the library does. The
+ * bounds of the commands are in tools/bench-commands.
  */
 #define BOUND 1.25
 #define BOUND_FLAGS 1.0
@@ -23,6 +24,7 @@ extern const struct calls same;
 #define BOUND_MIXED 0.3
 #endif
 #define BOUND_RUNS 1.5
+#define BOUND_DOUBLED 1.5
 #define FASTER 1000
 #define BOUND_STATION 1.05
 #define BOUND_START 1.2
@@ -49,10 +51,15 @@ void close_above(void);
 /* The heading of a table. The state is NULL where there is one alone. */
 void bench_heading(const char *what, const char *state);
 
-/* Measures and prints a row. One that is above its bound is measured once more before that is told. The library's ns, by parts. */
-double bench_row(const struct row *row);
+/* The ns of a row, by parts: the library's, and plain C's or who stands in for it. */
+struct times {
+    double library, plain;
+};
 
-/* Prints how many times faster the library is at one thing than at another, and tells where that is not FASTER at least. */
+/* Measures and prints a row. One that is above its bound is measured once more before that is told. */
+struct times bench_row(const struct row *row);
+
+/* Prints how many times faster the library is at one thing than at another, or than plain C, and tells where that is not FASTER at least. */
 void bench_faster(const char *what, double times);
 
 /* The tables of the station's calls. */
@@ -61,7 +68,10 @@ void bench_station(void);
 /* The tables of records in runs. */
 void bench_runs(void);
 
-/* Before a time is taken: the three sides answer and leave the same on records and stations of all kinds, good, faulty and damaged. The room has space for a record of
+/* The tables of patterns that are repeated. */
+void bench_heartbeat(void);
+
+/* Before a time is taken: the three sides answer and leave the same on records, patterns and stations of all kinds, good, faulty and damaged. The room has space for a record of
  * a million events and one event more. */
 void compare_sides(uint8_t *room);
 

@@ -1,5 +1,5 @@
 /*
- * Before a time is taken: the library and C with its algorithm answer as plain C does, and leave the same bytes. Records at random, and such with a fault; stations as
+ * Before a time is taken: the library and C with its algorithm answer as plain C does, and leave the same bytes. Records and patterns at random, and such with a fault; stations as
  * random calls leave them, and such with a byte or a word changed.
  */
 #include <string.h>
@@ -114,6 +114,35 @@ static void compare_longest(uint8_t *record) {
     compare_record(record, length + 1);
 }
 
+/* ---- patterns ---- */
+
+/* Few times, or about as often as a million events allow, or any number of times. Plain C goes through all of them: most are few. */
+static uint64_t random_repeats(unsigned events) {
+    switch (below(100)) {
+        case 0: return RPR_MOST_EVENTS / (events + 1) + below(3);
+        case 1: return (uint64_t)next_random() << 33 >> below(60);
+        default: return below(40);
+    }
+}
+
+static void compare_pattern(const uint8_t *pattern, size_t length, uint64_t repeats) {
+    uint64_t answer = plain.heartbeat(pattern, length, repeats);
+    for (size_t i = 0; i < sizeof others / sizeof others[0]; i++)
+        if (others[i]->heartbeat(pattern, length, repeats) != answer) give_up("a pattern is answered otherwise than by plain C");
+}
+
+/* Records, of which many have too many events; and their fronts, which have up to 256, or a few more. */
+static void compare_patterns(void) {
+    static uint8_t record[HEADER + EVENT * LONGEST];
+    for (int i = 0; i < RECORDS; i++) {
+        size_t length = i % 2 == 0 ? random_record(record) : random_items(record), most = HEADER + EVENT * (size_t)below(RPR_HEARTBEAT_EVENTS + 4);
+        if (i % 4 < 3 && length > most) length = most;
+        compare_pattern(record, length, random_repeats((unsigned)(length - HEADER) / EVENT));
+        length = damaged_record(record, length);
+        compare_pattern(record, length, random_repeats(below(RPR_HEARTBEAT_EVENTS)));
+    }
+}
+
 /* ---- stations ---- */
 
 /* A call that changes a station, with numbers that are mostly in range. */
@@ -199,5 +228,6 @@ static void compare_stations(void) {
 void compare_sides(uint8_t *room) {
     compare_records();
     compare_longest(room);
+    compare_patterns();
     compare_stations();
 }

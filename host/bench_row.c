@@ -66,7 +66,7 @@ static void tell_above(const struct row *row, const double least[SIDES]) {
             row->state == NULL ? "" : row->state, least[LIBRARY] / least[PLAIN], row->bound, MARGIN);
 }
 
-double bench_row(const struct row *row) {
+struct times bench_row(const struct row *row) {
     double least[SIDES] = {1e12, 1e12, 1e12};
     measure(row, least);
     if (is_above(row, least)) measure(row, least);
@@ -74,7 +74,7 @@ double bench_row(const struct row *row) {
            least[SAME], least[LIBRARY] / least[SAME]);
     fflush(stdout);
     if (is_above(row, least)) tell_above(row, least);
-    return least[LIBRARY];
+    return (struct times){least[LIBRARY], least[PLAIN]};
 }
 
 void bench_faster(const char *what, double times) {

@@ -104,9 +104,9 @@ static double sum_runs(const struct calls *side, const void *of, uint64_t *answe
 static void bench_sums(void) {
     bench_heading("1,000,000 idle ticks, all equal, ns per record", NULL);
     set_up(fill_idle);
-    double each = bench_row(&(struct row){"rpr_summarize, one by one", NULL, BOUND, 1, 0, sum_old, NULL, NULL});
-    double runs = bench_row(&(struct row){"rpr_summarize, 16 runs", NULL, BOUND_RUNS, CALLS, 0, sum_runs, NULL, NULL});
-    bench_faster("rpr_summarize, times faster in runs", each / runs);
+    struct times each = bench_row(&(struct row){"rpr_summarize, one by one", NULL, BOUND, 1, 0, sum_old, NULL, NULL});
+    struct times runs = bench_row(&(struct row){"rpr_summarize, 16 runs", NULL, BOUND_RUNS, CALLS, 0, sum_runs, NULL, NULL});
+    bench_faster("rpr_summarize, times faster in runs", each.library / runs.library);
 }
 
 void bench_runs(void) {

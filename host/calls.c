@@ -1,6 +1,6 @@
 #include "calls.h"
 
-/* A call that rpr.h declares otherwise than the list does not compile here. */
+/* A call that its header declares otherwise than the list does not compile here. */
 const struct calls library = {
 #define CALL(name, ...) .name = rpr_##name,
 #include "calls.def"

@@ -1,9 +1,9 @@
-/* The library's calls and plain C's under the same names, and settings to try both with. */
+/* The calls of both libraries, and plain C's, under the same names, and settings to try both with. */
 #ifndef CALLS_H
 #define CALLS_H
 
 #include "plain.h"
-#include "rpr.h"
+#include "rpr_heartbeat.h"
 
 /* Both sides are called through pointers, so that neither is drawn into a loop that is timed. */
 struct calls {

@@ -51,6 +51,7 @@ uint64_t rpr_main_join(void);
 uint64_t rpr_main_compare(void);
 uint64_t rpr_main_roll(uint8_t *record, size_t record_length, uint8_t *room, size_t room_length);
 uint64_t rpr_main_unroll(uint8_t *record, size_t record_length, uint8_t *room, size_t room_length);
+uint64_t rpr_main_heartbeat(void);
 
 /* What roll and unroll are lent: bytes to read a record into, and a room for what they write, as long as the longest record without runs. Behind 999,999 events a run may
  * stand, which passes the million: with its bytes too, the fault of any longer file is among the bytes that are read. */
@@ -85,6 +86,10 @@ static const struct command {
      "rpr unroll [FILE]\n"
      "    A record, as bytes, with each of its runs as single ticks: what roll wrote comes back. It reads FILE, or standard input.\n"
      "    Status: 0 done, 1 refused, 2 trouble.\n"},
+    {"heartbeat", rpr_main_heartbeat,
+     "rpr heartbeat PATTERN REPEATS\n"
+     "    Whether a pattern, a record of at most 256 events as bytes, is permitted throughout from loLimit, so many times over: the\n"
+     "    summary of the written-out record. Status: 0 permitted, 1 not permitted, 2 refused or trouble.\n"},
 };
 enum { COMMANDS = sizeof commands / sizeof commands[0] };
 

@@ -263,6 +263,7 @@ int main(void) {
     each_ring(station);
     each_method(station);
     each_item();
+    each_pattern();
     printf("%lu stations, %lu of them in range, %lu offers short of credit, %lu frames beyond the ring: ", tried, good, lacking, beyond);
     puts("the library and plain C do the same");
     return lacking > 0 && beyond > 0 ? 0 : 1;

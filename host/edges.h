@@ -1,4 +1,4 @@
-/* Stations with something changed, the library beside plain C: what edges.c and edges_methods.c share; and records, in edges_runs.c. */
+/* Stations with something changed, the library beside plain C: what edges.c and edges_methods.c share; and records and patterns, by edges_items.h. */
 #ifndef EDGES_H
 #define EDGES_H
 
@@ -28,7 +28,10 @@ static inline void change(uint8_t *station, unsigned at, uint32_t v) { put(stati
  * and around each edge of their steps. */
 void each_method(uint8_t *station);
 
-/* Records with one number of an item changed, with long runs, and around the millionth event. */
+/* Records with one number of an item changed, with long runs, and around the millionth event; as patterns too. */
 void each_item(void);
+
+/* Patterns around the 256th event, repeats around the limit and the ends of numbers, and credits around loLimit and hiLimit. */
+void each_pattern(void);
 
 #endif

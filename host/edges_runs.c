@@ -3,21 +3,25 @@
  * differ in one bit, runs around the longest, and items around the millionth event. It is known of each what it is refused with. rpr_summarize, rpr_roll and
  * rpr_unroll answer and leave the same on both sides, with rooms that are long enough and one byte too short.
  */
-#include "edges.h"
+#include "edges_items.h"
 
 #include <stdio.h>
 #include <stdlib.h>
 #include <string.h>
 
-enum { HEADER = RPR_RECORD_HEADER_LENGTH, EVENT = RPR_RECORD_EVENT_LENGTH, RUN = RPR_RECORD_RUN_LENGTH, LARGEST = 64 };
 enum { SUMS, ROLLS, UNROLLS, SOME_ROOM = 40, LONG_ROOM = 4000, BEHIND = 16, FILL = 0x5a };
 
 static const char *const names[] = {"summarize", "roll", "unroll"};
-static const uint8_t header[HEADER] = {14, 0, 16, 0, LARGEST, 0, 100, 0, 0, 0, 44, 1, 0, 0};
+static const uint8_t header[HEADER] = {14, 0, 16, 0, LARGEST, 0, LOW, 0, 0, 0, HIGH % 256, HIGH / 256, 0, 0};
 
-/* A record, and the rooms of both sides. */
-static uint8_t *record, *ours, *theirs;
+uint8_t record[RPR_RECORD_MOST + RPR_RECORD_RUN_LENGTH];
+
+/* The rooms of both sides. */
+static uint8_t *ours, *theirs;
 static unsigned long records, moved;
+
+/* The events before the item that is tried, where they are many. */
+static uint32_t before;
 
 /* ---- one record ---- */
 
@@ -29,11 +33,16 @@ static uint64_t ask(const struct calls *side, int call, size_t length, uint8_t *
     }
 }
 
-_Noreturn static void differs(int call, size_t length, size_t room, uint64_t answer, const char *what) {
-    printf("%s of %zu bytes, a room of %zu: answer %#llx; %s; the last bytes are", names[call], length, room, (unsigned long long)answer, what);
+void end_with(size_t length, uint64_t answer, const char *what) {
+    printf("%zu bytes: answer %#llx; %s; the last bytes are", length, (unsigned long long)answer, what);
     for (size_t i = length > 24 ? length - 24 : 0; i < length; i++) printf(" %02x", record[i]);
     putchar('\n');
     exit(1);
+}
+
+_Noreturn static void differs(int call, size_t length, size_t room, uint64_t answer, const char *what) {
+    printf("%s, a room of %zu: ", names[call], room);
+    end_with(length, answer, what);
 }
 
 /* Both sides on the same record, with a room of so many bytes. The answer. Behind what is written all stays. */
@@ -61,7 +70,8 @@ static void try_move(int call, size_t length, uint64_t known, size_t bytes) {
     moved += known == 0;
 }
 
-/* The record is refused with this number by all but rpr_roll, which refuses it with that. Where that is 0 it rolls to so many bytes. Long ways back are left out. */
+/* The record is refused with this number by all but rpr_roll, which refuses it with that. Where that is 0 it rolls to so many bytes. Long ways back are left out. As a pattern it is
+ * refused with this number too, where it has no more events than a pattern may have. */
 static void try_record(size_t length, uint64_t known, uint64_t of_roll, size_t rolled) {
     struct rpr_summary sum;
     records++;
@@ -75,19 +85,22 @@ static void try_record(size_t length, uint64_t known, uint64_t of_roll, size_t r
         try_move(UNROLLS, length, known, unrolled);
     }
     try_move(ROLLS, length, of_roll, rolled);
+    uint32_t events = known == 0 ? sum.events : before;
+    try_pattern(length, events > RPR_HEARTBEAT_EVENTS ? RPR_RANGE : known, events);
 }
 
 /* ---- items ---- */
 
+void begin_record(void) { memcpy(record, header, HEADER); }
+
 static void put16(uint8_t *p, uint32_t v) { p[0] = (uint8_t)v, p[1] = (uint8_t)(v >> 8); }
 
-/* Puts an item behind so many bytes of the record: how many there are then. */
-static size_t add_event(size_t at, uint32_t kind, uint32_t number) {
+size_t add_event(size_t at, uint32_t kind, uint32_t number) {
     put16(record + at, EVENT), put16(record + at + 2, kind), put16(record + at + 4, number);
     return at + EVENT;
 }
 
-static size_t add_run(size_t at, uint32_t kind, uint32_t amount, uint32_t count) {
+size_t add_run(size_t at, uint32_t kind, uint32_t amount, uint32_t count) {
     put16(record + at, RUN), put16(record + at + 2, RPR_RUN), put16(record + at + 4, kind), put16(record + at + 6, amount), put16(record + at + 8, count);
     return at + RUN;
 }
@@ -170,51 +183,54 @@ static void each_stretch(void) {
         }
 }
 
-/* The first bytes of an item and then all of them, or in the old form all but the last and then all, behind a million events but so many. The item has this fault, and that
- * one to rpr_roll; in a record with runs before it rpr_roll refuses those. */
+/* The first bytes of an item and then all of them, or in the old form all but the last and then all, behind a million events but so many. In a record with runs before it
+ * rpr_roll refuses those. */
 static void try_last(size_t front, size_t length, uint32_t left, int old, uint64_t fault, uint64_t of_roll) {
     for (size_t bytes = old ? length - 1 : 1; bytes <= length; bytes++) {
-        uint64_t before = left == 0 ? RPR_MANY_EVENTS : bytes < length ? RPR_BYTES : 0;
-        uint64_t known = before != 0 ? before : fault, known_of_roll = !old ? RPR_BYTES : before != 0 ? before : of_roll;
+        uint64_t early = left == 0 ? RPR_MANY_EVENTS : bytes < length ? RPR_BYTES : 0;
+        uint64_t known = early != 0 ? early : fault, known_of_roll = !old ? RPR_BYTES : early != 0 ? early : of_roll;
         try_record(front + bytes, known, known_of_roll, HEADER + in_runs(RPR_MOST_EVENTS - left) + EVENT);
     }
 }
 
-/* Each kind of event, and sends of a wrong size; and runs of each kind of tick, with counts around what is left. */
-static void each_last(size_t front, uint32_t left, int old) {
+static void behind_runs(size_t front, size_t length, uint32_t left, uint64_t fault, uint64_t of_roll) { try_last(front, length, left, 0, fault, of_roll); }
+static void behind_events(size_t front, size_t length, uint32_t left, uint64_t fault, uint64_t of_roll) { try_last(front, length, left, 1, fault, of_roll); }
+
+void each_last(size_t front, uint32_t left, uint64_t late, try_item *try) {
     static const uint32_t counts[] = {0, 1, 2, 3, 4, 65535}, numbers[] = {15, 20, LARGEST + 1};
     for (uint32_t kind = 0; kind <= 5; kind++)
         for (size_t i = 0; i < sizeof numbers / sizeof numbers[0]; i++) {
             uint64_t fault = fault_of_event(EVENT, kind, numbers[i]);
             add_event(front, kind, numbers[i]);
-            try_last(front, EVENT, left, old, fault, fault);
+            try(front, EVENT, left, fault, fault);
         }
     for (uint32_t kind = 0; kind <= 3; kind++)
         for (size_t i = 0; i < sizeof counts / sizeof counts[0]; i++) {
-            uint64_t fault = !is_tick(kind) || counts[i] < 2 ? RPR_BYTES : counts[i] > left ? RPR_MANY_EVENTS : 0;
+            uint64_t fault = !is_tick(kind) || counts[i] < 2 ? RPR_BYTES : counts[i] > left ? late : 0;
             add_run(front, kind, 20, counts[i]);
-            try_last(front, RUN, left, old, fault, RPR_BYTES);
+            try(front, RUN, left, fault, RPR_BYTES);
         }
 }
 
 /* A million ticks but so many, in runs and one by one, alone and with an item behind. */
 static void each_million(uint32_t left) {
-    size_t front = HEADER, count = RPR_MOST_EVENTS - left;
+    size_t front = HEADER, count = before = RPR_MOST_EVENTS - left;
     for (; count > RPR_MOST_COUNT; count -= RPR_MOST_COUNT) front = add_run(front, RPR_IDLE_TICK, 5, RPR_MOST_COUNT);
     front = add_run(front, RPR_IDLE_TICK, 5, (uint32_t)count);
     try_record(front, 0, RPR_BYTES, 0);
     try_move(UNROLLS, front, 0, HEADER + EVENT * (size_t)(RPR_MOST_EVENTS - left));
-    each_last(front, left, 0);
+    each_last(front, left, RPR_MANY_EVENTS, behind_runs);
     front = HEADER;
     for (count = RPR_MOST_EVENTS - left; count > 0; count--) front = add_event(front, RPR_IDLE_TICK, 5);
     try_record(front, 0, 0, HEADER + in_runs(RPR_MOST_EVENTS - left));
-    if (left < 3) each_last(front, left, 1);
+    if (left < 3) each_last(front, left, RPR_MANY_EVENTS, behind_events);
+    before = 0;
 }
 
 void each_item(void) {
-    record = malloc(RPR_RECORD_MOST + RUN), ours = malloc(RPR_RECORD_MOST + 2 * BEHIND), theirs = malloc(RPR_RECORD_MOST + 2 * BEHIND);
-    if (record == NULL || ours == NULL || theirs == NULL) puts("no memory"), exit(1);
-    memcpy(record, header, HEADER);
+    ours = malloc(RPR_RECORD_MOST + 2 * BEHIND), theirs = malloc(RPR_RECORD_MOST + 2 * BEHIND);
+    if (ours == NULL || theirs == NULL) puts("no memory"), exit(1);
+    begin_record();
     each_cut();
     each_pair();
     for (uint32_t kind = RPR_WAITING_TICK; kind <= RPR_SEND; kind++) each_event(kind, 20);
@@ -222,5 +238,5 @@ void each_item(void) {
     each_stretch();
     for (uint32_t left = 0; left <= 3; left++) each_million(left);
     printf("%lu records, moved %lu times to the other form: the library and plain C do the same\n", records, moved);
-    free(record), free(ours), free(theirs);
+    free(ours), free(theirs);
 }

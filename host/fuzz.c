@@ -144,19 +144,22 @@ static void lay_out(struct input *in, struct request *r, int at, unsigned how) {
         case HOLDS_settings: settings(in, s); break;
         case HOLDS_station: set(s, station, sizeof station); break;
         case HOLDS_frame: fairness(in, s, how); break;
-        case HOLDS_record: record(in, s, how); break;
+        case HOLDS_record:
+        case HOLDS_pattern: record(in, s, how); break;
         case HOLDS_room: set_room(s, room_length(in, r->call, how), (uint8_t)how); break;
         case HOLDS_summary: set(s, summaries[byte(in) % SUMMARIES], RPR_SUMMARY_LENGTH); break;
         case NO_SLICE: break;
     }
 }
 
-/* The numbers of a call, and then its slices. Of a ring's links the input may say those that are down. */
+/* The numbers of a call, and then its slices. Of a ring's links the input may say those that are down. A pattern is repeated any number of times where the input
+ * says so, else few times: plain C goes through each of them. */
 static void give(struct input *in, struct request *r, unsigned how) {
     for (int i = 0; i < PARAMETERS; i++)
         if (signatures[r->call].parameters[i].kind == GIVEN_NUMBER) r->numbers[i] = number(in);
     if ((r->call == call_choose || r->call == call_path) && how & SECOND)
         r->numbers[3] = ~r->numbers[3] & ((UINT64_C(1) << r->numbers[0] % 64) - 1);
+    if (r->call == call_heartbeat && !(how & RAW)) r->numbers[1] %= 64;
     for (int i = 0; i < PARAMETERS; i++) lay_out(in, r, i, how);
 }
 

@@ -1,4 +1,4 @@
-/* The fuzz target: bytes become calls (fuzz.c), and each call is held to what every call promises (fuzz_check.c, for records with runs fuzz_runs.c). */
+/* The fuzz target: bytes become calls (fuzz.c), and each call is held to what every call promises (fuzz_check.c, for records with runs fuzz_runs.c, for patterns fuzz_heartbeat.c). */
 #ifndef FUZZ_H
 #define FUZZ_H
 
@@ -21,6 +21,7 @@ enum holds {
     HOLDS_station,
     HOLDS_frame,
     HOLDS_record,
+    HOLDS_pattern,
     HOLDS_room,
     HOLDS_summary,
     HOLDS_first = HOLDS_summary,
@@ -59,8 +60,15 @@ unsigned make(struct request *r);
 /* rpr_show takes these bytes for a station in range. */
 int in_range(const uint8_t *station);
 
+/* Two bytes as a number. */
+static inline uint32_t get16(const uint8_t *p) { return p[0] | (uint32_t)p[1] << 8; }
+
 /* Of a call on a record, which left this in its room: it is moved there and back, and each form comes to the same. */
 void check_runs(const struct request *r, uint64_t answer, const uint8_t *room);
+
+/* Of a pattern that is repeated: it is refused as a record is, or answered as the record is in which it is written out; and where one run of it ends at loLimit or above,
+ * it fits. */
+void check_heartbeat(const struct request *r, uint64_t answer);
 
 /* A promise is broken: says of what call and how, and ends the program. */
 _Noreturn void fail(const struct request *r, uint64_t answer, const char *what);

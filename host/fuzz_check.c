@@ -41,6 +41,7 @@ static const struct {
     [call_version] = {0, UINT64_MAX},
     [call_roll] = {REFUSES(2, 1, 3, 9) | REFUSES(12, 12, 12, 12), BYTE(4, 0x7fffff)},
     [call_unroll] = {REFUSES(2, 1, 3, 9) | REFUSES(12, 12, 12, 12), BYTE(4, 0x7fffff)},
+    [call_heartbeat] = {REFUSES(2, 1, 3, 9), BYTE(1, 1) | BYTE(4, 0x1fffff)},
 };
 
 /* ---- what the list says ---- */
@@ -336,6 +337,7 @@ unsigned make(struct request *r) {
     check_method(r, answer, number);
     check_short(r, answer);
     if (signatures[r->call].parameters[0].holds == HOLDS_record) check_runs(r, answer, places[1]);
+    if (r->call == call_heartbeat) check_heartbeat(r, answer);
     check_plain(r, answer);
     tally[r->call][number]++;
     for (int i = 0; i < PARAMETERS; i++)

@@ -8,8 +8,6 @@
 
 enum { HEADER = RPR_RECORD_HEADER_LENGTH, EVENT = RPR_RECORD_EVENT_LENGTH, RUN = RPR_RECORD_RUN_LENGTH };
 
-static uint32_t get16(const uint8_t *p) { return p[0] | (uint32_t)p[1] << 8; }
-
 /* The number that the record is refused with, or its summary. */
 static unsigned sum_of(const uint8_t *record, size_t length, struct rpr_summary *sum) {
     memset(sum, 0, sizeof *sum);

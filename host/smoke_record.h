@@ -12,6 +12,12 @@ enum { RECORD, FIRST, SECOND, ROOM };
 #define IDLE(amount) 6, 0, 2, 0, (amount), 0
 #define SEND(size) 6, 0, 3, 0, (size), 0
 
+/* Two bytes, and a run: the ticks' kind, their amount and their count. */
+#define TWO(number) (uint8_t)((number) & 0xff), (uint8_t)((number) >> 8)
+#define RUN(kind, amount, count) 10, 0, 4, 0, TWO(kind), TWO(amount), TWO(count)
+
+enum { WAITS = RPR_WAITING_TICK, IDLES = RPR_IDLE_TICK, HEADER_LENGTH = RPR_RECORD_HEADER_LENGTH };
+
 static inline void summarize(const char *what, const uint8_t *bytes, size_t length, uint64_t want) {
     lend(RECORD, bytes, length);
     lend_filled(ROOM, 0xaa, RPR_SUMMARY_LENGTH);

@@ -3,12 +3,6 @@
 
 #include "smoke_record.h"
 
-/* Two bytes, and a run: the ticks' kind, their amount and their count. */
-#define TWO(number) (uint8_t)((number) & 0xff), (uint8_t)((number) >> 8)
-#define RUN(kind, amount, count) 10, 0, 4, 0, TWO(kind), TWO(amount), TWO(count)
-
-enum { WAITS = RPR_WAITING_TICK, IDLES = RPR_IDLE_TICK, HEADER_LENGTH = RPR_RECORD_HEADER_LENGTH };
-
 /* ---- summaries ---- */
 
 /* Both records have this summary: one in runs, and the same events one by one. */

@@ -1,5 +1,5 @@
 //! Declares the calls of the list `host/calls.def` for the differ program, and with the feature
-//! `link` gives it the library under test.
+//! `link` gives it the library under test, with `heartbeat` also that of the heartbeats.
 
 use std::path::Path;
 use std::{env, fs};
@@ -36,19 +36,24 @@ fn declare_calls() {
     fs::write(Path::new(&folder).join("calls.rs"), text).expect("calls.rs can be written");
 }
 
+fn link_archive(folder: &str, name: &str) {
+    let archive = Path::new(folder).join(name).canonicalize();
+    let archive = archive.unwrap_or_else(|_| panic!("RPR_LIB_DIR holds {name}"));
+    let archive = archive.display();
+    println!("cargo:rerun-if-changed={archive}");
+    println!("cargo:rustc-link-arg-bin=differ={archive}");
+}
+
 fn link_library() {
     println!("cargo:rerun-if-env-changed=RPR_LIB_DIR");
     if env::var_os("CARGO_FEATURE_LINK").is_none() {
         return;
     }
     let folder = env::var("RPR_LIB_DIR").expect("RPR_LIB_DIR names the folder of librpr.a");
-    let library = Path::new(&folder)
-        .join("librpr.a")
-        .canonicalize()
-        .expect("RPR_LIB_DIR holds librpr.a");
-    let library = library.display();
-    println!("cargo:rerun-if-changed={library}");
-    println!("cargo:rustc-link-arg-bin=differ={library}");
+    link_archive(&folder, "librpr.a");
+    if env::var_os("CARGO_FEATURE_HEARTBEAT").is_some() {
+        link_archive(&folder, "libheartbeat.a");
+    }
     // A library with a panic handler of its own may define what this program has too.
     println!("cargo:rustc-link-arg-bin=differ=-Wl,--allow-multiple-definition");
 }

@@ -24,7 +24,7 @@ use Rattle.account.specs.Pieces.{Tree, piece, both, Cuts, joinedAlong}
 use Rattle.account.specs.Pieces as P
 use Rattle.account.proofs.Promises.{summarize-items}
 
-valid-left : (l : Limits) (xs ys : List Event) → AllValid l (xs ++ ys) → AllValid l xs
+pub valid-left : (l : Limits) (xs ys : List Event) → AllValid l (xs ++ ys) → AllValid l xs
 valid-left l [] ys v = tt
 valid-left l (e ∷ xs) ys v = (v .0, valid-left l xs ys (v .1))
 

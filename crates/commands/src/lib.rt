@@ -1,5 +1,6 @@
 // The commands of `rpr`: reading, printing, and what is said on standard error. What is printed is what `report`, `sheet`, `apart` and `roll` put into their rooms; what a
-// record comes to is what `hex`, `feed` and `window` say of it. Each command answers its exit status.
+// record comes to is what `hex`, `feed`, `window` and `heartbeat` say of it. Each command answers its exit status.
+mod beats;
 mod compare;
 mod join;
 mod listing;
@@ -36,4 +37,10 @@ pub extern "C" fn rpr_main_roll(record: &mut [u8], room: &mut [u8]) -> u64 {
 #[no_mangle]
 pub extern "C" fn rpr_main_unroll(record: &mut [u8], room: &mut [u8]) -> u64 {
     movers::run(false, record, room)
+}
+
+// `rpr heartbeat`: 0 where the repeated pattern is permitted throughout from loLimit, 1 where it is not, 2 where it is refused or there is trouble.
+#[no_mangle]
+pub extern "C" fn rpr_main_heartbeat() -> u64 {
+    beats::run()
 }

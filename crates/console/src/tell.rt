@@ -37,6 +37,15 @@ pub fn say(name: &[u8], words: &[u8]) {
     end_line(&mut room, at, words);
 }
 
+// Says words of a word of the command line that is no file.
+pub fn say_word(word: &[u8], words: &[u8]) {
+    let mut room = room();
+    let at = put(&mut room, 0, b"rpr: ");
+    let at = put(&mut room, at, word);
+    let at = put(&mut room, at, b": ");
+    end_line(&mut room, at, words);
+}
+
 // Says a refusal of a file, with its number and what that means there.
 pub fn refused(name: &[u8], number: u64, words: &[u8]) {
     let mut digits = [0u8; 20];
@@ -59,6 +68,21 @@ pub fn refused_record(name: &[u8], number: u64) {
         refused(name, number, b"the size of a send is outside its range");
     } else {
         refused(name, number, b"over 1,000,000 events");
+    }
+}
+
+// Says a refusal of a heartbeat's pattern, by its number.
+pub fn refused_pattern(name: &[u8], number: u64) {
+    if number == 3 {
+        refused(
+            name,
+            number,
+            b"over 256 events, or the size of a send is outside its range",
+        );
+    } else if number == 9 {
+        refused(name, number, b"over 1,000,000 events with so many repeats");
+    } else {
+        refused_record(name, number);
     }
 }
 

@@ -32,6 +32,7 @@ use Rattle.paper.proofs.OfStation as OfStation
 use Rattle.paper.proofs.OfSlots as OfSlots
 use Rattle.paper.proofs.OfLayout as OfLayout
 use Rattle.paper.proofs.OfAnswer as OfAnswer
+use Rattle.paper.proofs.OfHeartbeat as OfHeartbeat
 use Rattle.paper.proofs.OfRpr as OfRpr
 use Rattle.paper.proofs.OfEntry as OfEntry
 
@@ -69,6 +70,7 @@ answers-determined =
       of-slots = OfSlots.functions;
       of-layout = OfLayout.functions;
       of-answer = OfAnswer.functions;
+      of-heartbeat = OfHeartbeat.functions;
       of-rpr = OfRpr.functions;
       of-entry = OfEntry.functions;
     }

@@ -90,7 +90,7 @@ module _ (xs : List ℕ) where
 -- ---- the cause
 
 -- an item that stands for more than one event is a run, of as many as its count
-many-run : (q : List ℕ) (done most : ℕ) → done < most → most < done + itemCount q → (le 2 q 2 ≡ 4) × (itemCount q ≡ le 2 q 8)
+pub many-run : (q : List ℕ) (done most : ℕ) → done < most → most < done + itemCount q → (le 2 q 2 ≡ 4) × (itemCount q ≡ le 2 q 8)
 many-run q done most few over =
     by-cases (true-or-false (isRun q))
     (λ r. (kind-there q r, told-run q r .count))

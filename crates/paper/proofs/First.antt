@@ -75,6 +75,7 @@ use Rattle.paper.specs.Acts.{YesNo}
 use Rattle.paper.specs.First.{Refuses, RefusesLent, ReturnsShort, RefusesClient, Tested, Condition1}
 use Rattle.paper.proofs.Earliest.{refuses-record}
 use Rattle.paper.proofs.Rolling.{refuses-roll, refuses-unroll}
+use Rattle.paper.proofs.Heartbeats.{refuses-heartbeat}
 use Rattle.paper.proofs.Reasons.{refuses-alone, Meant, none, row, tried, denies, faulted, tests, tested, equal, below, both-exactly, flags-exactly}
 
 -- ---- by the rows
@@ -360,4 +361,5 @@ first-condition =
       settle = settled;
       roll = refuses-roll;
       unroll = refuses-unroll;
+      heartbeat = refuses-heartbeat;
     }

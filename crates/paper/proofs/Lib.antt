@@ -17,6 +17,7 @@ pub mod Program
 pub mod Parting
 pub mod Rolling
 pub mod Movers
+pub mod Heartbeats
 pub mod Third
 pub mod Determined
 pub mod OfDecide
@@ -50,6 +51,7 @@ pub mod OfStation
 pub mod OfSlots
 pub mod OfLayout
 pub mod OfAnswer
+pub mod OfHeartbeat
 pub mod OfRpr
 pub mod OfEntry
 pub mod Answers

@@ -68,7 +68,7 @@ unfolding digits
 written-bytes n = packed-bytes (writtenBytes n) (omega arith)
 
 -- a number stands in four bytes once
-once : (m n : ℕ) → m < 4294967296 → n < 4294967296 → digits 4 m ≡ digits 4 n → m ≡ n
+pub once : (m n : ℕ) → m < 4294967296 → n < 4294967296 → digits 4 m ≡ digits 4 n → m ≡ n
 once m n p q e = sym (packed-digits 4 m p) ∙ ap packed e ∙ packed-digits 4 n q
 
 -- byte 0 of what was written is 0

@@ -63,6 +63,7 @@ use Rattle.paper.proofs.Files.{parts-ok}
 use Rattle.paper.proofs.Program.{program}
 use Rattle.paper.proofs.Parting.{parting}
 use Rattle.paper.proofs.Movers.{movers}
+use Rattle.paper.proofs.Heartbeats.{heartbeats}
 use Rattle.paper.proofs.Summaries.{summary-rules, writes-items}
 
 says : (l : Limits) (es : List Event) → WellFormed l es → (c : ℕ) → c ≤ l .hi → SummarySays l es (summaryOf l es) c
@@ -219,6 +220,7 @@ third-condition =
       lent = lent-account;
       lent-pieces = lent-pieces;
       movers = movers;
+      heartbeats = heartbeats;
     }
 
 -- ---- a night's record

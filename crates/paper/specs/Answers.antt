@@ -32,6 +32,7 @@ use Rattle.paper.specs.OfStation as OfStation
 use Rattle.paper.specs.OfSlots as OfSlots
 use Rattle.paper.specs.OfLayout as OfLayout
 use Rattle.paper.specs.OfAnswer as OfAnswer
+use Rattle.paper.specs.OfHeartbeat as OfHeartbeat
 use Rattle.paper.specs.OfRpr as OfRpr
 use Rattle.paper.specs.OfEntry as OfEntry
 
@@ -67,5 +68,6 @@ pub record AnswersDetermined : Type 0 where
   pub of-slots : OfSlots.Functions
   pub of-layout : OfLayout.Functions
   pub of-answer : OfAnswer.Functions
+  pub of-heartbeat : OfHeartbeat.Functions
   pub of-rpr : OfRpr.Functions
   pub of-entry : OfEntry.Functions

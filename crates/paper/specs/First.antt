@@ -43,6 +43,7 @@ use Rattle.credits.specs.Which.{bucketOf, creditOf}
 use Rattle.flow.specs.Offer.{queueFor}
 use Rattle.sheet.specs.Sheet.{sheetLength}
 use Rattle.layout.specs.Reading.{readingLength}
+use Rattle.heartbeat.specs.Heartbeat.{heartbeatAnswer}
 use Rattle.rpr.specs.Calls.{summarizeAnswer, summarizeAfter, joinAnswer, joinAfter, settleAnswer}
 use Rattle.rpr.specs.Movers.{rollAnswer, rollAfter, unrollAnswer, unrollAfter}
 use Rattle.rpr.specs.Ways.{chooseAnswer, pathAnswer}
@@ -50,7 +51,7 @@ use Rattle.rpr.specs.Station.{startAnswer, startAfter, tickAnswer, tickAfter, a
 use Rattle.rpr.specs.Station.{offerClientAnswer, offerClientAfter, offerTransitAnswer, offerTransitAfter, offerControlAnswer, offerControlAfter}
 use Rattle.rpr.specs.Station.{selectAnswer, selectAfter, readFrameAnswer, readFrameAfter, writeFrameAnswer, writeFrameAfter, showAnswer, showAfter}
 use Rattle.paper.specs.Reasons.{CarriedOut, placeRefused, OtherLength, Spaces, startRefused, tickRefused, offerRefused, controlRefused, clientRefused, stationRefused, readRefused, roomRefused}
-use Rattle.paper.specs.Reasons.{chooseRefused, pathRefused, RecordRefused, RollRefused, UnrollRefused, joinRefused, settleRefused}
+use Rattle.paper.specs.Reasons.{chooseRefused, pathRefused, RecordRefused, RollRefused, UnrollRefused, HeartbeatRefused, joinRefused, settleRefused}
 
 -- Byte 0 of the answer is the number that is given. Each returns its number alone, but a client's 6 (`RefusesClient`): where it is not 0, every other byte is 0.
 pub record Refuses (given : ℕ → Type 0) (answer : ℕ) : Type 0 where
@@ -95,6 +96,11 @@ pub record RefusesMover (given : ℕ → Type 0) (answer : ℕ) (room after : Li
   pub number : (n : ℕ) → 0 < n → (answer % 256 ≡ n) ↔ given n
   pub alone : 0 < answer % 256 → digits 8 answer ≡ answer % 256 ∷ 0 ∷ 0 ∷ 0 ∷ 0 ∷ 0 ∷ 0 ∷ 0 ∷ []
   pub stays : 0 < answer % 256 → after ≡ room
+
+-- rpr_heartbeat: the pattern's earliest fault, then 9 where the repeats have too many events. It is lent nothing for writing.
+pub record RefusesHeartbeat (bytes : List ℕ) (repeats answer : ℕ) : Type 0 where
+  pub number : (n : ℕ) → 0 < n → (answer % 256 ≡ n) ↔ HeartbeatRefused bytes repeats n
+  pub alone : 0 < answer % 256 → digits 8 answer ≡ answer % 256 ∷ 0 ∷ 0 ∷ 0 ∷ 0 ∷ 0 ∷ 0 ∷ 0 ∷ []
 
 -- the tests of ranges that refusals rest on, and the ranges
 pub record Tested : Type 0 where
@@ -151,3 +157,5 @@ pub record Condition1 : Type 0 where
   pub settle : (summary : List ℕ) (start : ℕ) → Refuses (settleRefused summary start) (settleAnswer summary start)
   pub roll : (bytes room : List ℕ) → Bytes bytes → RefusesMover (RollRefused bytes room) (rollAnswer bytes room) room (rollAfter bytes room)
   pub unroll : (bytes room : List ℕ) → Bytes bytes → RefusesMover (UnrollRefused bytes room) (unrollAnswer bytes room) room (unrollAfter bytes room)
+  -- of the second archive, librpr_heartbeat.a
+  pub heartbeat : (bytes : List ℕ) (repeats : ℕ) → Bytes bytes → RefusesHeartbeat bytes repeats (heartbeatAnswer bytes repeats)

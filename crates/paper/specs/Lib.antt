@@ -13,6 +13,7 @@ pub mod Summaries
 pub mod Program
 pub mod Parting
 pub mod Movers
+pub mod Heartbeats
 pub mod Third
 pub mod Determined
 pub mod OfDecide
@@ -46,6 +47,7 @@ pub mod OfStation
 pub mod OfSlots
 pub mod OfLayout
 pub mod OfAnswer
+pub mod OfHeartbeat
 pub mod OfRpr
 pub mod OfEntry
 pub mod Answers

@@ -1,7 +1,7 @@
 -- Why a call is refused, as facts: the number of the first reason that holds, in document 01's order 2, 1, 3, 11, 10, 9, 4, 5, 6, 7, 8, with 13 right after 3
 -- and before 11 (document 02, A5), and 12 last (A8).
 -- Assumes nothing.
-use Prim.Native.Nat.{ℕ, _/_, _%_, _^_, _+_, _-_, _≤_, _<_}
+use Prim.Native.Nat.{ℕ, _/_, _%_, _^_, _+_, _-_, _*_, _≤_, _<_}
 use mathlib.Core.Bool.{true, false}
 use mathlib.Core.List.{List, _++_}
 use mathlib.Core.Logic.{_⊎_}
@@ -242,6 +242,21 @@ pub data UnrollRefused (xs room : List ℕ) (n : ℕ) : Type 0 where
   earliest : RecordRefused xs n → UnrollRefused xs room n
   no-room : (l : Limits) (is : List Item) → xs ≡ writtenItems l is → Formed true l is → length room < length (written l (unrolled is)) → n ≡ 12
       → UnrollRefused xs room n
+
+-- ---- heartbeats (document 02, A12)
+
+-- rpr_heartbeat: the pattern's earliest fault, header first, as a record's; but 256 events done any byte gives 3, and so does a run without a fault of its own that passes the
+-- 256th. Then 9, where the repeats times the pattern's events exceed 1,000,000.
+pub data HeartbeatRefused (xs : List ℕ) (repeats n : ℕ) : Type 0 where
+  in-header : headerRefused xs n → HeartbeatRefused xs repeats n
+  after-256 : (l : Limits) (is : List Item) (rest : List ℕ) → xs ≡ writtenItems l is ++ rest → Formed true l is → length (unrolled is) ≡ 256
+      → 0 < length rest → n ≡ 3 → HeartbeatRefused xs repeats n
+  at-item : (l : Limits) (is : List Item) (rest : List ℕ) → xs ≡ writtenItems l is ++ rest → Formed true l is → length (unrolled is) < 256
+      → 0 < length rest → itemRefused (l .mtu) rest n → HeartbeatRefused xs repeats n
+  past-256 : (l : Limits) (is : List Item) (rest : List ℕ) → xs ≡ writtenItems l is ++ rest → Formed true l is → length (unrolled is) < 256
+      → 0 < length rest → itemRefused (l .mtu) rest 0 → le 2 rest 2 ≡ 4 → 256 < length (unrolled is) + le 2 rest 8 → n ≡ 3 → HeartbeatRefused xs repeats n
+  too-often : (l : Limits) (is : List Item) → xs ≡ writtenItems l is → Formed true l is → length (unrolled is) ≤ 256
+      → 1000000 < repeats * length (unrolled is) → n ≡ 9 → HeartbeatRefused xs repeats n
 
 -- ---- summaries
 

@@ -49,6 +49,7 @@ use Rattle.paper.specs.Summaries.{SummaryRules}
 use Rattle.paper.specs.Program.{Program}
 use Rattle.paper.specs.Parting.{Parting}
 use Rattle.paper.specs.Movers.{Movers}
+use Rattle.paper.specs.Heartbeats.{Heartbeats}
 
 -- What the summary s of a record says of its events es from a starting credit c.
 pub record SummarySays (l : Limits) (es : List Event) (s : Summary) (c : ℕ) : Type 0 where
@@ -219,6 +220,8 @@ pub record Condition3 : Type 0 where
       → LentPieces (writtenItems l is) l (unrolled is) t
   -- An old record is moved into the new form and back, and either form says the same: request A8.
   pub movers : Movers
+  -- A pattern, repeated, is told whether it fits: request A12.
+  pub heartbeats : Heartbeats
 
 -- ---- a night's record
 

@@ -44,7 +44,7 @@ front ps xs h s =
     sym (laid-standing ps xs 0 (omega arith) s) ∙ laid-put ps xs 0 (omega arith) ∙ rw (length-laidOut ps, zero-add)
 
 module _ (ys : List ℕ) (b : Bytes ys) where
-  header-front : (l : Limits) → Headed ys l → ys ≡ headerBytes l ++ drop 14 ys
+  pub header-front : (l : Limits) → Headed ys l → ys ≡ headerBytes l ++ drop 14 ys
   unfolding headerBytes
   header-front l h =
       let p : Places.Stands ys 0 (digits 2 14) = rw (h .length-field) at (digits-stand 2 ys 0 b) in
@@ -102,14 +102,14 @@ pub record Wrote (runs : Bool) (l : Limits) (left : ℕ) (ys : List ℕ) (es : L
   pub few : length es ≤ left
 
 -- a fault that is read from ys: what stands before it was written, and it is at the front of the rest
-record Stopped (runs : Bool) (late : ℕ) (l : Limits) (left : ℕ) (ys : List ℕ) (n : ℕ) : Type 0 where
-  before : List Item
-  rest : List ℕ
-  same : ys ≡ itemsBytes before ++ rest
-  ok : ItemsOk runs l before
-  few : length (unrolled before) ≤ left
-  some : 0 < length rest
-  why : Why runs late (l .mtu) left (length (unrolled before)) rest n
+pub record Stopped (runs : Bool) (late : ℕ) (l : Limits) (left : ℕ) (ys : List ℕ) (n : ℕ) : Type 0 where
+  pub before : List Item
+  pub rest : List ℕ
+  pub same : ys ≡ itemsBytes before ++ rest
+  pub ok : ItemsOk runs l before
+  pub few : length (unrolled before) ≤ left
+  pub some : 0 < length rest
+  pub why : Why runs late (l .mtu) left (length (unrolled before)) rest n
 
 abbrev Says : Bool → ℕ → Limits → ℕ → List ℕ → Events → Type 0
 Says runs late l left ys (faulty n) = Stopped runs late l left ys n
@@ -208,6 +208,10 @@ says runs late l left ys b = says-by runs late l left left ys (omega arith) b
 pub items-written : (runs : Bool) (late : ℕ) (l : Limits) (left : ℕ) (ys : List ℕ) (es : List Event) → Bytes ys → readItems runs late (l .mtu) left 0 ys ≡ events es →
     Wrote runs l left ys es
 items-written runs late l left ys es b e = rw e at (says runs late l left ys b)
+
+pub items-stopped : (runs : Bool) (late : ℕ) (l : Limits) (left : ℕ) (ys : List ℕ) (n : ℕ) → Bytes ys → readItems runs late (l .mtu) left 0 ys ≡ faulty n →
+    Stopped runs late l left ys n
+items-stopped runs late l left ys n b e = rw e at (says runs late l left ys b)
 
 -- ---- the whole
 

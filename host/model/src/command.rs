@@ -2,6 +2,7 @@
 //! error and the exit status.
 
 use crate::compare;
+use crate::heartbeat;
 use crate::host;
 use crate::movers;
 use crate::record;
@@ -167,4 +168,51 @@ pub fn compare(files: &[File; 2]) -> Said {
         error,
         status,
     }
+}
+
+/// "one or more decimal digits"; "a number past 2^64-1 is taken for 2^64-1". None of another word.
+pub fn repeats(word: &str) -> Option<u64> {
+    let digits = !word.is_empty() && word.bytes().all(|byte| byte.is_ascii_digit());
+    let number = |sum: u64, byte| {
+        sum.saturating_mul(10)
+            .saturating_add(u64::from(byte - b'0'))
+    };
+    digits.then(|| word.bytes().fold(0, number))
+}
+
+/// What `rpr summarize --bytes` prints of the written-out record. "0 permitted throughout from
+/// loLimit, 1 not permitted, 2 refused or trouble"
+pub fn heartbeat((name, input): &File, word: &str) -> Said {
+    let Some(repeats) = repeats(word) else {
+        return Said {
+            output: Vec::new(),
+            error: format!("rpr: {word}: not a number of repeats\n"),
+            status: 2,
+        };
+    };
+    let pattern = heartbeat::repeated(input, repeats);
+    let record = pattern.map(|pattern| heartbeat::written_out(&pattern, repeats));
+    let summary = record.and_then(|record| Summary::of_record(&record));
+    let (error, status) = match &summary {
+        Ok(summary) => {
+            let start = i128::from(summary.settings.lo_limit);
+            (String::new(), i32::from(summary.need > start))
+        }
+        Err(refusal) => (refused(name, of_heartbeat(*refusal)), 2),
+    };
+    Said {
+        output: text::show(summary).into_bytes(),
+        error,
+        status,
+    }
+}
+
+/// What is said of a pattern's refusal.
+fn of_heartbeat(refusal: Refusal) -> Fault {
+    let words = match refusal {
+        Refusal::Range => "over 256 events, or the size of a send is outside its range",
+        Refusal::Events => "over 1,000,000 events with so many repeats",
+        _ => return of_record(refusal),
+    };
+    (refusal, words)
 }

@@ -4,6 +4,7 @@
 //! "Byte 0 is 0 where the call was carried out, else the refusal number, and then
 //! every other byte is 0 and every lent byte is as it was."
 
+use crate::heartbeat;
 use crate::movers;
 use crate::record::Settings;
 use crate::refusal::Refusal;
@@ -124,12 +125,22 @@ fn join_bytes(first: &[u8], second: &[u8], room: &[u8]) -> Result<Summary, Refus
 /// `rpr_settle(summary, n, start)`: "byte 1 permitted throughout, 4 to 7 the credit
 /// at the end (0 where not permitted)".
 pub fn settle(summary: &[u8], start: u64) -> u64 {
-    let settled = from_bytes(summary).and_then(|summary| summary.settle(i128::from(start)));
-    match settled {
+    settled(from_bytes(summary).and_then(|summary| summary.settle(i128::from(start))))
+}
+
+/// The credit at the end, or None where not permitted, as an answer.
+fn settled(end: Result<Option<i128>, Refusal>) -> u64 {
+    match end {
         Ok(Some(end)) => 1 << 8 | (end as u64) << 32,
         Ok(None) => 0,
         Err(refusal) => refusal.answer(),
     }
+}
+
+/// `rpr_heartbeat(pattern, n, repeats)`: "Answer as `rpr_settle`'s: byte 1 permitted throughout,
+/// 4 to 7 the credit at the end."
+pub fn heartbeat(pattern: &[u8], repeats: u64) -> u64 {
+    settled(heartbeat::end(pattern, repeats))
 }
 
 /// "Side: unspecified 0, left 1, right 2, default 3." "Unspecified means default".

@@ -93,7 +93,7 @@ pub fn mixed(random: &mut Random, settings: &Settings, count: usize) -> Vec<Even
 }
 
 /// Mixed events with every send permitted from this starting credit.
-fn paced(random: &mut Random, settings: &Settings, start: i128, count: usize) -> Vec<Event> {
+pub fn paced(random: &mut Random, settings: &Settings, start: i128, count: usize) -> Vec<Event> {
     let mut credit = start;
     let mut events = Vec::with_capacity(count);
     while events.len() < count {

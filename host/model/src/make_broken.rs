@@ -114,12 +114,17 @@ pub fn in_turn(random: &mut Random, turn: usize) -> Vec<u8> {
 
 /// The bytes of a record whose last item has this fault, with so many events left to the million.
 pub fn at_million(random: &mut Random, left: usize, fault: Fault) -> Vec<u8> {
+    behind(random, MOST_EVENTS - left, fault)
+}
+
+/// The same behind so many ticks.
+pub fn behind(random: &mut Random, events: usize, fault: Fault) -> Vec<u8> {
     let count = match fault {
         Fault::Event(..) => 1,
         Fault::Million(_, count) => count,
         _ => MOST_IN_RUN as u16,
     };
-    let listed = make_runs::filled(random, MOST_EVENTS - left, count);
+    let listed = make_runs::filled(random, events, count);
     let mut bytes = listed.to_bytes();
     let last = listed.items[listed.items.len() - 1];
     let at = bytes.len() - last.length();

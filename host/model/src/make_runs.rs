@@ -7,7 +7,7 @@ use crate::movers;
 use crate::random::Random;
 use crate::record::{Event, Record, Settings, MOST_EVENTS};
 
-fn tick(random: &mut Random) -> Event {
+pub fn tick(random: &mut Random) -> Event {
     let amount = random.often_extreme(0, 65_535) as u16;
     random.pick(&[Event::Waiting, Event::Idle])(amount)
 }
@@ -27,7 +27,7 @@ fn tick_beside(random: &mut Random, last: Event) -> Event {
 
 /// Stretches of equal events, as an idle shaper has them, and now and then a mixed one; at most so
 /// many events.
-fn stretches(random: &mut Random, settings: &Settings, most: usize) -> Vec<Event> {
+pub fn stretches(random: &mut Random, settings: &Settings, most: usize) -> Vec<Event> {
     let mut events = Vec::new();
     for _ in 0..random.below(12) {
         if random.one_in(6) {

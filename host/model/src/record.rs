@@ -9,6 +9,19 @@ pub const HEADER_LENGTH: usize = 14;
 pub const EVENT_LENGTH: usize = 6;
 const HEADER_KIND: u16 = 16;
 
+/// How many events a reading takes, and what more is refused with.
+#[derive(Clone, Copy, Debug, PartialEq, Eq)]
+pub struct Limit {
+    pub events: usize,
+    pub past: Refusal,
+}
+
+/// "any byte after the millionth event gives 9"
+const OF_RECORDS: Limit = Limit {
+    events: MOST_EVENTS,
+    past: Refusal::Events,
+};
+
 /// What a reading takes.
 #[derive(Clone, Copy, Debug, PartialEq, Eq)]
 pub enum Form {
@@ -136,10 +149,16 @@ fn read_run(payload: &[u8]) -> Result<Item, Refusal> {
 /// The item that the bytes begin with, behind so many events. "Faults at an item, in order: a
 /// million events done and any byte: 9; cut short, another length than its kind's, no known kind:
 /// 2; a send's size: 3; a tick kind other than 1 or 2, a count below 2: 2; a run that passes the
-/// million: 9."
-fn read_item(settings: &Settings, form: Form, done: usize, bytes: &[u8]) -> Result<Item, Refusal> {
-    if done == MOST_EVENTS {
-        return Err(Refusal::Events);
+/// million: 9." Another limit stands in the million's place.
+fn read_item(
+    settings: &Settings,
+    form: Form,
+    limit: Limit,
+    done: usize,
+    bytes: &[u8],
+) -> Result<Item, Refusal> {
+    if done == limit.events {
+        return Err(limit.past);
     }
     let (kind, payload) = read_shape(form, bytes)?;
     let item = match kind {
@@ -149,8 +168,8 @@ fn read_item(settings: &Settings, form: Form, done: usize, bytes: &[u8]) -> Resu
             count: 1,
         },
     };
-    if done + item.events() > MOST_EVENTS {
-        return Err(Refusal::Events);
+    if done + item.events() > limit.events {
+        return Err(limit.past);
     }
     Ok(item)
 }
@@ -158,11 +177,16 @@ fn read_item(settings: &Settings, form: Form, done: usize, bytes: &[u8]) -> Resu
 /// A record's items. "within a record the earliest fault counts instead, header first, and any
 /// byte after the millionth event gives 9."
 pub fn read_items(bytes: &[u8], form: Form) -> Result<Listed, Refusal> {
+    read_items_to(bytes, form, OF_RECORDS)
+}
+
+/// The same of a record that has a limit of its own.
+pub fn read_items_to(bytes: &[u8], form: Form, limit: Limit) -> Result<Listed, Refusal> {
     let settings = read_header(bytes)?;
     let mut items: Vec<Item> = Vec::new();
     let (mut place, mut done) = (HEADER_LENGTH, 0);
     while place < bytes.len() {
-        let item = read_item(&settings, form, done, &bytes[place..])?;
+        let item = read_item(&settings, form, limit, done, &bytes[place..])?;
         place += item.length();
         done += item.events();
         items.push(item);

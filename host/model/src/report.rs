@@ -24,7 +24,8 @@ pub fn notation(bytes: &[u8]) -> String {
 pub struct Call<'a> {
     pub function: &'static str,
     pub slices: Vec<(&'static str, &'a [u8])>,
-    pub start: Option<u64>,
+    /// A number's name and value.
+    pub number: Option<(&'static str, u64)>,
 }
 
 impl Call<'_> {
@@ -32,13 +33,13 @@ impl Call<'_> {
         let mut fault = format!("{}: {what}", self.function);
         for (name, bytes) in &self.slices {
             let hex = match *name {
-                "record" => notation(bytes),
+                "record" | "pattern" => notation(bytes),
                 _ => text::encode(bytes),
             };
             fault += &format!("\n  {name} ({} bytes): {hex}", bytes.len());
         }
-        if let Some(start) = self.start {
-            fault += &format!("\n  start: {start}");
+        if let Some((name, number)) = self.number {
+            fault += &format!("\n  {name}: {number}");
         }
         fault
     }

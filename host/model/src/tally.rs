@@ -11,24 +11,25 @@ pub type Reachable = &'static [(&'static str, &'static [&'static str])];
 //
 // 2 | every call that lends a slice: "A slice whose length is not the one named below, or
 //   |   not `rpr_station_length()`, is refusal 2"; rpr_summarize also for what isn't a
-//   |   whole record, rpr_roll and rpr_unroll for that alone; rpr_read_frame also for
-//   |   "Another length, type, header kind or a ringlet bit equal to the station's own".
-//   |   rpr_choose and rpr_path lend none.
-// 1 | rpr_start, rpr_summarize, rpr_roll, rpr_unroll: "a setting"; the nine calls on a
-//   |   station: "a lent station's state"; rpr_choose and rpr_path: "2 to 63 stations (else
-//   |   1)". A summary's settings are 3 instead: not rpr_join, not rpr_settle.
+//   |   whole record, rpr_roll, rpr_unroll and rpr_heartbeat for that alone; rpr_read_frame
+//   |   also for "Another length, type, header kind or a ringlet bit equal to the station's
+//   |   own". rpr_choose and rpr_path lend none.
+// 1 | rpr_start, rpr_summarize, rpr_roll, rpr_unroll, rpr_heartbeat: "a setting"; the nine
+//   |   calls on a station: "a lent station's state"; rpr_choose and rpr_path: "2 to 63
+//   |   stations (else 1)". A summary's settings are 3 instead: not rpr_join, not rpr_settle.
 // 3 | "a frame": the three offers, rpr_read_frame ("ttl 193 to 255, else 3"),
-//   |   rpr_summarize, rpr_roll, rpr_unroll (a send's size); "station index" and "higher
-//   |   bits set": rpr_choose, rpr_path; "summary (its settings too)": rpr_join, rpr_settle;
-//   |   "starting credit": rpr_settle; "coded choice": rpr_tick, rpr_offer_client,
-//   |   rpr_offer_transit, rpr_choose, rpr_path.
+//   |   rpr_summarize, rpr_roll, rpr_unroll (a send's size), rpr_heartbeat (that, and "3 at a
+//   |   257th event"); "station index" and "higher bits set": rpr_choose, rpr_path; "summary
+//   |   (its settings too)": rpr_join, rpr_settle; "starting credit": rpr_settle; "coded
+//   |   choice": rpr_tick, rpr_offer_client, rpr_offer_transit, rpr_choose, rpr_path.
 // 13 | rpr_offer_client, rpr_offer_transit, rpr_read_frame: "A fairness frame, a transit frame
 //   |   or a client frame whose hops reach the number of stations or more". A control frame has
 //   |   1 hop: not rpr_offer_control. rpr_choose and rpr_path "keep their own count". `hops` has
 //   |   what must come up.
 // 11 | rpr_read_frame: "a fairness frame bears this station's own address".
 // 10 | rpr_join: "joined summaries have different settings".
-// 9 | rpr_summarize, rpr_roll, rpr_unroll, rpr_join: "over 1,000,000 events".
+// 9 | rpr_summarize, rpr_roll, rpr_unroll, rpr_join: "over 1,000,000 events"; rpr_heartbeat:
+//   |   "when repeats times pattern events exceed 1,000,000".
 // 4 | rpr_offer_transit, rpr_offer_control: "a frame's size exceeds the queue's space".
 //   |   The stage is no queue: not rpr_offer_client.
 // 5 | rpr_offer_client: "the stage already holds a frame".
@@ -49,6 +50,7 @@ pub const OF_RECORDS: Reachable = &[
     ("rpr_unroll", &["2", "1", "3", "9", "12"]),
 ];
 pub const OF_RINGS: Reachable = &[("rpr_choose", &["1", "3", "8"]), ("rpr_path", &["1", "3"])];
+pub const OF_HEARTBEATS: Reachable = &[("rpr_heartbeat", &["2", "1", "3", "9"])];
 pub const OF_STATIONS: Reachable = &[
     ("rpr_start", &["2", "1"]),
     ("rpr_tick", &["2", "1", "3"]),

@@ -1,6 +1,6 @@
 //! What a run must have reached.
 
-use model::tally::{Tally, OF_RECORDS, OF_RINGS, OF_STATIONS};
+use model::tally::{Tally, OF_HEARTBEATS, OF_RECORDS, OF_RINGS, OF_STATIONS};
 
 /// A tally that has each pair once, and so many calls carried out.
 fn reached(carried_out: usize) -> Tally {
@@ -40,11 +40,11 @@ fn a_pair_that_is_not_in_the_table() {
     assert_eq!(tally.faults(), faults);
 }
 
-/// 17 calls, and each refusal number is in the table of at least one of them.
+/// 18 calls, and each refusal number is in the table of at least one of them.
 #[test]
 fn the_table() {
-    let all = [OF_RECORDS, OF_RINGS, OF_STATIONS].concat();
-    assert_eq!(all.len(), 17);
+    let all = [OF_RECORDS, OF_RINGS, OF_STATIONS, OF_HEARTBEATS].concat();
+    assert_eq!(all.len(), 18);
     for number in 1..=13 {
         let given = |pairs: &(&str, &[&str])| pairs.1.contains(&&number.to_string()[..]);
         assert!(all.iter().any(given), "{number}");

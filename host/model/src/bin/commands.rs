@@ -11,18 +11,13 @@
 use model::command::{self, File, Given, Mover, Said, Shown};
 use model::item::Listed;
 use model::random::Random;
-use model::record::{self, Form, EVENT_LENGTH, HEADER_LENGTH, MOST_EVENTS};
+use model::record::{self, Form, MOST_EVENTS};
 use model::refusal::Refusal;
 use model::report::Outcome;
 use model::summary::Summary;
-use model::trial::{self, Seen};
+use model::trial::{self, Input, Program, Seen};
 use model::{host, make, make_broken, make_runs, make_text};
-use std::env;
-use std::fs;
-use std::io::Write;
-use std::process::{Child, Command, ExitCode, Output, Stdio};
-use std::thread;
-use std::time::Duration;
+use std::process::{ExitCode, Output};
 
 const USAGE: &str = "usage: commands SEED ROUNDS FOLDER COMMAND";
 
@@ -124,8 +119,7 @@ fn faulty(random: &mut Random, turn: usize, make: fn(&mut Random, usize) -> Vec<
 
 struct Trial {
     random: Random,
-    command: String,
-    folder: String,
+    program: Program,
     seen: Seen,
 }
 
@@ -177,7 +171,7 @@ impl Trial {
         said: impl Fn(&File) -> Said,
     ) -> Outcome<Vec<u8>> {
         let brought = self.random.pick(&BROUGHT);
-        let file = self.write("record", input)?;
+        let file = self.program.write("record", input)?;
         let name = match brought {
             "by name" => file.as_str(),
             _ => "standard input",
@@ -191,9 +185,9 @@ impl Trial {
         self.shuffle(&mut words);
         words.insert(0, command[0]);
         let got = match brought {
-            "by name" => self.ran(&words, Stdio::null(), None)?,
-            "through a pipe" => self.ran(&words, Stdio::piped(), Some(input))?,
-            _ => self.ran(&words, open(&file)?, None)?,
+            "by name" => self.ran(&words, Input::Nothing)?,
+            "through a pipe" => self.ran(&words, Input::Pipe(input))?,
+            _ => self.ran(&words, Input::File(&file))?,
         };
         let expected = said(&(name.to_string(), input.to_vec()));
         self.hold(command[0], &words, &expected, &got)?;
@@ -213,7 +207,10 @@ impl Trial {
         for (place, ends) in ends.windows(2).enumerate() {
             let piece = record.piece(ends[0], ends[1]).to_bytes();
             let sheet = self.summarized(&piece, Given::Bytes, Shown::Sheet)?;
-            files.push((self.write(&format!("piece-{place}"), &sheet)?, sheet));
+            files.push((
+                self.program.write(&format!("piece-{place}"), &sheet)?,
+                sheet,
+            ));
         }
         let whole = ("whole".to_string(), record.to_bytes());
         for shown in [Shown::Lines, Shown::Sheet] {
@@ -231,7 +228,10 @@ impl Trial {
         let mut files = Vec::new();
         for place in 0..count {
             let sheet = self.sheet(settings);
-            files.push((self.write(&format!("sheet-{place}"), &sheet)?, sheet));
+            files.push((
+                self.program.write(&format!("sheet-{place}"), &sheet)?,
+                sheet,
+            ));
         }
         for shown in [Shown::Lines, Shown::Sheet] {
             let expected = command::join(&files, shown).ok_or("no file")?;
@@ -266,7 +266,7 @@ impl Trial {
         if shown == Shown::Sheet {
             words.insert(1 + self.random.below(files.len() + 1), "--sheet");
         }
-        let got = self.ran(&words, Stdio::null(), None)?;
+        let got = self.ran(&words, Input::Nothing)?;
         self.hold(what, &words, &expected, &got)
     }
 
@@ -280,51 +280,14 @@ impl Trial {
         Ok(())
     }
 
-    /// The command with these words. What is brought through a pipe comes in chunks.
-    fn ran(&mut self, words: &[&str], input: Stdio, piped: Option<&[u8]>) -> Outcome<Output> {
-        let mut command = Command::new(&self.command);
-        command.args(words).stdin(input);
-        command.stdout(Stdio::piped()).stderr(Stdio::piped());
-        let fault = |fault| format!("{}: {fault}", self.command);
-        let mut child = command.spawn().map_err(fault)?;
-        if let Some(bytes) = piped {
-            feed(&mut self.random, &mut child, bytes);
-        }
-        child.wait_with_output().map_err(fault)
-    }
-
-    fn write(&self, name: &str, bytes: &[u8]) -> Outcome<String> {
-        let file = format!("{}/{name}", self.folder);
-        fs::write(&file, bytes).map_err(|fault| format!("{file}: {fault}"))?;
-        Ok(file)
+    /// The command with these words.
+    fn ran(&mut self, words: &[&str], input: Input) -> Outcome<Output> {
+        self.program.ran(&mut self.random, words, input)
     }
 
     fn shuffle(&mut self, words: &mut [&str]) {
         for place in 1..words.len() {
             words.swap(place, self.random.below(place + 1));
-        }
-    }
-}
-
-fn open(name: &str) -> Outcome<Stdio> {
-    let file = fs::File::open(name).map_err(|fault| format!("{name}: {fault}"))?;
-    Ok(file.into())
-}
-
-/// Chunks of random sizes into standard input, with a pause behind some. A command that ends
-/// before all is read is held to the model like any other.
-fn feed(random: &mut Random, child: &mut Child, mut bytes: &[u8]) {
-    let mut pipe = child.stdin.take().expect("a pipe was asked for");
-    let most = random.pick(&[1, 7, HEADER_LENGTH, 100 * EVENT_LENGTH, 70_000]);
-    let most = most.max(bytes.len() / 500);
-    while !bytes.is_empty() {
-        let (chunk, rest) = bytes.split_at(bytes.len().min(1 + random.below(most)));
-        if pipe.write_all(chunk).is_err() {
-            return;
-        }
-        bytes = rest;
-        if random.one_in(20) {
-            thread::sleep(Duration::from_micros(200));
         }
     }
 }
@@ -351,19 +314,13 @@ fn required() -> Vec<String> {
 }
 
 fn main() -> ExitCode {
-    let words: Vec<String> = env::args().skip(1).collect();
-    let [seed, rounds, folder, command] = &words[..] else {
-        eprintln!("{USAGE}");
-        return ExitCode::from(2);
-    };
-    let (Ok(seed), Ok(rounds)) = (seed.parse(), rounds.parse()) else {
+    let Some((seed, rounds, program)) = Program::from_words() else {
         eprintln!("{USAGE}");
         return ExitCode::from(2);
     };
     let mut trial = Trial {
         random: Random::new(seed),
-        command: command.clone(),
-        folder: folder.clone(),
+        program,
         seen: Seen::default(),
     };
     let difference = run(&mut trial, rounds);

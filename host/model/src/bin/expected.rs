@@ -5,6 +5,7 @@
 //! `expected sheet [--bytes] < INPUT`: the 48 bytes of its summary; of a refusal nothing.
 //! `expected roll < RECORD`, `expected unroll < RECORD`: the bytes of this record, moved; of a
 //! refusal nothing.
+//! `expected heartbeat REPEATS < PATTERN`: what `rpr heartbeat` prints for this pattern.
 //! `expected join [--sheet] FILE..`: what join prints for these files of 48 bytes.
 //! `expected vectors < CASES`: what the vectors program prints for this case file.
 //! `expected ring < CASES`: what each call of this case file answers.
@@ -25,6 +26,7 @@ use std::io::{self, BufRead, Read, Write};
 use std::process::ExitCode;
 
 const USAGE: &str = "usage: expected summarize|sheet [--bytes], expected roll|unroll, \
+                     expected heartbeat REPEATS, \
                      expected vectors|ring|walk|station|entry, \
                      expected compare FIRST SECOND, expected join [--sheet] FILE.., \
                      expected bytes NAME, expected night SEED EVENTS";
@@ -42,6 +44,10 @@ fn summarize(given: Given, shown: Shown) -> Result<(), String> {
 
 fn moved(mover: Mover) -> Result<(), String> {
     write_bytes(&command::moved(&input()?, mover).output)
+}
+
+fn heartbeat(repeats: &str) -> Result<(), String> {
+    write_bytes(&command::heartbeat(&input()?, repeats).output)
 }
 
 fn join(names: &[&str], shown: Shown) -> Result<(), String> {
@@ -124,6 +130,7 @@ fn main() -> ExitCode {
         ["sheet", "--bytes"] => summarize(Given::Bytes, Shown::Sheet),
         ["roll"] => moved(Mover::Roll),
         ["unroll"] => moved(Mover::Unroll),
+        ["heartbeat", repeats] => heartbeat(repeats),
         ["vectors"] => vectors(),
         ["ring"] => lines(ring_cases::print),
         ["walk"] => lines(walk::print),

@@ -53,7 +53,7 @@ impl Trial {
         let call = Call {
             function: reads.function,
             slices: vec![("record", record), ("room", room)],
-            start: None,
+            number: None,
         };
         let (expected, after) = (reads.model)(record, room);
         call.same_answer(expected, answer)?;
@@ -95,7 +95,7 @@ impl Trial {
         let call = Call {
             function: "rpr_join",
             slices: vec![("first", first), ("second", second), ("room", room)],
-            start: None,
+            number: None,
         };
         let (expected, after) = host::join(first, second, room);
         call.same_answer(expected, answer)?;
@@ -114,7 +114,7 @@ impl Trial {
         let call = Call {
             function: "rpr_settle",
             slices: vec![("summary", summary)],
-            start: Some(start),
+            number: Some(("start", start)),
         };
         call.same_answer(host::settle(summary, start), answer)?;
         call.same_bytes("summary", summary, &lent)?;

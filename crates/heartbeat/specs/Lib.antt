@@ -1,0 +1,4 @@
+pub mod Repeat
+pub mod Doubling
+pub mod Heartbeat
+pub mod Cause
