@@ -154,7 +154,6 @@ int main(int count, char **words) {
         bench_records(record);
         bench_calls(record);
         bench_runs();
-        bench_index();
         bench_heartbeat();
         bench_station();
         close_above();

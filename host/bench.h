@@ -12,9 +12,8 @@ extern const struct calls same;
  * its bound is not above it in one run and below it in the next. Mixed records have another bound on Arm, where the branches that plain C mispredicts cost less.
  * BOUND_FLAGS is for regular and for short records beside plain C whose loop lies where two flags put it, BOUND_PLACED beside plain C at its best place (tools/bench).
  * BOUND_RUNS is for rolling and unrolling, and for a record in runs. FASTER is another bound: so many times faster, at least, a million ticks are summed in runs than one
- * by one, and a million repeats are answered than plain C goes through them. BOUND_DOUBLED is for repeats beside C that joins a summary with itself as the library does.
- * BOUND_INDEX is for filling an index and for a question. Filling takes at most MOST_FILLING times the summary of the record; a question on a million events is at least
- * FASTER_ASKED times faster than that, and takes at most MOST_LONGER times what it takes on 10,000. The bounds of the commands are in tools/bench-commands.
+ * by one, and a million repeats are answered than plain C goes through them. BOUND_DOUBLED is for repeats beside C that joins a summary with itself as the library does. The
+ * bounds of the commands are in tools/bench-commands.
  */
 #define BOUND 1.25
 #define BOUND_FLAGS 1.0
@@ -26,11 +25,7 @@ extern const struct calls same;
 #endif
 #define BOUND_RUNS 1.5
 #define BOUND_DOUBLED 1.5
-#define BOUND_INDEX 1.5
 #define FASTER 1000
-#define FASTER_ASKED 500
-#define MOST_FILLING 1.5
-#define MOST_LONGER 1.5
 #define BOUND_STATION 1.05
 #define BOUND_START 1.2
 #define MARGIN 0.05
@@ -64,11 +59,8 @@ struct times {
 /* Measures and prints a row. One that is above its bound is measured once more before that is told. */
 struct times bench_row(const struct row *row);
 
-/* Prints how many times faster the library is at one thing than at another, or than plain C, and tells where that is less than it has to be. */
-void bench_faster(const char *what, double times, double least);
-
-/* Prints how many times longer the library takes for one thing than for another, and tells where that is more than it may be. */
-void bench_at_most(const char *what, double times, double most);
+/* Prints how many times faster the library is at one thing than at another, or than plain C, and tells where that is not FASTER at least. */
+void bench_faster(const char *what, double times);
 
 /* The tables of the station's calls. */
 void bench_station(void);
@@ -76,25 +68,12 @@ void bench_station(void);
 /* The tables of records in runs. */
 void bench_runs(void);
 
-/* The tables of indexes and of questions that they answer. */
-void bench_index(void);
-
 /* The tables of patterns that are repeated. */
 void bench_heartbeat(void);
 
-/* Before a time is taken: the three sides answer and leave the same on records, indexes, patterns and stations of all kinds, good, faulty and damaged. The room has space for a
- * record of a million events and one event more. */
+/* Before a time is taken: the three sides answer and leave the same on records, patterns and stations of all kinds, good, faulty and damaged. The room has space for a record of
+ * a million events and one event more. */
 void compare_sides(uint8_t *room);
-void compare_indexes(void);
-
-/* Records at random, of up to LONGEST events, or of items that stand for up to over a million: their length. One of them, of this length, with a fault: its length then. */
-enum { LONGEST = 400 };
-size_t random_record(uint8_t *record);
-size_t random_items(uint8_t *record);
-size_t damaged_record(uint8_t *record, size_t length);
-
-/* A number at which some range ends, or any. */
-uint32_t any_number(void);
 
 /* A record's header and events; and an item that begins with this byte, an event or of several equal ones a run. The byte behind it. */
 void put_header(uint8_t *record, uint32_t mtu, uint32_t lo, uint32_t hi);

@@ -7,12 +7,13 @@
 #include "bench.h"
 
 enum { N = RPR_STATION_LENGTH, HEADER = RPR_RECORD_HEADER_LENGTH, EVENT = RPR_RECORD_EVENT_LENGTH };
-enum { RECORDS = 20000, MOVED = HEADER + EVENT * LONGEST, STEPS = 40000, KINDS = 10 };
+enum { RECORDS = 20000, LONGEST = 400, MOVED = HEADER + EVENT * LONGEST, STEPS = 40000, KINDS = 10 };
 enum { SUMS, ROLLS, UNROLLS };
 
 static const struct calls *const others[] = {&library, &same};
 
-uint32_t any_number(void) {
+/* A number at which some range ends, or any. */
+static uint32_t any_number(void) {
     static const uint32_t edges[] = {0,   1,   2,   3,   4,   5,   6,   7,   15,  16,   62,   63,   64,    65,    127,   128,
                                      129, 192, 193, 194, 250, 251, 255, 256, 512, 1024, 9216, 9217, 65534, 65535, 65536, 1048576};
     unsigned k = below(2 * sizeof edges / sizeof edges[0]);
@@ -50,7 +51,7 @@ static void compare_record(const uint8_t *record, size_t length) {
 }
 
 /* Up to some events with settings that are easily met, hardly met, or in between; sends are none, some, or most of them. */
-size_t random_record(uint8_t *record) {
+static size_t random_record(uint8_t *record) {
     static const uint32_t settings[][3] = {{64, 64, 65}, {64, 100, 300}, {1500, 16384, 262144}, {9216, 65536, 1048576}, {300, 2000, 2100}};
     const uint32_t *s = settings[below(sizeof settings / sizeof settings[0])];
     unsigned sends = below(5), most = below(2) ? 65536 : s[0], events = below(LONGEST);
@@ -66,7 +67,7 @@ size_t random_record(uint8_t *record) {
 
 /* Up to some items, of which few or all are runs, and few or many of these long, up to over a million events; ticks have few amounts, so that equal ones stand side by
  * side. */
-size_t random_items(uint8_t *record) {
+static size_t random_items(uint8_t *record) {
     unsigned items = below(LONGEST / 2), rare = 1 + below(3) * 70, rarely_long = below(2) ? 3 : 90;
     size_t at = HEADER;
     put_header(record, 64, 100, 300);
@@ -83,7 +84,7 @@ size_t random_items(uint8_t *record) {
 }
 
 /* One event is no event or hardly one, one byte is another, or the end is missing. */
-size_t damaged_record(uint8_t *record, size_t length) {
+static size_t damaged_record(uint8_t *record, size_t length) {
     unsigned place = below(LONGEST);
     switch (below(4)) {
         case 0: put_event(record, place, any_number() & 0xffff, any_number() & 0xffff); break;
@@ -227,7 +228,6 @@ static void compare_stations(void) {
 void compare_sides(uint8_t *room) {
     compare_records();
     compare_longest(room);
-    compare_indexes();
     compare_patterns();
     compare_stations();
 }

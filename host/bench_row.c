@@ -77,12 +77,7 @@ struct times bench_row(const struct row *row) {
     return (struct times){least[LIBRARY], least[PLAIN]};
 }
 
-void bench_faster(const char *what, double times, double least) {
+void bench_faster(const char *what, double times) {
     printf("%-49s %9.0f\n", what, times);
-    if (times < least) fprintf(above, "above its bound: %s: %.0f times; at least %.0f\n", what, times, least);
-}
-
-void bench_at_most(const char *what, double times, double most) {
-    printf("%-49s %9.2f\n", what, times);
-    if (times > most + MARGIN) fprintf(above, "above its bound: %s: %.3f times; at most %.2f, and %.2f for the measuring\n", what, times, most, MARGIN);
+    if (times < FASTER) fprintf(above, "above its bound: %s: %.0f times; at least %d\n", what, times, FASTER);
 }

@@ -264,7 +264,6 @@ int main(void) {
     each_method(station);
     each_item();
     each_pattern();
-    each_index();
     printf("%lu stations, %lu of them in range, %lu offers short of credit, %lu frames beyond the ring: ", tried, good, lacking, beyond);
     puts("the library and plain C do the same");
     return lacking > 0 && beyond > 0 ? 0 : 1;

@@ -1,4 +1,4 @@
-/* Stations with something changed, the library beside plain C: what edges.c and edges_methods.c share; and records, patterns and indexes, by edges_items.h. */
+/* Stations with something changed, the library beside plain C: what edges.c and edges_methods.c share; and records and patterns, by edges_items.h. */
 #ifndef EDGES_H
 #define EDGES_H
 
@@ -33,8 +33,5 @@ void each_item(void);
 
 /* Patterns around the 256th event, repeats around the limit and the ends of numbers, and credits around loLimit and hiLimit. */
 void each_pattern(void);
-
-/* Indexes with one byte, number, place or length changed, their records likewise, each stretch, and events around the million. */
-void each_index(void);
 
 #endif

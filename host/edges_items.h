@@ -1,4 +1,4 @@
-/* Records at the edges of an item: what edges_runs.c, where it stands, edges_heartbeat.c and edges_index.c share. */
+/* Records at the edges of an item: what edges_runs.c, where it stands, and edges_heartbeat.c share. */
 #ifndef EDGES_ITEMS_H
 #define EDGES_ITEMS_H
 

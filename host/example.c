@@ -4,8 +4,8 @@
  * The host owns the clock, the link and the memory. It ticks, offers frames as they come, sends what is selected, calls
  * the aging interval, hears fairness frames and tells its own. Beside this it keeps the record of one shaper, C, in two
  * pieces, and in the end joins the pieces' summaries: from the credit at the start they give the credit that the
- * station shows. By an index beside a piece it asks about one second. Then the clients rest, and the record of that is
- * kept in runs. Every answer is looked at; anything unexpected ends the program with status 1.
+ * station shows. Then the clients rest, and the record of that is kept in runs. Every answer is looked at; anything
+ * unexpected ends the program with status 1.
  *
  *     cc -std=c11 example.c $(pkg-config --cflags --libs rpr) -o example
  */
@@ -46,7 +46,6 @@ struct host {
     unsigned long sent[ORIGINS];         /* bytes that it sent, by where they came from */
     struct piece pieces[2];              /* the record of shaper C, a piece for each half of the minute */
     struct piece *record;                /* the piece being written */
-    size_t begun[SECONDS];               /* its length when each second began */
 };
 
 /* Client frames: heartbeats, a service with a share of its own, and a bulk copy to the far side of the ring. */
@@ -257,7 +256,6 @@ static void arrive(struct host *host, unsigned second, unsigned now) {
  * second. In second 40 its card tells of forty hops. */
 static void run_second(struct host *host, unsigned second) {
     unsigned load = second >= 15 && second < 35 ? 9 : 3; /* transit frames in 10 sends */
-    host->begun[second] = host->record->length;
     if (second >= 25 && second < 45) hear(host, second == 40 ? 40 : 2, 5000);
     if (second == 45) hear(host, 2, RPR_FULL_RATE);
     for (unsigned now = second * TICKS_PER_SECOND; now < (second + 1) * TICKS_PER_SECOND; now++) {
@@ -332,25 +330,6 @@ static void account_for_c(const struct host *host) {
            whole.lo_limit, end, shown);
 }
 
-/* Asks about a second of the first piece, by an index beside it: what its events come to when they are read afresh. */
-static void ask_about(const struct host *host, unsigned second) {
-    static uint8_t index[RPR_INDEX_MOST];
-    static struct piece cut;
-    const struct piece *piece = &host->pieces[0];
-    const size_t header = RPR_RECORD_HEADER_LENGTH, event = RPR_RECORD_EVENT_LENGTH;
-    size_t from = host->begun[second], to = host->begun[second + 1], first = (from - header) / event;
-    struct rpr_summary asked;
-    size_t length = rpr_written_of(rpr_index_length((piece->length - header) / event)), last = (to - header) / event;
-    carried_out("index", rpr_index(piece->bytes, piece->length, index, length));
-    carried_out("stretch", rpr_stretch(piece->bytes, piece->length, index, length, first, last, &asked, sizeof asked));
-    memcpy(cut.bytes, piece->bytes, header);
-    memcpy(cut.bytes + header, piece->bytes + from, to - from);
-    cut.length = header + to - from;
-    printf("\nSecond %u of the first piece, by an index of %zu bytes:\n", second, length);
-    struct rpr_summary afresh = summarize(&cut);
-    must(memcmp(&asked, &afresh, sizeof asked) == 0, "the index answers as the record does");
-}
-
 /* ---- at rest ---- */
 
 /* No client frame waits, and what was taken in is sent: C's record has the same tick again and again. */
@@ -393,7 +372,6 @@ int main(void) {
     choose_pair();
     run_minute(&host);
     account_for_c(&host);
-    ask_about(&host, 20);
     keep_in_runs(&host);
     return fflush(stdout) == 0 ? 0 : 1;
 }

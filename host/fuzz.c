@@ -1,5 +1,5 @@
 /*
- * Bytes as a sequence of calls on one station, some summaries, records with an index and a ring: the entry of libFuzzer.
+ * Bytes as a sequence of calls on one station, some summaries, records and a ring: the entry of libFuzzer.
  *
  * A step is a byte for the call, a byte that says how, and what the call is given. A number is one byte below 192, or two or
  * eight bytes behind a greater one. Where the input ends, zeros follow.
@@ -20,9 +20,9 @@ struct input {
     size_t left;
 };
 
-/* What calls have left: a station in range, a frame that was written, summaries, a record that was rolled or unrolled, and an index. */
+/* What calls have left: a station in range, a frame that was written, summaries, and a record that was rolled or unrolled. */
 static uint8_t station[RPR_STATION_LENGTH], frame[RPR_FRAME_LENGTH], summaries[SUMMARIES][RPR_SUMMARY_LENGTH];
-static struct slice moved, filled;
+static struct slice moved;
 
 static uint8_t byte(struct input *in) {
     if (in->left == 0) return 0;
@@ -119,18 +119,9 @@ static void record(struct input *in, struct slice *s, unsigned how) {
     }
 }
 
-/* An index: the one filled last, or the record's own, if it has one that is not too long. */
-static void index_of(const struct slice *of, struct slice *s, unsigned how) {
-    if (how & SECOND && filled.length > 0) {
-        set(s, filled.bytes, filled.length);
-        return;
-    }
-    s->length = rpr_written_of(plain_index(of->bytes, of->length, s->bytes, MOST_LENGTH - 1));
-}
-
 /* ---- calls ---- */
 
-/* The rooms' lengths. A record is moved, and an index filled, into a room of any length; where the input names none, into the longest. */
+/* The rooms' lengths. A record is moved into a room of any length; where the input names none, into the longest. */
 static const size_t rooms[CALLS] = {
     [call_write_frame] = RPR_FRAME_LENGTH,
     [call_show] = RPR_READING_LENGTH,
@@ -138,14 +129,12 @@ static const size_t rooms[CALLS] = {
     [call_join] = RPR_SUMMARY_LENGTH,
     [call_roll] = MOST_LENGTH - 1,
     [call_unroll] = MOST_LENGTH - 1,
-    [call_index] = MOST_LENGTH - 1,
-    [call_stretch] = RPR_SUMMARY_LENGTH,
 };
 
 static int moves(enum call call) { return call == call_roll || call == call_unroll; }
 
 static size_t room_length(struct input *in, enum call call, unsigned how) {
-    return (moves(call) || call == call_index) && how & RAW ? (size_t)number(in) % MOST_LENGTH : rooms[call];
+    return moves(call) && how & RAW ? (size_t)number(in) % MOST_LENGTH : rooms[call];
 }
 
 /* A slice of a call as a host lends it. */
@@ -157,23 +146,14 @@ static void lay_out(struct input *in, struct request *r, int at, unsigned how) {
         case HOLDS_frame: fairness(in, s, how); break;
         case HOLDS_record:
         case HOLDS_pattern: record(in, s, how); break;
-        case HOLDS_index: index_of(&r->slices[0], s, how); break;
         case HOLDS_room: set_room(s, room_length(in, r->call, how), (uint8_t)how); break;
         case HOLDS_summary: set(s, summaries[byte(in) % SUMMARIES], RPR_SUMMARY_LENGTH); break;
         case NO_SLICE: break;
     }
 }
 
-/* The ends of a stretch come to lie within the record. */
-static void within(const struct slice *record, uint64_t *first, uint64_t *last) {
-    struct rpr_summary sum;
-    if (plain_summarize(record->bytes, record->length, &sum, sizeof sum) != 0) return;
-    *first %= sum.events + UINT64_C(1);
-    *last = *first + *last % (sum.events - *first + 1);
-}
-
 /* The numbers of a call, and then its slices. Of a ring's links the input may say those that are down. A pattern is repeated any number of times where the input
- * says so, else few times: plain C goes through each of them. A stretch may then have any ends too. */
+ * says so, else few times: plain C goes through each of them. */
 static void give(struct input *in, struct request *r, unsigned how) {
     for (int i = 0; i < PARAMETERS; i++)
         if (signatures[r->call].parameters[i].kind == GIVEN_NUMBER) r->numbers[i] = number(in);
@@ -181,7 +161,6 @@ static void give(struct input *in, struct request *r, unsigned how) {
         r->numbers[3] = ~r->numbers[3] & ((UINT64_C(1) << r->numbers[0] % 64) - 1);
     if (r->call == call_heartbeat && !(how & RAW)) r->numbers[1] %= 64;
     for (int i = 0; i < PARAMETERS; i++) lay_out(in, r, i, how);
-    if (r->call == call_stretch && !(how & RAW)) within(&r->slices[0], &r->numbers[2], &r->numbers[3]);
 }
 
 /* A station of any bytes, one slice damaged, or one of another length. */
@@ -208,9 +187,8 @@ static void keep_room(const struct request *r, const struct slice *room, unsigne
         memcpy(frame, room->bytes, sizeof frame);
         frame[7] ^= 1;
     }
-    if (r->call == call_summarize || r->call == call_join || r->call == call_stretch) memcpy(summaries[how % SUMMARIES], room->bytes, RPR_SUMMARY_LENGTH);
+    if (r->call == call_summarize || r->call == call_join) memcpy(summaries[how % SUMMARIES], room->bytes, RPR_SUMMARY_LENGTH);
     if (moves(r->call)) set(&moved, room->bytes, rpr_written_of(r->answer));
-    if (r->call == call_index) set(&filled, room->bytes, rpr_written_of(r->answer));
 }
 
 /* What a call that was carried out left is what later calls are given. */
@@ -235,13 +213,13 @@ static unsigned step(struct input *in, enum call call, unsigned how) {
     return number;
 }
 
-/* A station of small settings, empty summaries, no record and no index. */
+/* A station of small settings, empty summaries, and no record. */
 static void begin(void) {
     static const uint8_t nothing[1];
     struct input none = {nothing, 0};
     memset(station, 0, sizeof station);
     memset(frame, 0, sizeof frame);
-    moved.length = filled.length = 0;
+    moved.length = 0;
     if (step(&none, call_start, 0) != 0) __builtin_trap();
     for (unsigned i = 0; i < SUMMARIES; i++)
         if (step(&none, call_summarize, i) != 0) __builtin_trap();

@@ -1,5 +1,4 @@
-/* The fuzz target: bytes become calls (fuzz.c), and each call is held to what every call promises (fuzz_check.c, for records with runs fuzz_runs.c, for indexes
- * fuzz_index.c, for patterns fuzz_heartbeat.c). */
+/* The fuzz target: bytes become calls (fuzz.c), and each call is held to what every call promises (fuzz_check.c, for records with runs fuzz_runs.c, for patterns fuzz_heartbeat.c). */
 #ifndef FUZZ_H
 #define FUZZ_H
 
@@ -23,7 +22,6 @@ enum holds {
     HOLDS_frame,
     HOLDS_record,
     HOLDS_pattern,
-    HOLDS_index,
     HOLDS_room,
     HOLDS_summary,
     HOLDS_first = HOLDS_summary,
@@ -67,12 +65,6 @@ static inline uint32_t get16(const uint8_t *p) { return p[0] | (uint32_t)p[1] <<
 
 /* Of a call on a record, which left this in its room: it is moved there and back, and each form comes to the same. */
 void check_runs(const struct request *r, uint64_t answer, const uint8_t *room);
-
-/* Of an index that is filled into this room: every entry is the summary of the piece that it covers, and says where that begins. */
-void check_index(const struct request *r, uint64_t answer, const uint8_t *room);
-
-/* Of a stretch, whose summary is left in this room: with an index filled from its record it is the piece's; with any other, entries that are not used do not matter. */
-void check_stretch(const struct request *r, uint64_t answer, const uint8_t *room);
 
 /* Of a pattern that is repeated: it is refused as a record is, or answered as the record is in which it is written out; and where one run of it ends at loLimit or above,
  * it fits. */

@@ -42,9 +42,6 @@ static const struct {
     [call_roll] = {REFUSES(2, 1, 3, 9) | REFUSES(12, 12, 12, 12), BYTE(4, 0x7fffff)},
     [call_unroll] = {REFUSES(2, 1, 3, 9) | REFUSES(12, 12, 12, 12), BYTE(4, 0x7fffff)},
     [call_heartbeat] = {REFUSES(2, 1, 3, 9), BYTE(1, 1) | BYTE(4, 0x1fffff)},
-    [call_index_length] = {REFUSES(9, 9, 9, 9), BYTE(4, 0x7ffff)},
-    [call_index] = {REFUSES(2, 1, 3, 9) | REFUSES(12, 12, 12, 12), BYTE(4, 0x7ffff)},
-    [call_stretch] = {REFUSES(2, 1, 3, 9), 0},
 };
 
 /* ---- what the list says ---- */
@@ -308,19 +305,6 @@ static void check_short(const struct request *r, uint64_t answer) {
     }
 }
 
-/* What is asked of records, by the call. */
-static void check_record(const struct request *r, uint64_t answer, uint8_t *const places[PARAMETERS]) {
-    switch (r->call) {
-        case call_summarize:
-        case call_roll:
-        case call_unroll: check_runs(r, answer, places[1]); break;
-        case call_index: check_index(r, answer, places[1]); break;
-        case call_stretch: check_stretch(r, answer, places[4]); break;
-        case call_heartbeat: check_heartbeat(r, answer); break;
-        default: break;
-    }
-}
-
 /* Plain C answers the same and leaves the same bytes. */
 static void check_plain(const struct request *r, uint64_t answer) {
     static uint8_t theirs[PARAMETERS][MOST_LENGTH];
@@ -352,7 +336,8 @@ unsigned make(struct request *r) {
     check_smoothed(r, answer);
     check_method(r, answer, number);
     check_short(r, answer);
-    check_record(r, answer, places);
+    if (signatures[r->call].parameters[0].holds == HOLDS_record) check_runs(r, answer, places[1]);
+    if (r->call == call_heartbeat) check_heartbeat(r, answer);
     check_plain(r, answer);
     tally[r->call][number]++;
     for (int i = 0; i < PARAMETERS; i++)

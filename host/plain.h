@@ -3,11 +3,10 @@
  * same order, the same answers. A call looks at the lent bytes where they lie, and then changes the few fields it is about.
  *
  * The station is in plain.c and plain_range.c, ringlet choice and path in plain_ring.c, records and summaries in plain_record.c, which reads items by plain_record.h,
- * and so do plain_index.c, for an index beside a record, and plain_heartbeat.c, which is apart from all others, as its library is.
+ * and so does plain_heartbeat.c, which is apart from all others, as its library is.
  *
  * Compiled with SAME_ALGORITHM it is C with the library's own algorithm, for a second comparison: records are summed by same_record.h, the queues of a station are
- * tested by same_range.h, indexes are filled and stretches put together by same_index.h, repeats are doubled by same_heartbeat.h, and plain_compare.c sums equal
- * windows once.
+ * tested by same_range.h, repeats are doubled by same_heartbeat.h, and plain_compare.c sums equal windows once.
  */
 #ifndef PLAIN_H
 #define PLAIN_H

@@ -3,6 +3,8 @@
 
 #include "plain_record.h"
 
+enum { MOST_AMOUNT = 65535, MOST_SIZE = 9216 };
+
 /* ---- summaries of records ---- */
 
 uint64_t plain_summarize(const void *lent, size_t length, void *room, size_t room_length) {
@@ -24,6 +26,9 @@ static void put16(uint8_t *p, uint32_t v) {
     uint16_t low = (uint16_t)v;
     memcpy(p, &low, sizeof low);
 }
+
+/* The answer of a call that wrote so many bytes. */
+static uint64_t wrote(size_t bytes) { return (uint64_t)bytes << 32; }
 
 /* A record of the old form: 0, or its first fault; and the bytes that it takes in runs. The second of equal ticks makes a run of the first, and no other of the
  * run takes a byte. */
@@ -119,6 +124,25 @@ uint64_t plain_unroll(const void *lent, size_t length, void *room, size_t room_l
 
 /* ---- summaries ---- */
 
+static int64_t gain_of(const struct rpr_summary *s) { return (int64_t)s->accrued - (int64_t)s->sent; }
+
+static int summary_ok(const struct rpr_summary *s) {
+    if (!settings_ok(s->mtu, s->lo_limit, s->hi_limit) || s->events > MOST_EVENTS) return 0;
+    if (s->accrued > (uint64_t)MOST_AMOUNT * s->events || s->sent > (uint64_t)MOST_SIZE * s->events) return 0;
+    int64_t hi = s->hi_limit, gain = gain_of(s);
+    if (s->ceiling > hi || s->ceiling > hi + gain || s->ceiling < -(int64_t)MOST_SIZE * s->events) return 0;
+    if (s->need > (uint64_t)hi + 1) return 0;
+    return s->need == (uint64_t)hi + 1 || (s->ceiling >= 0 && (int64_t)s->need + gain >= 0);
+}
+
+/* The least credit that permits the sends of both: what the second needs is less by the first's gain, within its ceiling. */
+static int64_t need_of(const struct rpr_summary *first, const struct rpr_summary *second) {
+    int64_t never = (int64_t)first->hi_limit + 1, one = (int64_t)first->need, two = (int64_t)second->need - gain_of(first);
+    if (first->ceiling < (int64_t)second->need) return never;
+    int64_t more = one > two ? one : two;
+    return more < never ? more : never;
+}
+
 uint64_t plain_join(const void *first, size_t first_length, const void *second, size_t second_length, void *room, size_t room_length) {
     struct rpr_summary a, b;
     if (first_length != sizeof a || second_length != sizeof b || room_length != sizeof a) return 2;
@@ -127,7 +151,12 @@ uint64_t plain_join(const void *first, size_t first_length, const void *second, 
     if (!summary_ok(&a) || !summary_ok(&b)) return 3;
     if (a.mtu != b.mtu || a.lo_limit != b.lo_limit || a.hi_limit != b.hi_limit) return 10;
     if (a.events + b.events > MOST_EVENTS) return 9;
-    join_behind(&a, &b);
+    int64_t need = need_of(&a, &b), ceiling = a.ceiling + gain_of(&b);
+    a.events += b.events;
+    a.accrued += b.accrued;
+    a.sent += b.sent;
+    a.ceiling = ceiling < b.ceiling ? ceiling : b.ceiling;
+    a.need = (uint64_t)need;
     memcpy(room, &a, sizeof a);
     return 0;
 }

@@ -1,7 +1,6 @@
 /*
- * How plain C reads a record of either form, item by item, and what summaries come to: for plain_record.c, for plain_heartbeat.c and plain_index.c, and for the
- * programs plain_compare.c and plain_summarize.c, which read a record in windows. The functions stand here, and not in a file of their own, so that the compiler can
- * draw them into the loops that are timed.
+ * How plain C reads a record of either form, item by item: for plain_record.c, and for the programs plain_compare.c and plain_summarize.c, which read one in
+ * windows. The functions stand here, and not in a file of their own, so that the compiler can draw them into the loops that are timed.
  */
 #ifndef PLAIN_RECORD_H
 #define PLAIN_RECORD_H
@@ -10,8 +9,7 @@
 
 #include "rpr.h"
 
-enum { MOST_EVENTS = RPR_MOST_EVENTS, MOST_AMOUNT = 65535, MOST_SIZE = 9216 };
-enum { HEADER = RPR_RECORD_HEADER_LENGTH, EVENT = RPR_RECORD_EVENT_LENGTH, RUN = RPR_RECORD_RUN_LENGTH };
+enum { MOST_EVENTS = RPR_MOST_EVENTS, HEADER = RPR_RECORD_HEADER_LENGTH, EVENT = RPR_RECORD_EVENT_LENGTH, RUN = RPR_RECORD_RUN_LENGTH };
 
 static inline uint32_t get16(const uint8_t *p) {
     uint16_t v;
@@ -113,22 +111,16 @@ static inline void sum_run(const struct item *run, struct sum *sum) {
 #include "same_record.h"
 #endif
 
-/* The same, but in blocks first where C has the library's own algorithm. */
-static inline size_t sum_all_events(const uint8_t *items, size_t most, struct sum *sum) {
-    size_t done = 0;
-#ifdef SAME_ALGORITHM
-    done = sum_blocks(items, most, sum);
-#endif
-    return done + sum_events(items + EVENT * done, most - done, sum);
-}
-
 /* The items of these bytes, behind those before: 0, or what the first with a fault is refused with. `end` is where the last good one ends. */
 static inline uint64_t sum_items(const uint8_t *bytes, size_t length, struct sum *sum, size_t *end) {
     size_t at = 0;
     uint64_t refusal = 0;
     while (at < length) {
-        size_t whole = (length - at) / EVENT, left = (size_t)(MOST_EVENTS - sum->events);
-        at += EVENT * sum_all_events(bytes + at, whole < left ? whole : left, sum);
+        size_t whole = (length - at) / EVENT, left = (size_t)(MOST_EVENTS - sum->events), most = whole < left ? whole : left, done = 0;
+#ifdef SAME_ALGORITHM
+        done = sum_blocks(bytes + at, most, sum);
+#endif
+        at += EVENT * (done + sum_events(bytes + at + EVENT * done, most - done, sum));
         if (at == length) break;
         struct item run;
         refusal = read_item(bytes + at, length - at, sum->events, sum->mtu, &run);
@@ -145,40 +137,6 @@ static inline struct rpr_summary summary_of(const struct sum *t) {
     int64_t never = t->hi + 1, need = t->need < never ? t->need : never;
     return (struct rpr_summary){(uint32_t)t->mtu, (uint32_t)t->lo, (uint32_t)t->hi, (uint32_t)t->events,
                                 (uint64_t)t->accrued, (uint64_t)t->sent, t->ceiling, (uint64_t)need};
-}
-
-/* The answer of a call that wrote so many bytes. */
-static inline uint64_t wrote(size_t bytes) { return (uint64_t)bytes << 32; }
-
-/* ---- summaries ---- */
-
-static inline int64_t gain_of(const struct rpr_summary *s) { return (int64_t)s->accrued - (int64_t)s->sent; }
-
-static inline int summary_ok(const struct rpr_summary *s) {
-    if (!settings_ok(s->mtu, s->lo_limit, s->hi_limit) || s->events > MOST_EVENTS) return 0;
-    if (s->accrued > (uint64_t)MOST_AMOUNT * s->events || s->sent > (uint64_t)MOST_SIZE * s->events) return 0;
-    int64_t hi = s->hi_limit, gain = gain_of(s);
-    if (s->ceiling > hi || s->ceiling > hi + gain || s->ceiling < -(int64_t)MOST_SIZE * s->events) return 0;
-    if (s->need > (uint64_t)hi + 1) return 0;
-    return s->need == (uint64_t)hi + 1 || (s->ceiling >= 0 && (int64_t)s->need + gain >= 0);
-}
-
-/* The least credit that permits the sends of both: what the second needs is less by the first's gain, within its ceiling. */
-static inline int64_t need_of(const struct rpr_summary *first, const struct rpr_summary *second) {
-    int64_t never = (int64_t)first->hi_limit + 1, one = (int64_t)first->need, two = (int64_t)second->need - gain_of(first);
-    if (first->ceiling < (int64_t)second->need) return never;
-    int64_t more = one > two ? one : two;
-    return more < never ? more : never;
-}
-
-/* A summary, and then another's events behind it. Both are in range and have the same settings, and no more than a million events. */
-static inline void join_behind(struct rpr_summary *all, const struct rpr_summary *next) {
-    int64_t need = need_of(all, next), ceiling = all->ceiling + gain_of(next);
-    all->events += next->events;
-    all->accrued += next->accrued;
-    all->sent += next->sent;
-    all->ceiling = ceiling < next->ceiling ? ceiling : next->ceiling;
-    all->need = (uint64_t)need;
 }
 
 #endif

@@ -14,7 +14,7 @@
  *            holds no address: between calls it may be copied, moved and stored. Its layout is the library's own.
  * Threads.   There is no global state: calls may run at the same time, as long as no byte that one of them may write
  *            is lent to another. So: one call at a time on a station.
- * Machines.  The words of settings, readings, summaries and indexes are little-endian. On such a machine the structs
+ * Machines.  The words of settings, readings and summaries are little-endian. On a little-endian machine the structs
  *            below are those bytes; on a big-endian one put and get each word byte by byte instead.
  *
  * Beyond lending such slices of real memory, a caller has no condition to meet: whatever else is wrong is refused.
@@ -49,9 +49,8 @@ extern "C" {
  * a station is longer, from 3.0 on settings name the number of stations, which no frame's hops may reach, from 4.0 on
  * the method. What a host of an earlier version lends is refused with 2, and nothing is touched: compile it anew with
  * `stations`, `round_trip`, `ramp_dn` (0 is refused with 1) and `method` (0 is as before); start its stations anew.
- * From 4.1 on records may have runs; a host that lends none goes on as it is. 4.2 brings the index beside a record, and
- * changes nothing else. */
-#define RPR_VERSION "4.2"
+ * From 4.1 on records may have runs; a host that lends none goes on as it is. */
+#define RPR_VERSION "4.1"
 
 /* The version of the library that is linked: 256 times the first number and the second. Nothing is refused. */
 RPR_ANSWERS uint64_t rpr_version(void);
@@ -114,8 +113,7 @@ enum {
     RPR_SUMMARY_LENGTH = 48,       /* struct rpr_summary */
     RPR_RECORD_HEADER_LENGTH = 14, /* the header of a shaper record */
     RPR_RECORD_EVENT_LENGTH = 6,   /* each of its events */
-    RPR_RECORD_RUN_LENGTH = 10,    /* each of its runs, whatever their counts */
-    RPR_INDEX_ENTRY_LENGTH = 40    /* struct rpr_index_entry */
+    RPR_RECORD_RUN_LENGTH = 10     /* each of its runs, whatever their counts */
 };
 
 /* ---- settings ---- */
@@ -335,53 +333,6 @@ RPR_LENT uint64_t rpr_roll(const void *record, size_t record_length, void *room,
  * stay. They are 14 and 6 for each event that rpr_summarize counts: RPR_RECORD_MOST are enough for any record. Refuses
  * the record's earliest fault, as rpr_summarize: 2, 1, 3 or 9; then 12, and then nothing is written. */
 RPR_LENT uint64_t rpr_unroll(const void *record, size_t record_length, void *room, size_t room_length);
-
-/* ---- an index beside a record ---- */
-
-/* An index holds summaries of a record, of either form, so that a question about a minute need not read the day. There
- * is one for each block of 256 events (the last may be short), and above them one for each pair (an odd one alone is
- * the one below it, and is stored once), halving until one is left. So B blocks make 2B - 1 entries, no event makes
- * none. Block j stands at entry 2j. The entry that joins what lies on both sides of where block m begins stands at
- * 2m - 1; it covers blocks m - h to m + h - 1, as far as there are such, h being the largest power of two that divides
- * m. So no entry ever moves: an event added at the end changes those that cover it, and adds at most two. */
-enum {
-    RPR_BLOCK_EVENTS = 256, /* the events of a block */
-    RPR_INDEX_MOST = 312520 /* the bytes of the longest index, of RPR_MOST_EVENTS */
-};
-
-/* An entry of an index. It is in range if its events are those that its position covers and if they, the other numbers
- * and the record's settings are a summary in range. */
-struct rpr_index_entry {
-    uint32_t events; /* that it covers */
-    uint32_t byte;   /* where the item of the first of them begins in the record */
-    uint32_t before; /* how many of that item's events come before it: 0, but within a run */
-    uint32_t need;
-    uint64_t accrued, sent;
-    int64_t ceiling;
-};
-
-RPR_HOLDS(sizeof(struct rpr_index_entry) == RPR_INDEX_ENTRY_LENGTH);
-RPR_HOLDS(offsetof(struct rpr_index_entry, need) == 12 && offsetof(struct rpr_index_entry, ceiling) == 32);
-
-/* The bytes of an index of so many events, rpr_written_of: 0 of none, 40 of 256, 120 of 257. Refuses 9. */
-RPR_ANSWERS uint64_t rpr_index_length(uint64_t events);
-
-/* Leaves the record's index in the room. Answers the bytes written, rpr_written_of: those of rpr_index_length for the
- * events that rpr_summarize counts. Bytes of the room behind them stay; RPR_INDEX_MOST are enough for any record.
- * Refuses the record's earliest fault, as rpr_summarize: 2, 1, 3 or 9; then 12, and then nothing is written. */
-RPR_LENT uint64_t rpr_index(const void *record, size_t record_length, void *room, size_t room_length);
-
-/* Leaves in the room the summary of the events from `first` to just before `last`, counted from 0: 0 and 256 name the
- * first block. With an index filled from that record it is what rpr_summarize finds for this piece. It is put together
- * from the entries that lie whole in the stretch while the one above doesn't, and from at most two partly read blocks,
- * of which the index says where they begin. Of the record only the header, the last block and those two are looked at.
- * Refuses 2 (a room that is not RPR_SUMMARY_LENGTH bytes; no header; an index of no such length, or of another record:
- * what it says of its last block does not lead to the record's end), 1, 9, 3 (`last` before `first`, or past the end),
- * then the earliest fault of the partly read blocks, each from its first event to the last one asked for, 2 or 3, then
- * 3 (an entry used that is out of range). Without events between the two it is the empty summary, whatever the entries.
- * A false entry that is in range is not found out: fill the index again where its bytes cannot be trusted. */
-RPR_LENT uint64_t rpr_stretch(const void *record, size_t record_length, const void *index, size_t index_length,
-                              uint64_t first, uint64_t last, void *room, size_t room_length);
 
 #undef RPR_HOLDS
 #undef RPR_ANSWERS

@@ -14,15 +14,15 @@ extern "C" {
 #endif
 
 /* Why a call was refused. Where several apply the order is 2, 1, 3, 13, 11, 10, 9, 4, 5, 6, 7, 8, 12, and the first is
- * given; within a record the earliest fault counts instead, header first; rpr_stretch has an order of its own. */
+ * given; within a record the earliest fault counts instead, header first. */
 enum rpr_refusal {
     RPR_CARRIED_OUT = 0, /* no refusal */
 
     /* What was lent or said makes no sense: the host has a fault, or passes on somebody else's. */
     RPR_SETTING = 1,      /* a setting, or a lent station's state, is outside its range */
-    RPR_BYTES = 2,        /* bytes are not a whole record, frame, station or index: another length, or another form */
-    RPR_RANGE = 3,        /* a frame, station index, summary (its settings too), stretch, starting credit or coded
-                             choice is outside its range */
+    RPR_BYTES = 2,        /* bytes are not a whole record, frame or station: another length, or another form */
+    RPR_RANGE = 3,        /* a frame, station index, summary (its settings too), starting credit or coded choice is
+                             outside its range */
     RPR_BEYOND_RING = 13, /* a frame's hops reach the number of stations or more */
 
     /* Not now: the same call may be carried out after a tick, a selection, an aging interval or a fairness frame. */
@@ -75,8 +75,7 @@ static inline unsigned rpr_path_hops(uint64_t answer) { return (unsigned)(RPR_IF
 static inline unsigned rpr_settled_permitted(uint64_t answer) { return (unsigned)(RPR_IF(0) >> 8 & 0xff); }
 static inline uint32_t rpr_settled_end_credit(uint64_t answer) { return (uint32_t)(RPR_IF(0) >> 32); }
 
-/* rpr_roll, rpr_unroll, rpr_index: the bytes written, from the front of the room on: a record has 14 or more, an index
- * may have none. rpr_index_length: the bytes that an index takes. */
+/* rpr_roll, rpr_unroll: the bytes written, from the front of the room on: a record has 14 or more. */
 static inline uint32_t rpr_written_of(uint64_t answer) { return (uint32_t)(RPR_IF(0) >> 32); }
 
 /* What a refusal says, in short: of an answer, or of a refusal's number. */
@@ -84,9 +83,8 @@ static inline const char *rpr_refusal_text(uint64_t answer) {
     switch (rpr_refusal_of(answer)) {
         case RPR_CARRIED_OUT: return "carried out";
         case RPR_SETTING: return "a setting, or a lent station's state, is outside its range";
-        case RPR_BYTES: return "bytes are not a whole record, frame, station or index";
-        case RPR_RANGE:
-            return "a frame, station index, summary, stretch, starting credit or coded choice is outside its range";
+        case RPR_BYTES: return "bytes are not a whole record, frame or station";
+        case RPR_RANGE: return "a frame, station index, summary, starting credit or coded choice is outside its range";
         case RPR_BEYOND_RING: return "a frame's hops reach the number of stations or more";
         case RPR_NO_ROOM: return "a frame's size exceeds the queue's space";
         case RPR_STAGE_FULL: return "the stage already holds a frame";

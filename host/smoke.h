@@ -13,7 +13,7 @@
 #include "rpr.h"
 
 /* The guard is odd, so that no slice is aligned. */
-enum { SLICES = 4, NONE = SLICES, GUARD = 33, MOST_LENT = 8192, WHOLE = GUARD + MOST_LENT + GUARD };
+enum { SLICES = 4, NONE = SLICES, GUARD = 33, MOST_LENT = 2048, WHOLE = GUARD + MOST_LENT + GUARD };
 
 /* A slice begins GUARD bytes into its memory; `before` is the memory as the last call left it. */
 static struct slice {

@@ -18,7 +18,7 @@ static void fresh(void) {
     want.local_fair_rate = want.allowed_rate = want.allowed_rate_congested = 10000;
     want.own_rate = 3333;
     want.received_ttl = 255;
-    expect("the version", rpr_version(), 256 * 4 + 2);
+    expect("the version", rpr_version(), 256 * 4 + 1);
     expect("the station's length", rpr_station_length(), RPR_STATION_LENGTH);
     start(&plain);
     struct rpr_reading got = show();

@@ -25,7 +25,7 @@ use Rattle.record.specs.Record.{header_bytes, written}
 use Rattle.record.specs.Items.{Item, items_bytes, written_items, unrolled}
 use Rattle.record.specs.Read.{Events, faulty, events, read_items, Read, unreadable, whole, under}
 use Rattle.record.specs.Step.{header_of_of, item_within}
-use Rattle.record.specs.Cause.{Why, too_many, has_fault_lem, passes}
+use Rattle.record.specs.Cause.{Why, too_many, has_fault, passes}
 use Rattle.record.proofs.Rows.{free_stands, within_over, within_faulty}
 use Rattle.record.proofs.Steps.{header_stands, header_faulty, read_over, failed_within}
 use Rattle.record.proofs.Refused.{header_refused_exactly, item_refused_exactly}
@@ -118,7 +118,7 @@ module _ (l : Limits) (is : List Item) (ok : PatternOk l is) where
 
   stops : (q : List ℕ) (n : ℕ) → 0 < n → 0 < length q → Why true 3 l.mtu most_of_pattern (length (unrolled is)) q n → read_pattern (written_items l is ++ q) ≡ unreadable n
   stops q n p h (too_many e z) = pattern_rest q 0 (omega arith) ∙ rw (read_over true 3 l.mtu q 0 h, behind_faulty (unrolled is) 3) (ap unreadable (sym z))
-  stops q n p h (has_fault_lem few g) =
+  stops q n p h (has_fault few g) =
       stops_within q n (within_faulty true 3 (most_of_pattern - length (unrolled is)) l.mtu q 0 n ((item_refused_exactly true l.mtu q 0 n h p).1 g) (omega arith))
   stops q n p h (passes few f over z) =
       stops_within q 3 (within_over true 3 (most_of_pattern - length (unrolled is)) l.mtu q 0 _ _ _ _ (free_stands true l.mtu q 0 h f) (omega arith)) ∙ ap unreadable (sym z)

@@ -20,7 +20,7 @@ use Rattle.record.specs.Record.{written, WellFormed}
 use Rattle.record.specs.Items.{Item, written_items, unrolled, Formed}
 use Rattle.record.specs.Step.{header_of_of, item_at}
 use Rattle.record.specs.Read.{limits_at, header_faults, is_run, item_faults, item_count}
-use Rattle.record.specs.Cause.{Why, too_many, has_fault_lem, passes, Cause, in_header, behind_items}
+use Rattle.record.specs.Cause.{Why, too_many, has_fault, passes, Cause, in_header, behind_items}
 use Rattle.record.proofs.Rows.{run_there, run_nowhere, kind_there, told_event, told_run, free_stands, item_end, within_stands, within_over, within_end, within_faulty, within_none}
 use Rattle.record.proofs.Steps.{step_stands}
 use Rattle.record.proofs.Written.{ones, ones_unrolled, ones_written, ones_formed}
@@ -100,7 +100,7 @@ module _ (xs : List ℕ) (n : ℕ) (p : 0 < n) where
   named : Cause true xs n → RecordRefused xs n
   named (in_header g) = reasons.RecordRefused.in_header ((header_given xs n p).0 g)
   named (behind_items l is q e f some (too_many full nine)) = reasons.RecordRefused.after_million l is q e f full some nine
-  named (behind_items l is q e f some (has_fault_lem few g)) = reasons.at_item l is q e f few some ((item_given l.mtu q n p).0 g)
+  named (behind_items l is q e f some (has_fault few g)) = reasons.at_item l is q e f few some ((item_given l.mtu q n p).0 g)
   named (behind_items l is q e f some (passes few free over nine)) =
       let run = many_run q (length (unrolled is)) most_events few over in
       reasons.past_million l is q e f few some (item_free l.mtu q free) run.0 (rw (← run.1) over) nine
@@ -108,7 +108,7 @@ module _ (xs : List ℕ) (n : ℕ) (p : 0 < n) where
   caused : RecordRefused xs n → Cause true xs n
   caused (reasons.RecordRefused.in_header g) = in_header ((header_given xs n p).1 g)
   caused (reasons.RecordRefused.after_million l is q e f full some nine) = behind_items l is q e f some (too_many full nine)
-  caused (reasons.at_item l is q e f few some g) = behind_items l is q e f some (has_fault_lem few ((item_given l.mtu q n p).1 g))
+  caused (reasons.at_item l is q e f few some g) = behind_items l is q e f some (has_fault few ((item_given l.mtu q n p).1 g))
   caused (reasons.past_million l is q e f few some free four over nine) =
       behind_items l is q e f some (passes few (item_number_lem l.mtu q 0 free) (rw (told_run q (run_there q four)).count over) nine)
 
@@ -140,7 +140,7 @@ module _ (xs : List ℕ) (n : ℕ) (p : 0 < n) where
     where
       by : xs ≡ written l (unrolled is) ++ q → WellFormed l (unrolled is) → Why false 9 l.mtu most_events (length (unrolled is)) q n → OldRecordRefused xs n
       by same w (too_many full nine) = reasons.OldRecordRefused.after_million l (unrolled is) q same w full some nine
-      by same w (has_fault_lem few g) = reasons.at_event l (unrolled is) q same w few some ((event_given l.mtu q n p).0 g)
+      by same w (has_fault few g) = reasons.at_event l (unrolled is) q same w few some ((event_given l.mtu q n p).0 g)
       by same w (passes few free over nine) =
           absurd (event_kind l.mtu q (event_free l.mtu q free) (many_run q (length (unrolled is)) most_events few over).0)
 
@@ -149,7 +149,7 @@ module _ (xs : List ℕ) (n : ℕ) (p : 0 < n) where
   old_caused (reasons.OldRecordRefused.after_million l es q e w full some nine) =
       behind_items l (ones es) q (rw (ones_written l es) e) (ones_formed false l es w) some (too_many (rw (ones_unrolled es) full) nine)
   old_caused (reasons.at_event l es q e w few some g) =
-      behind_items l (ones es) q (rw (ones_written l es) e) (ones_formed false l es w) some (has_fault_lem (rw (ones_unrolled es) few) ((event_given l.mtu q n p).1 g))
+      behind_items l (ones es) q (rw (ones_written l es) e) (ones_formed false l es w) some (has_fault (rw (ones_unrolled es) few) ((event_given l.mtu q n p).1 g))
 
   pub old_causes : Cause false xs n ↔ OldRecordRefused xs n
   old_causes = (old_named, old_caused)

@@ -282,7 +282,7 @@ module _ (xs : List ℕ) (r n : ℕ) (p : 0 < n) where
   named : HeartbeatCause xs r n → HeartbeatRefused xs r n
   named (in_pattern (in_header g)) = reasons.HeartbeatRefused.in_header ((header_given xs n p).0 g)
   named (in_pattern (behind_items l is q e ok some (cause.too_many full three))) = reasons.after_256 l is q e (wide ok) full some three
-  named (in_pattern (behind_items l is q e ok some (cause.has_fault_lem few g))) = reasons.HeartbeatRefused.at_item l is q e (wide ok) few some ((item_given l.mtu q n p).0 g)
+  named (in_pattern (behind_items l is q e ok some (cause.has_fault few g))) = reasons.HeartbeatRefused.at_item l is q e (wide ok) few some ((item_given l.mtu q n p).0 g)
   named (in_pattern (behind_items l is q e ok some (cause.passes few free over three))) =
       let run = many_run q (length (unrolled is)) 256 few over in
       reasons.past_256 l is q e (wide ok) few some (item_free l.mtu q free) run.0 (rw (← run.1) over) three
@@ -292,7 +292,7 @@ module _ (xs : List ℕ) (r n : ℕ) (p : 0 < n) where
   caused (reasons.HeartbeatRefused.in_header g) = in_pattern (in_header ((header_given xs n p).1 g))
   caused (reasons.after_256 l is q e f full some three) = in_pattern (behind_items l is q e (narrow f (omega arith)) some (cause.too_many full three))
   caused (reasons.HeartbeatRefused.at_item l is q e f few some g) =
-      in_pattern (behind_items l is q e (narrow f (omega arith)) some (cause.has_fault_lem few ((item_given l.mtu q n p).1 g)))
+      in_pattern (behind_items l is q e (narrow f (omega arith)) some (cause.has_fault few ((item_given l.mtu q n p).1 g)))
   caused (reasons.past_256 l is q e f few some free four over three) =
       in_pattern (behind_items l is q e (narrow f (omega arith)) some
       (cause.passes few (item_number_lem l.mtu q 0 free) (rw (told_run q (run_there q four)).count over) three))

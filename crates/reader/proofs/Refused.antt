@@ -20,7 +20,7 @@ use Rattle.record.proofs.Refused.{header_refused_exactly, item_refused_exactly}
 use Rattle.record.proofs.Answers.{step_refuses}
 use Rattle.record.proofs.Steps.{step_stands, step_end, step_faulty}
 use Rattle.reader.specs.declared.Place.{Place}
-use Rattle.reader.specs.Place.{next_at, Wrong, in_header, too_many, has_fault_lem, passes}
+use Rattle.reader.specs.Place.{next_at, Wrong, in_header, too_many, has_fault, passes}
 use Rattle.reader.proofs.Rows.{next_unreadable, next_item, next_passes, next_faulty, next_over, next_end}
 
 module _ (xs : List ℕ) (p : Place) (n : ℕ) (some : 0 < n) where
@@ -49,12 +49,12 @@ module _ (xs : List ℕ) (p : Place) (n : ℕ) (some : 0 < n) where
       by (Faulty m) g =
           let k = (step_faulty true l.mtu xs p.at m g).some in
           by_cases (le_or most_events p.done) (λ o. over o k)
-          (λ o. let h = none (next_faulty xs p l e m g o) in has_fault_lem l e o k ((item_refused_exactly true l.mtu xs p.at n k some).0 (g ∙ h)))
+          (λ o. let h = none (next_faulty xs p l e m g o) in has_fault l e o k ((item_refused_exactly true l.mtu xs p.at n k some).0 (g ∙ h)))
 
   given : Wrong xs p n → next_at xs p ≡ Faulty n
   given (in_header g) = next_unreadable xs p n ((header_refused_exactly xs n some).1 g)
   given (too_many l e o k s) = next_over xs p l e o k ∙ ap Faulty (sym s)
-  given (has_fault_lem l e o k g) = next_faulty xs p l e n ((item_refused_exactly true l.mtu xs p.at n k some).1 g) o
+  given (has_fault l e o k g) = next_faulty xs p l e n ((item_refused_exactly true l.mtu xs p.at n k some).1 g) o
   given (passes l e o k g many s) = next_passes xs p l e _ _ _ _ (free_stands true l.mtu xs p.at k g) many ∙ ap Faulty (sym s)
 
   pub next_refused_exactly : (next_at xs p ≡ Faulty n → Wrong xs p n) × (Wrong xs p n → next_at xs p ≡ Faulty n)

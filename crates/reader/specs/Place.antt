@@ -37,6 +37,6 @@ after_at xs p = after (next_at xs p) p
 pub data Wrong (xs : List ℕ) (p : Place) (n : ℕ) : Type 0 where
   in_header : Given (header_faults xs) n → Wrong xs p n
   too_many : (l : Limits) → header_of_of xs ≡ Settings l → most_events ≤ p.done → p.at < length xs → n ≡ 9 → Wrong xs p n
-  has_fault_lem : (l : Limits) → header_of_of xs ≡ Settings l → p.done < most_events → p.at < length xs → Given (item_faults true l.mtu (drop p.at xs)) n → Wrong xs p n
+  has_fault : (l : Limits) → header_of_of xs ≡ Settings l → p.done < most_events → p.at < length xs → Given (item_faults true l.mtu (drop p.at xs)) n → Wrong xs p n
   passes : (l : Limits) → header_of_of xs ≡ Settings l → p.done < most_events → p.at < length xs → first_of (item_faults true l.mtu (drop p.at xs)) ≡ 0 →
       most_events < p.done + item_count (drop p.at xs) → n ≡ 9 → Wrong xs p n

@@ -14,7 +14,7 @@ use Rattle.record.specs.declared.Step.TheVariants.{Stands, End, Faulty}
 use Rattle.record.specs.Items.{Item, written_items, unrolled, Formed}
 use Rattle.record.specs.Read.{unreadable, item_faults, item_count, read_in}
 use Rattle.record.specs.Step.{item_at}
-use Rattle.record.specs.Cause.{Why, too_many, has_fault_lem, passes, Cause, in_header, behind_items}
+use Rattle.record.specs.Cause.{Why, too_many, has_fault, passes, Cause, in_header, behind_items}
 use Rattle.record.proofs.Rows.{free_stands}
 use Rattle.record.proofs.Steps.{header_faulty}
 use Rattle.record.proofs.Wrote.{says_whole}
@@ -30,7 +30,7 @@ unreadable_means runs xs n b e = rw e at (says_whole runs xs b)
 stops : (runs : Bool) (l : Limits) (is : List Item) (q : List ℕ) (n : ℕ) → 0 < n → Formed runs l is → 0 < length q → Why runs 9 l.mtu most_events (length (unrolled is)) q n →
     read_in runs (written_items l is ++ q) ≡ unreadable n
 stops runs l is q n p w h (too_many e z) = over_million runs l is q w e h ∙ ap unreadable (sym z)
-stops runs l is q n p w h (has_fault_lem few g) = earliest runs l is q w n few ((item_refused_exactly runs l.mtu q 0 n h p).1 g)
+stops runs l is q n p w h (has_fault few g) = earliest runs l is q w n few ((item_refused_exactly runs l.mtu q 0 n h p).1 g)
 stops runs l is q n p w h (passes few f over z) = run_passes runs l is q w _ _ _ _ (free_stands runs l.mtu q 0 h f) over ∙ ap unreadable (sym z)
 
 pub means_unreadable : (runs : Bool) (xs : List ℕ) (n : ℕ) → 0 < n → Cause runs xs n → read_in runs xs ≡ unreadable n

@@ -29,7 +29,7 @@ use Rattle.record.specs.Record.{header_parts, event_parts, header_bytes, event_b
 use Rattle.record.specs.Items.{Item, one, run, run_parts, run_bytes, item_bytes, items_bytes, written_items, unrolled_item, unrolled, ItemOk, ItemsOk, Formed}
 use Rattle.record.specs.Read.{limits_at, Events, faulty, events, ahead, read_items, Read, unreadable, whole, under, read_in}
 use Rattle.record.specs.Step.{header_of_of, item_at}
-use Rattle.record.specs.Cause.{Why, too_many, has_fault_lem, passes, Cause, in_header, behind_items}
+use Rattle.record.specs.Cause.{Why, too_many, has_fault, passes, Cause, in_header, behind_items}
 use Rattle.record.proofs.Fields.{event_good}
 use Rattle.record.proofs.Steps.{Headed, EventThere, RunThere, Stood, read_by, read_header, header_stands, header_faulty, read_end, read_over, step_stands, step_end, step_faulty, stood_bound, count_bound}
 use Rattle.record.proofs.Refused.{header_refused_exactly, item_refused_exactly}
@@ -128,7 +128,7 @@ before hs us q ys zs f e = f ∙ ap (λ (r : List ℕ). hs ++ r) e ∙ sym (appe
 
 why_more : (runs : Bool) (late mtu m k c : ℕ) (q : List ℕ) (n : ℕ) → Why runs late mtu m k q n → Why runs late mtu (c + m) (c + k) q n
 why_more runs late mtu m k c q n (too_many e z) = too_many (ap (λ (x : ℕ). c + x) e) z
-why_more runs late mtu m k c q n (has_fault_lem h g) = has_fault_lem (omega arith) g
+why_more runs late mtu m k c q n (has_fault h g) = has_fault (omega arith) g
 why_more runs late mtu m k c q n (passes h f p z) = passes (omega arith) f (omega arith) z
 
 -- an item before them
@@ -186,7 +186,7 @@ module _ (runs : Bool) (late : ℕ) (l : Limits) (m : ℕ) (ys : List ℕ) (b : 
   step_says (Faulty n) e =
       let s = step_faulty runs l.mtu ys 0 n e in
       rw (s.stops late m)
-      (here runs late l (suc m) ys n s.some (has_fault_lem (omega arith) ((item_refused_exactly runs l.mtu ys 0 n s.some s.given).0 e)))
+      (here runs late l (suc m) ys n s.some (has_fault (omega arith) ((item_refused_exactly runs l.mtu ys 0 n s.some s.given).0 e)))
   step_says (Stands k v c next) e = stands_says k v c next (step_stands runs l.mtu ys 0 k v c next e)
 
 -- one item at a time

@@ -11,7 +11,7 @@ use Rattle.record.specs.Read.{header_faults, item_faults, item_count}
 -- stands for more events than may come. `runs` says whether runs may stand.
 pub data Why (runs : Bool) (late mtu most done : ℕ) (q : List ℕ) (n : ℕ) : Type 0 where
   too_many : done ≡ most → n ≡ late → Why runs late mtu most done q n
-  has_fault_lem : done < most → Given (item_faults runs mtu q) n → Why runs late mtu most done q n
+  has_fault : done < most → Given (item_faults runs mtu q) n → Why runs late mtu most done q n
   passes : done < most → first_of (item_faults runs mtu q) ≡ 0 → most < done + item_count q → n ≡ late → Why runs late mtu most done q n
 
 -- Header first, then the earliest: the fault is in the header, or in the bytes that stand behind a header and some items without one; any byte after the

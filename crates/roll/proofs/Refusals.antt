@@ -14,7 +14,7 @@ use Rattle.shaper.specs.declared.Limits.{Limits}
 use Rattle.shaper.specs.declared.Event.{Event}
 use Rattle.record.specs.Record.{written}
 use Rattle.record.specs.Read.{header_faults, event_faults, run_faults, is_run, item_faults, Read, unreadable, whole, read_in}
-use Rattle.record.specs.Cause.{Why, too_many, has_fault_lem, passes, Cause, in_header, behind_items}
+use Rattle.record.specs.Cause.{Why, too_many, has_fault, passes, Cause, in_header, behind_items}
 use Rattle.record.proofs.Means.{unreadable_means, means_unreadable}
 use Rattle.roll.specs.declared.Moved.TheVariants.{Written, Refused}
 use Rattle.roll.specs.Moved.{Output, refused, bytes, rolled_read, rolled_bytes, unrolled_read, unrolled_bytes, moved_of, left_of}
@@ -41,7 +41,7 @@ item_small runs mtu q = of_each Small (runs && is_run q) (run_faults q) (event_f
 
 why_small : {runs : Bool} {mtu most done : ℕ} {q : List ℕ} {n : ℕ} → Why runs 9 mtu most done q n → n ≤ 9
 why_small (too_many e z) = omega arith
-why_small {runs} {mtu} {q} {n} (has_fault_lem h g) = given_small (item_faults runs mtu q) n (item_small runs mtu q) g
+why_small {runs} {mtu} {q} {n} (has_fault h g) = given_small (item_faults runs mtu q) n (item_small runs mtu q) g
 why_small (passes h e p z) = omega arith
 
 cause_small : {runs : Bool} {xs : List ℕ} {n : ℕ} → Cause runs xs n → n ≤ 9

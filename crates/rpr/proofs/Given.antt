@@ -58,8 +58,8 @@ HandedShort short n said old new r after = Handed (short_told short) n said old 
 
 module _ (n : ℕ) (xs : List ℕ) (faults : List Fault) (said : ℕ) (old new : List ℕ) where
   -- 2 before all else
-  pub not_whole_lem : (length xs ≡ n → ⊥) → Gives (other_length_of n xs ∷ faults) said old new 2 old
-  not_whole_lem h = refused (other_length_of n xs ∷ faults) said old new 1 (wrong_length n xs faults h)
+  pub not_whole : (length xs ≡ n → ⊥) → Gives (other_length_of n xs ∷ faults) said old new 2 old
+  not_whole h = refused (other_length_of n xs ∷ faults) said old new 1 (wrong_length n xs faults h)
 
   pub not_whole_short : (short : ℕ) → (length xs ≡ n → ⊥) → GivesShort (other_length_of n xs ∷ faults) short said old new 2 old
   unfolding short_answer_of after_of refused_or digits

@@ -5,7 +5,6 @@ pub mod Credit
 pub mod Promises
 pub mod Records
 pub mod Movers
-pub mod Indexes
 pub mod Ways
 pub mod Pairs
 pub mod Given

@@ -21,17 +21,17 @@ use Rattle.rpr.proofs.Shape.{most_number, numbered, first_most}
 abbrev pub OfTable : ℕ → Type 0
 OfTable n = (0 < n) × (n ≤ most_number)
 
-abbrev pub EventsNumbered : Events → Type 0
+abbrev EventsNumbered : Events → Type 0
 EventsNumbered (faulty n) = OfTable n
 EventsNumbered (events es) = Unit {0}
 
-pub onward_numbered : (n : ℕ) (e : Event) (r : Events) → n ≤ most_number → EventsNumbered r → EventsNumbered (onward n e r)
+onward_numbered : (n : ℕ) (e : Event) (r : Events) → n ≤ most_number → EventsNumbered r → EventsNumbered (onward n e r)
 onward_numbered zero e (events es) h k = tt
 onward_numbered zero e (faulty m) h k = k
 onward_numbered (suc n) e r h k = omega arith
 
 -- the rows of an item bear numbers of the table, in either form
-pub item_numbered : (runs : Bool) (mtu : ℕ) (xs : List ℕ) → numbered (item_faults runs mtu xs) ≡ true
+item_numbered : (runs : Bool) (mtu : ℕ) (xs : List ℕ) → numbered (item_faults runs mtu xs) ≡ true
 unfolding item_faults
 item_numbered runs mtu xs = by (runs && is_run xs)
   where

@@ -54,12 +54,12 @@ module _ (xs room : List ℕ) where
 -- ---- rpr_join
 
 -- a summary's answer, by the number of its first fault
-pub number_is : (n : ℕ) (s : Summary) → answer_number (answered n s) ≡ refused_or (λ m. m) n 0
+number_is : (n : ℕ) (s : Summary) → answer_number (answered n s) ≡ refused_or (λ m. m) n 0
 unfolding refused_or
 number_is zero s = refl
 number_is (suc n) s = refl
 
-pub handed_is : (n : ℕ) (s : Summary) (room : List ℕ) → handed room (answered n s) ≡ refused_or (λ m. room) n (sheet_of s)
+handed_is : (n : ℕ) (s : Summary) (room : List ℕ) → handed room (answered n s) ≡ refused_or (λ m. room) n (sheet_of s)
 unfolding refused_or
 handed_is zero s room = refl
 handed_is (suc n) s room = refl

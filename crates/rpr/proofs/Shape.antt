@@ -70,19 +70,6 @@ first_most (f ∷ fs) e =
     let k = first_most fs p.1 in
     of_each (λ (x : First). number_of x ≤ most_number) f.applies (earlier f (first fs)) (first fs) (λ a. earlier_most f (first fs) h k) (λ a. k)
 
--- the same of rows whose number may be 0 where they do not apply
-abbrev pub Bounded : List Fault → Type 0
-Bounded [] = Unit {0}
-Bounded (f ∷ fs) = (f.number ≤ most_number) × Bounded fs
-
-pub first_bounded : (fs : List Fault) → Bounded fs → first_of fs ≤ most_number
-unfolding first_of first
-first_bounded [] b = omega arith
-first_bounded (f ∷ fs) b =
-    of_each (λ (x : First). number_of x ≤ most_number) f.applies (earlier f (first fs)) (first fs)
-    (λ a. earlier_most f (first fs) b.0 (first_bounded fs b.1))
-    (λ a. first_bounded fs b.1)
-
 among_numbered : (f : Fault) (fs : List Fault) → numbered fs ≡ true → Among f fs → 0 < f.number
 among_numbered f [] e m = absurd m
 among_numbered f (g ∷ gs) e m =

@@ -44,7 +44,7 @@ use Rattle.rpr.specs.Station.{select_answer, select_after, read_frame_answer, re
 use Rattle.rpr.specs.Lent.{LentCall, start, tick, offer_client, offer_transit, offer_control, select, age, read_frame, write_frame, show}
 use Rattle.rpr.specs.Lent.{answer_to, left_by, calls_of, StartsWith, NewStart}
 use Rattle.rpr.proofs.Shape.{number_alone, first_most, free}
-use Rattle.rpr.proofs.Given.{not_whole_lem, not_whole_short, then_not_whole, whole_gives, whole_gives_short, then_whole_gives, done_back, taken_back, chosen_back, told_back, shown_back, start_refused_lem, start_done}
+use Rattle.rpr.proofs.Given.{not_whole, not_whole_short, then_not_whole, whole_gives, whole_gives_short, then_whole_gives, done_back, taken_back, chosen_back, told_back, shown_back, start_refused_lem, start_done}
 use Rattle.rpr.specs.Says.{Keeps, answer_given, bytes_left, RoomFits, CallSays, StartSays, LentSays}
 
 -- ---- lent other bytes
@@ -55,16 +55,16 @@ unfolding start_answer start_after tick_answer tick_after offer_client_answer of
 lent_short xs h (start settings b) =
     by_cases (split (length settings ≡? settings_length))
     (λ e. then_not_whole _ xs _ _ _ _ _ settings e h)
-    (λ e. not_whole_lem _ settings _ _ _ _ e)
-lent_short xs h (tick a b c) = not_whole_lem _ xs _ _ _ _ h
+    (λ e. not_whole _ settings _ _ _ _ e)
+lent_short xs h (tick a b c) = not_whole _ xs _ _ _ _ h
 lent_short xs h (offer_client class size hops) = not_whole_short _ xs _ _ _ _ _ h
-lent_short xs h (offer_transit class size hops eligible) = not_whole_lem _ xs _ _ _ _ h
-lent_short xs h (offer_control size) = not_whole_lem _ xs _ _ _ _ h
-lent_short xs h select = not_whole_lem _ xs _ _ _ _ h
-lent_short xs h age = not_whole_lem _ xs _ _ _ _ h
-lent_short xs h (read_frame frame b) = not_whole_lem _ xs _ _ _ _ h
-lent_short xs h (write_frame room) = ((not_whole_lem _ xs _ _ [] [] h).0, refl)
-lent_short xs h (show room) = ((not_whole_lem _ xs _ _ [] [] h).0, refl)
+lent_short xs h (offer_transit class size hops eligible) = not_whole _ xs _ _ _ _ h
+lent_short xs h (offer_control size) = not_whole _ xs _ _ _ _ h
+lent_short xs h select = not_whole _ xs _ _ _ _ h
+lent_short xs h age = not_whole _ xs _ _ _ _ h
+lent_short xs h (read_frame frame b) = not_whole _ xs _ _ _ _ h
+lent_short xs h (write_frame room) = ((not_whole _ xs _ _ [] [] h).0, refl)
+lent_short xs h (show room) = ((not_whole _ xs _ _ [] [] h).0, refl)
 
 -- ---- lent a station's bytes
 
@@ -113,7 +113,7 @@ module _ (xs : List ℕ) (bytes : Bytes xs) (e : length xs ≡ station_length) w
         settings,
         (b, refl),
         record {
-          other_length = λ h. not_whole_lem _ settings _ _ _ _ h;
+          other_length = λ h. not_whole _ settings _ _ _ _ h;
           out_of_range = λ h o. start_refused_lem settings xs h e (settings_at settings 0) o;
           fresh = λ h o. start_done settings xs h e (settings_at settings 0) o;
         },

@@ -14,9 +14,9 @@ use Rattle.rpr.specs.Shape.{answer_of, after_of, other_length_of}
 
 -- ---- rpr_version
 
--- 256 × the first number of the version + the second: 4.2
+-- 256 × the first number of the version + the second: 4.1
 abbrev pub version_number : ℕ
-version_number = 256 * 4 + 2
+version_number = 256 * 4 + 1
 
 -- ---- rpr_summarize
 

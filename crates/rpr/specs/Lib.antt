@@ -1,7 +1,6 @@
 pub mod Shape
 pub mod Calls
 pub mod Movers
-pub mod Indexes
 pub mod Ways
 pub mod Station
 pub mod Lent

@@ -3,7 +3,6 @@ ghost use Rattle.std.specs.Prelude.{◌≡◌};
 ghost use Rattle.rpr.specs.Ways.{choose_answer, path_answer};
 ghost use Rattle.rpr.specs.Calls.{version_number, summarize_answer, summarize_after, join_answer, join_after, settle_answer};
 ghost use Rattle.rpr.specs.Movers.{roll_answer, roll_after, unroll_answer, unroll_after};
-ghost use Rattle.rpr.specs.Indexes.{index_length_answer, index_answer, index_after, stretch_answer, stretch_after};
 
 mod lending;
 
@@ -17,7 +16,7 @@ const NOT_WHOLE: u64 = 2;
 // The two numbers of the version that this library is, as rpr.h has them in RPR_VERSION.
 const VERSION: u64 = 4;
 
-const REVISION: u64 = 2;
+const REVISION: u64 = 1;
 
 // The version: 256 times its first number and the second.
 #[unsafe(no_mangle)]
@@ -101,50 +100,6 @@ pub extern "C" fn rpr_unroll(record: &[u8], room: &mut [u8]) -> u64
         Moved::Written(n) => answer::written(n),
         Moved::Refused(number) => number,
     }
-}
-
-// How many bytes the index of so many events takes. 9 over 1,000,000.
-#[unsafe(no_mangle)]
-pub extern "C" fn rpr_index_length(events: u64) -> u64
-    ensures { result ≡ index_length_answer events }
-{
-    let length = index::length(events);
-    match length {
-        Moved::Written(n) => answer::written(n),
-        Moved::Refused(number) => number,
-    }
-}
-
-// Leaves in the room the index of a record, of either form, and answers how many bytes that is. The number of the record's earliest fault; then 12 where the room is too short.
-#[unsafe(no_mangle)]
-pub extern "C" fn rpr_index(record: &[u8], room: &mut [u8]) -> u64
-    ensures value { result ≡ index_answer «record».now room.old }
-    ensures room_after { room.new ≡ index_after «record».now room.old }
-{
-    let moved = index::fill(record, room);
-    match moved {
-        Moved::Written(n) => answer::written(n),
-        Moved::Refused(number) => number,
-    }
-}
-
-// Leaves in the room the summary of the events from `first` to just before `last` of a record with its index. 2 where the room is not 48 bytes, then what the question is refused for.
-#[unsafe(no_mangle)]
-pub extern "C" fn rpr_stretch(
-    record: &[u8],
-    index: &[u8],
-    first: u64,
-    last: u64,
-    room: &mut [u8],
-) -> u64
-    ensures value { result ≡ stretch_answer «record».now index.now first last room.old }
-    ensures room_after { room.new ≡ stretch_after «record».now index.now first last room.old }
-{
-    if room.len() != sheet::LENGTH {
-        return NOT_WHOLE;
-    }
-    let found = stretch::stretch(record, index, first, last);
-    sheet::hand_over(found, room)
 }
 
 // Which side a frame takes round the ring: the side, its distance, the ttl and the wrap mark.

@@ -171,19 +171,19 @@ pub fn compare(files: &[File; 2]) -> Said {
 }
 
 /// "one or more decimal digits"; "a number past 2^64-1 is taken for 2^64-1". None of another word.
-pub fn number(word: &str) -> Option<u64> {
+pub fn repeats(word: &str) -> Option<u64> {
     let digits = !word.is_empty() && word.bytes().all(|byte| byte.is_ascii_digit());
-    let and_digit = |sum: u64, byte| {
+    let number = |sum: u64, byte| {
         sum.saturating_mul(10)
             .saturating_add(u64::from(byte - b'0'))
     };
-    digits.then(|| word.bytes().fold(0, and_digit))
+    digits.then(|| word.bytes().fold(0, number))
 }
 
 /// What `rpr summarize --bytes` prints of the written-out record. "0 permitted throughout from
 /// loLimit, 1 not permitted, 2 refused or trouble"
 pub fn heartbeat((name, input): &File, word: &str) -> Said {
-    let Some(repeats) = number(word) else {
+    let Some(repeats) = repeats(word) else {
         return Said {
             output: Vec::new(),
             error: format!("rpr: {word}: not a number of repeats\n"),

@@ -5,12 +5,10 @@
 //! every other byte is 0 and every lent byte is as it was."
 
 use crate::heartbeat;
-use crate::index;
 use crate::movers;
 use crate::record::Settings;
 use crate::refusal::Refusal;
 use crate::ring::{Choice, Path, Ring, Side, Wish};
-use crate::stretch;
 use crate::summary::Summary;
 use crate::text;
 
@@ -96,26 +94,6 @@ pub fn roll(record: &[u8], room: &[u8]) -> (u64, Vec<u8>) {
 /// `rpr_unroll(record, n, room, m)`: "either form to old".
 pub fn unroll(record: &[u8], room: &[u8]) -> (u64, Vec<u8>) {
     moved(movers::unroll(record), room)
-}
-
-/// `rpr_index_length(events)`: "bytes 4 to 7: the bytes of an index".
-pub fn index_length(events: u64) -> u64 {
-    match index::length(events) {
-        Ok(length) => (length as u64) << 32,
-        Err(refusal) => refusal.answer(),
-    }
-}
-
-/// `rpr_index(record, n, room, m)`: "bytes 4 to 7: bytes written; bytes behind stay".
-pub fn index(record: &[u8], room: &[u8]) -> (u64, Vec<u8>) {
-    moved(index::index(record), room)
-}
-
-/// `rpr_stretch(record, n, index, m, first, last, room, k)`: "0; the room of 48 bytes holds the
-/// summary of events first to last − 1".
-pub fn stretch(record: &[u8], index: &[u8], first: u64, last: u64, room: &[u8]) -> (u64, Vec<u8>) {
-    let outcome = check_room(room).and_then(|()| stretch::stretch(record, index, first, last));
-    answered(outcome, room)
 }
 
 /// "bytes 4 to 7: bytes written; bytes of the room behind them stay"; "the record's earliest

@@ -38,10 +38,10 @@ const fn broken(name: &'static str, fault: Fault) -> Broken {
 }
 
 /// Where the length, the kind, the tick kind and the count stand.
-pub const LENGTH: usize = 0;
-pub const KIND: usize = 2;
-pub const TICK_KIND: usize = 4;
-pub const COUNT: usize = 8;
+const LENGTH: usize = 0;
+const KIND: usize = 2;
+const TICK_KIND: usize = 4;
+const COUNT: usize = 8;
 
 /// "a run that passes the million: 9"; "a tick kind other than 1 or 2, a count below 2: 2"; "cut
 /// short, another length than its kind's, no known kind: 2".

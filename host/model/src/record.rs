@@ -65,14 +65,6 @@ impl Settings {
             && (lo + 1..=1_048_576).contains(&hi)
     }
 
-    /// "1 | a setting [...] is outside its range"
-    pub fn checked(self) -> Result<Settings, Refusal> {
-        match self.valid() {
-            true => Ok(self),
-            false => Err(Refusal::Setting),
-        }
-    }
-
     /// "frame size 16 to mtu"
     pub fn allows_size(&self, size: u32) -> bool {
         (16..=self.mtu).contains(&size)
@@ -89,22 +81,23 @@ fn number(bytes: &[u8]) -> u32 {
 
 /// "Kind 16, length 14, first and once: mtu 2, loLimit 4, hiLimit 4."
 fn read_header(bytes: &[u8]) -> Result<Settings, Refusal> {
-    read_settings(bytes)?.checked()
-}
-
-/// The same with settings as they are, valid or not.
-pub fn read_settings(bytes: &[u8]) -> Result<Settings, Refusal> {
     let header = bytes.get(..HEADER_LENGTH).ok_or(Refusal::Bytes)?;
     if number(&header[0..2]) != HEADER_LENGTH as u32
         || number(&header[2..4]) != u32::from(HEADER_KIND)
     {
         return Err(Refusal::Bytes);
     }
-    Ok(Settings {
+    let settings = Settings {
         mtu: number(&header[4..6]),
         lo_limit: number(&header[6..10]),
         hi_limit: number(&header[10..14]),
-    })
+    };
+    // "1 | a setting [...] is outside its range"
+    if settings.valid() {
+        Ok(settings)
+    } else {
+        Err(Refusal::Setting)
+    }
 }
 
 /// The kind of the item that the bytes begin with, and its payload: "cut short, another length
@@ -153,28 +146,10 @@ fn read_run(payload: &[u8]) -> Result<Item, Refusal> {
     }
 }
 
-/// The item that the bytes begin with, wherever it stands: "cut short, another length than its
-/// kind's, no known kind: 2; a send's size: 3; a tick kind other than 1 or 2, a count below 2: 2".
-pub fn read_alone(settings: &Settings, form: Form, bytes: &[u8]) -> Result<Item, Refusal> {
-    let (kind, payload) = read_shape(form, bytes)?;
-    if kind == RUN_KIND {
-        return read_run(payload);
-    }
-    let event = read_event(settings, kind, u16::from_le_bytes([payload[0], payload[1]]))?;
-    Ok(Item { event, count: 1 })
-}
-
-/// How many events that item has and how many bytes, where a send's size is not looked at.
-pub fn read_extent(bytes: &[u8]) -> Result<(usize, usize), Refusal> {
-    match read_shape(Form::Either, bytes)? {
-        (RUN_KIND, payload) => Ok((read_run(payload)?.events(), RUN_LENGTH)),
-        _ => Ok((1, EVENT_LENGTH)),
-    }
-}
-
 /// The item that the bytes begin with, behind so many events. "Faults at an item, in order: a
-/// million events done and any byte: 9; [its own]; a run that passes the million: 9." Another
-/// limit stands in the million's place.
+/// million events done and any byte: 9; cut short, another length than its kind's, no known kind:
+/// 2; a send's size: 3; a tick kind other than 1 or 2, a count below 2: 2; a run that passes the
+/// million: 9." Another limit stands in the million's place.
 fn read_item(
     settings: &Settings,
     form: Form,
@@ -185,7 +160,14 @@ fn read_item(
     if done == limit.events {
         return Err(limit.past);
     }
-    let item = read_alone(settings, form, bytes)?;
+    let (kind, payload) = read_shape(form, bytes)?;
+    let item = match kind {
+        RUN_KIND => read_run(payload)?,
+        _ => Item {
+            event: read_event(settings, kind, u16::from_le_bytes([payload[0], payload[1]]))?,
+            count: 1,
+        },
+    };
     if done + item.events() > limit.events {
         return Err(limit.past);
     }

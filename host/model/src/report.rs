@@ -24,8 +24,8 @@ pub fn notation(bytes: &[u8]) -> String {
 pub struct Call<'a> {
     pub function: &'static str,
     pub slices: Vec<(&'static str, &'a [u8])>,
-    /// Each number's name and value.
-    pub numbers: Vec<(&'static str, u64)>,
+    /// A number's name and value.
+    pub number: Option<(&'static str, u64)>,
 }
 
 impl Call<'_> {
@@ -38,7 +38,7 @@ impl Call<'_> {
             };
             fault += &format!("\n  {name} ({} bytes): {hex}", bytes.len());
         }
-        for (name, number) in &self.numbers {
+        if let Some((name, number)) = self.number {
             fault += &format!("\n  {name}: {number}");
         }
         fault

@@ -11,18 +11,15 @@ pub type Reachable = &'static [(&'static str, &'static [&'static str])];
 //
 // 2 | every call that lends a slice: "A slice whose length is not the one named below, or
 //   |   not `rpr_station_length()`, is refusal 2"; rpr_summarize also for what isn't a
-//   |   whole record, rpr_roll, rpr_unroll, rpr_index and rpr_heartbeat for that alone;
-//   |   rpr_stretch also for a header that is none and "an index that is not this record's";
-//   |   rpr_read_frame also for "Another length, type, header kind or a ringlet bit equal to
-//   |   the station's own". rpr_choose, rpr_path and rpr_index_length lend none.
-// 1 | rpr_start, rpr_summarize, rpr_roll, rpr_unroll, rpr_index, rpr_stretch, rpr_heartbeat: "a
-//   |   setting"; the nine calls on a station: "a lent station's state"; rpr_choose and rpr_path:
-//   |   "2 to 63 stations (else 1)". A summary's settings are 3 instead: not rpr_join, not
-//   |   rpr_settle.
+//   |   whole record, rpr_roll, rpr_unroll and rpr_heartbeat for that alone; rpr_read_frame
+//   |   also for "Another length, type, header kind or a ringlet bit equal to the station's
+//   |   own". rpr_choose and rpr_path lend none.
+// 1 | rpr_start, rpr_summarize, rpr_roll, rpr_unroll, rpr_heartbeat: "a setting"; the nine
+//   |   calls on a station: "a lent station's state"; rpr_choose and rpr_path: "2 to 63
+//   |   stations (else 1)". A summary's settings are 3 instead: not rpr_join, not rpr_settle.
 // 3 | "a frame": the three offers, rpr_read_frame ("ttl 193 to 255, else 3"),
-//   |   rpr_summarize, rpr_roll, rpr_unroll, rpr_index (a send's size), rpr_heartbeat (that, and
-//   |   "3 at a 257th event"), rpr_stretch (that, "a stretch that runs past the end or backwards"
-//   |   and "an entry used that is out of range"); "station index" and "higher bits set": rpr_choose, rpr_path; "summary
+//   |   rpr_summarize, rpr_roll, rpr_unroll (a send's size), rpr_heartbeat (that, and "3 at a
+//   |   257th event"); "station index" and "higher bits set": rpr_choose, rpr_path; "summary
 //   |   (its settings too)": rpr_join, rpr_settle; "starting credit": rpr_settle; "coded
 //   |   choice": rpr_tick, rpr_offer_client, rpr_offer_transit, rpr_choose, rpr_path.
 // 13 | rpr_offer_client, rpr_offer_transit, rpr_read_frame: "A fairness frame, a transit frame
@@ -31,9 +28,8 @@ pub type Reachable = &'static [(&'static str, &'static [&'static str])];
 //   |   what must come up.
 // 11 | rpr_read_frame: "a fairness frame bears this station's own address".
 // 10 | rpr_join: "joined summaries have different settings".
-// 9 | rpr_summarize, rpr_roll, rpr_unroll, rpr_join, rpr_index_length, rpr_index, rpr_stretch:
-//   |   "over 1,000,000 events"; rpr_heartbeat: "when repeats times pattern events exceed
-//   |   1,000,000".
+// 9 | rpr_summarize, rpr_roll, rpr_unroll, rpr_join: "over 1,000,000 events"; rpr_heartbeat:
+//   |   "when repeats times pattern events exceed 1,000,000".
 // 4 | rpr_offer_transit, rpr_offer_control: "a frame's size exceeds the queue's space".
 //   |   The stage is no queue: not rpr_offer_client.
 // 5 | rpr_offer_client: "the stage already holds a frame".
@@ -42,23 +38,18 @@ pub type Reachable = &'static [(&'static str, &'static [&'static str])];
 //   |   holds, and to nothing.
 // 7 | rpr_offer_client: "the congested fair rate would be passed".
 // 8 | rpr_choose: "no usable way". A path not delivered is "no refusal".
-// 12 | rpr_roll, rpr_unroll: "room too short"; rpr_index: "lent room too short for the index".
+// 12 | rpr_roll, rpr_unroll: "room too short".
 // rpr_station_length answers "the number of bytes [...], and nothing else".
 
 /// A room of another length is told apart from the other reasons for 2.
 pub const OF_RECORDS: Reachable = &[
-    ("rpr_summarize", &[ROOM, "2", "1", "3", "9"]),
+    ("rpr_summarize", &["2 room", "2", "1", "3", "9"]),
     ("rpr_join", &["2", "3", "10", "9"]),
     ("rpr_settle", &["2", "3"]),
     ("rpr_roll", &["2", "1", "3", "9", "12"]),
     ("rpr_unroll", &["2", "1", "3", "9", "12"]),
 ];
 pub const OF_RINGS: Reachable = &[("rpr_choose", &["1", "3", "8"]), ("rpr_path", &["1", "3"])];
-pub const OF_INDEXES: Reachable = &[
-    ("rpr_index_length", &["9"]),
-    ("rpr_index", &["2", "1", "3", "9", "12"]),
-    ("rpr_stretch", &[ROOM, "2", "1", "9", "3"]),
-];
 pub const OF_HEARTBEATS: Reachable = &[("rpr_heartbeat", &["2", "1", "3", "9"])];
 pub const OF_STATIONS: Reachable = &[
     ("rpr_start", &["2", "1"]),
@@ -73,7 +64,6 @@ pub const OF_STATIONS: Reachable = &[
     ("rpr_show", &["2", "1"]),
 ];
 const CARRIED_OUT: &str = "carried out";
-const ROOM: &str = "2 room";
 
 pub struct Tally {
     reachable: Reachable,
@@ -90,7 +80,7 @@ impl Tally {
     pub fn count(&mut self, function: &'static str, answer: u64, wrong_room: bool) {
         let outcome = match answer as u8 {
             0 => CARRIED_OUT.to_string(),
-            _ if wrong_room && self.lists(function, ROOM) => ROOM.to_string(),
+            _ if wrong_room && function == "rpr_summarize" => "2 room".to_string(),
             number => number.to_string(),
         };
         *self.counts.entry((function, outcome)).or_default() += 1;
@@ -105,16 +95,14 @@ impl Tally {
         self.counts.get(&key).copied().unwrap_or(0)
     }
 
-    /// The table has this pair.
-    fn lists(&self, function: &str, outcome: &str) -> bool {
-        let pairs = self.reachable.iter().find(|pairs| pairs.0 == function);
-        pairs.is_some_and(|pairs| outcome == CARRIED_OUT || pairs.1.contains(&outcome))
-    }
-
     /// What the table of pairs doesn't have.
     fn unexpected(&self) -> Vec<String> {
+        let listed = |function: &str, outcome: &str| {
+            let pairs = self.reachable.iter().find(|pairs| pairs.0 == function);
+            pairs.is_some_and(|pairs| outcome == CARRIED_OUT || pairs.1.contains(&outcome))
+        };
         let keys = self.counts.keys();
-        keys.filter(|(function, outcome)| !self.lists(function, outcome))
+        keys.filter(|(function, outcome)| !listed(function, outcome))
             .map(|(function, outcome)| format!("{function}: {outcome} isn't possible"))
             .collect()
     }

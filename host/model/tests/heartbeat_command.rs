@@ -3,7 +3,7 @@
 mod items;
 
 use items::bytes;
-use model::command::{heartbeat, number, summarize, File, Given, Said, Shown};
+use model::command::{heartbeat, repeats, summarize, File, Given, Said, Shown};
 use model::make_heartbeat;
 use model::random::Random;
 use model::{heartbeat as beats, host};
@@ -22,7 +22,7 @@ fn said(output: &str, error: &str, status: i32) -> Said {
 
 #[test]
 fn numbers_of_repeats() {
-    for (word, expected) in [
+    for (word, number) in [
         ("0", 0),
         ("7", 7),
         ("000000000000000000000000000042", 42),
@@ -34,13 +34,13 @@ fn numbers_of_repeats() {
         ("100000000000000000000000000000", u64::MAX),
         ("0018446744073709551614", u64::MAX - 1),
     ] {
-        assert_eq!(number(word), Some(expected), "{word}");
+        assert_eq!(repeats(word), Some(number), "{word}");
     }
     let words = [
         "", "-", "-1", "+1", " 1", "1 ", "1.0", "0x1", "1e3", "\u{ff11}",
     ];
     for word in words {
-        assert_eq!(number(word), None, "{word}");
+        assert_eq!(repeats(word), None, "{word}");
         let error = format!("rpr: {word}: not a number of repeats\n");
         assert_eq!(heartbeat(&file(bytes("")), word), said("", &error, 2));
     }
@@ -132,14 +132,14 @@ fn the_written_out_record() {
 #[test]
 fn words_at_random() {
     let mut random = Random::new(2);
-    for repeats in [0, 1, 3_907, u64::MAX - 1, u64::MAX] {
+    for number in [0, 1, 3_907, u64::MAX - 1, u64::MAX] {
         for _ in 0..50 {
-            let word = make_heartbeat::word(&mut random, repeats);
-            assert_eq!(number(&word), Some(repeats), "{word}");
+            let word = make_heartbeat::word(&mut random, number);
+            assert_eq!(repeats(&word), Some(number), "{word}");
         }
     }
     for _ in 0..500 {
         let word = make_heartbeat::no_number(&mut random);
-        assert_eq!(number(&word), None, "{word}");
+        assert_eq!(repeats(&word), None, "{word}");
     }
 }

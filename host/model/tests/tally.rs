@@ -1,6 +1,6 @@
 //! What a run must have reached.
 
-use model::tally::{Tally, OF_HEARTBEATS, OF_INDEXES, OF_RECORDS, OF_RINGS, OF_STATIONS};
+use model::tally::{Tally, OF_HEARTBEATS, OF_RECORDS, OF_RINGS, OF_STATIONS};
 
 /// A tally that has each pair once, and so many calls carried out.
 fn reached(carried_out: usize) -> Tally {
@@ -40,26 +40,13 @@ fn a_pair_that_is_not_in_the_table() {
     assert_eq!(tally.faults(), faults);
 }
 
-/// 21 calls, and each refusal number is in the table of at least one of them.
+/// 18 calls, and each refusal number is in the table of at least one of them.
 #[test]
 fn the_table() {
-    let parts = [OF_RECORDS, OF_RINGS, OF_STATIONS, OF_HEARTBEATS, OF_INDEXES];
-    let all = parts.concat();
-    assert_eq!(all.len(), 21);
+    let all = [OF_RECORDS, OF_RINGS, OF_STATIONS, OF_HEARTBEATS].concat();
+    assert_eq!(all.len(), 18);
     for number in 1..=13 {
         let given = |pairs: &(&str, &[&str])| pairs.1.contains(&&number.to_string()[..]);
         assert!(all.iter().any(given), "{number}");
     }
-}
-
-/// A room of another length is counted apart where a call's table has it.
-#[test]
-fn a_room_of_another_length() {
-    let mut tally = Tally::new(OF_INDEXES);
-    tally.count("rpr_stretch", 2, true);
-    tally.count("rpr_index", 2, true);
-    let faults = tally.faults();
-    let never = |pair: &str| faults.contains(&format!("{pair} never reached"));
-    assert!(never("rpr_stretch: refusal 2") && !never("rpr_stretch: refusal 2 room"));
-    assert!(!never("rpr_index: refusal 2"));
 }

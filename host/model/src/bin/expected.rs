@@ -6,7 +6,6 @@
 //! `expected roll < RECORD`, `expected unroll < RECORD`: the bytes of this record, moved; of a
 //! refusal nothing.
 //! `expected heartbeat REPEATS < PATTERN`: what `rpr heartbeat` prints for this pattern.
-//! `expected stretch FIRST LAST < RECORD`: what `rpr stretch` prints of these events of this record.
 //! `expected join [--sheet] FILE..`: what join prints for these files of 48 bytes.
 //! `expected vectors < CASES`: what the vectors program prints for this case file.
 //! `expected ring < CASES`: what each call of this case file answers.
@@ -20,14 +19,14 @@
 use model::command::{self, File, Given, Mover, Shown};
 use model::random::Random;
 use model::station_script::Script;
-use model::{cases, compare, entry_script, make, ring_cases, stretch, text, walk};
+use model::{cases, compare, entry_script, make, ring_cases, walk};
 use std::env;
 use std::fs;
 use std::io::{self, BufRead, Read, Write};
 use std::process::ExitCode;
 
 const USAGE: &str = "usage: expected summarize|sheet [--bytes], expected roll|unroll, \
-                     expected heartbeat REPEATS, expected stretch FIRST LAST, \
+                     expected heartbeat REPEATS, \
                      expected vectors|ring|walk|station|entry, \
                      expected compare FIRST SECOND, expected join [--sheet] FILE.., \
                      expected bytes NAME, expected night SEED EVENTS";
@@ -49,14 +48,6 @@ fn moved(mover: Mover) -> Result<(), String> {
 
 fn heartbeat(repeats: &str) -> Result<(), String> {
     write_bytes(&command::heartbeat(&input()?, repeats).output)
-}
-
-/// The summary read afresh from the record, as summarize prints it.
-fn stretched(words: [&str; 2]) -> Result<(), String> {
-    let not_one = |word| format!("not a number: {word}");
-    let number = |word| command::number(word).ok_or_else(|| not_one(word));
-    let (first, last) = (number(words[0])?, number(words[1])?);
-    write(&text::show(stretch::afresh(&input()?.1, first, last)))
 }
 
 fn join(names: &[&str], shown: Shown) -> Result<(), String> {
@@ -140,7 +131,6 @@ fn main() -> ExitCode {
         ["roll"] => moved(Mover::Roll),
         ["unroll"] => moved(Mover::Unroll),
         ["heartbeat", repeats] => heartbeat(repeats),
-        ["stretch", first, last] => stretched([first, last]),
         ["vectors"] => vectors(),
         ["ring"] => lines(ring_cases::print),
         ["walk"] => lines(walk::print),

@@ -5,7 +5,7 @@ use Rattle.flow.specs.Offer.{control_frame}
 use Rattle.station.specs.declared.Station.{Station}
 use Rattle.layout.specs.Layout.{pushed_at}
 use Rattle.rpr.specs.Station.{offer_control_answer, offer_control_after}
-use Rattle.rpr.proofs.Given.{not_whole_lem, range_known}
+use Rattle.rpr.proofs.Given.{not_whole, range_known}
 use Rattle.rpr.proofs.Written.{done_refused, done_carried, offer_written}
 use borrow.Author.Rules.{rules}
 use Rattle.rpr.proofs.lending.rpr_offer_control.Statement.{statement}
@@ -13,7 +13,7 @@ use Rattle.rpr.proofs.lending.rpr_offer_control.Tie as tie
 
 returns : tie.Need-returns
 unfolding offer_control_answer offer_control_after
-returns c = let xs = c.before.before.args.station.now in not_whole_lem _ xs _ _ _ _ c.if1.true
+returns c = let xs = c.before.before.args.station.now in not_whole _ xs _ _ _ _ c.if1.true
 
 in-range-requires : tie.Need-in-range-requires
 in-range-requires c κs = search rules

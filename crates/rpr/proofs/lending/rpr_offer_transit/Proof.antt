@@ -7,7 +7,7 @@ use Rattle.station.specs.declared.Station.{Station}
 use Rattle.station.specs.Offers.{given_frame}
 use Rattle.layout.specs.Layout.{station_at, pushed_at}
 use Rattle.rpr.specs.Station.{offer_transit_answer, offer_transit_after}
-use Rattle.rpr.proofs.Given.{not_whole_lem, range_known}
+use Rattle.rpr.proofs.Given.{not_whole, range_known}
 use Rattle.rpr.proofs.Written.{done_refused, done_carried, offer_written}
 use borrow.Author.Rules.{rules}
 use Rattle.rpr.proofs.lending.rpr_offer_transit.Statement.{statement}
@@ -15,7 +15,7 @@ use Rattle.rpr.proofs.lending.rpr_offer_transit.Tie as tie
 
 returns : tie.Need-returns
 unfolding offer_transit_answer offer_transit_after
-returns c = let xs = c.before.before.args.station.now in not_whole_lem _ xs _ _ _ _ c.if1.true
+returns c = let xs = c.before.before.args.station.now in not_whole _ xs _ _ _ _ c.if1.true
 
 in-range-requires : tie.Need-in-range-requires
 in-range-requires c κs = search rules

@@ -2,7 +2,7 @@
 -- Assumes nothing.
 use Rattle.station.specs.declared.Station.{Station}
 use Rattle.rpr.specs.Station.{read_frame_answer, read_frame_after}
-use Rattle.rpr.proofs.Given.{not_whole_lem, range_known}
+use Rattle.rpr.proofs.Given.{not_whole, range_known}
 use Rattle.rpr.proofs.Written.{done_refused, done_carried, fair_in, fair_written}
 use borrow.Author.Rules.{rules}
 use Rattle.rpr.proofs.lending.rpr_read_frame.Statement.{statement}
@@ -10,7 +10,7 @@ use Rattle.rpr.proofs.lending.rpr_read_frame.Tie as tie
 
 returns : tie.Need-returns
 unfolding read_frame_answer read_frame_after
-returns c = let xs = c.before.before.before.args.station.now in not_whole_lem _ xs _ _ _ _ c.if1.true
+returns c = let xs = c.before.before.before.args.station.now in not_whole _ xs _ _ _ _ c.if1.true
 
 in-range-requires : tie.Need-in-range-requires
 in-range-requires c κs = search rules

@@ -6,7 +6,7 @@ use Rattle.layout.specs.Layout.{station_at, station_bytes}
 use Rattle.layout.proofs.Round.{bytes_of_state}
 use Rattle.rpr.specs.Station.{select_answer, select_after}
 use mathlib.Core.Path.{sym, ap, ◌∙◌}
-use Rattle.rpr.proofs.Given.{not_whole_lem, select_refused, select_given}
+use Rattle.rpr.proofs.Given.{not_whole, select_refused, select_given}
 use Rattle.rpr.proofs.Chosen.{nothing_chosen}
 use Rattle.rpr.proofs.Written.{select_written}
 use borrow.Author.Rules.{rules}
@@ -15,7 +15,7 @@ use Rattle.rpr.proofs.lending.rpr_select.Tie as tie
 
 returns : tie.Need-returns
 unfolding select_answer select_after
-returns c = let xs = c.before.before.args.station.now in not_whole_lem _ xs _ _ _ _ c.if1.true
+returns c = let xs = c.before.before.args.station.now in not_whole _ xs _ _ _ _ c.if1.true
 
 in-range-requires : tie.Need-in-range-requires
 in-range-requires c κs = search rules

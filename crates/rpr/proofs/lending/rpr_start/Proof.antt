@@ -5,14 +5,14 @@ use Rattle.decide.specs.Test.{left, taken}
 use Rattle.settings.specs.Range.{settings_ok}
 use Rattle.layout.specs.Layout.{station_bytes}
 use Rattle.rpr.specs.Station.{start_answer, start_after}
-use Rattle.rpr.proofs.Given.{not_whole_lem, then_not_whole, start_refused_lem, start_done}
+use Rattle.rpr.proofs.Given.{not_whole, then_not_whole, start_refused_lem, start_done}
 use borrow.Author.Rules.{rules}
 use Rattle.rpr.proofs.lending.rpr_start.Statement.{statement}
 use Rattle.rpr.proofs.lending.rpr_start.Tie as tie
 
 returns : tie.Need-returns
 unfolding start_answer start_after
-returns c = let given : _ = c.before.before.before.args in not_whole_lem _ given.settings.now _ _ _ _ c.if1.true
+returns c = let given : _ = c.before.before.before.args in not_whole _ given.settings.now _ _ _ _ c.if1.true
 
 returns-2 : tie.Need-returns-2
 unfolding start_answer start_after

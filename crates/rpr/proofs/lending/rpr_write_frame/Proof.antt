@@ -3,14 +3,14 @@
 use mathlib.Core.Path.{◌∙◌}
 use Rattle.rpr.specs.Station.{write_frame_answer, write_frame_after}
 use Rattle.rpr.proofs.Shape.{turned_down, taken_on}
-use Rattle.rpr.proofs.Given.{not_whole_lem, range_known, then_not_whole, then_whole_gives, told_back}
+use Rattle.rpr.proofs.Given.{not_whole, range_known, then_not_whole, then_whole_gives, told_back}
 use borrow.Author.Rules.{rules}
 use Rattle.rpr.proofs.lending.rpr_write_frame.Statement.{statement}
 use Rattle.rpr.proofs.lending.rpr_write_frame.Tie as tie
 
 returns : tie.Need-returns
 unfolding write_frame_answer write_frame_after
-returns c = let lent : _ = c.before.before.before.args in not_whole_lem _ lent.station.now _ _ _ _ c.if1.true
+returns c = let lent : _ = c.before.before.before.args in not_whole _ lent.station.now _ _ _ _ c.if1.true
 
 returns-2 : tie.Need-returns-2
 unfolding write_frame_answer write_frame_after

@@ -208,7 +208,7 @@ fn of_heartbeat(pattern: &[u8], repeats: u64) -> Call<'_> {
     Call {
         function: "rpr_heartbeat",
         slices: vec![("pattern", pattern)],
-        numbers: vec![("repeats", repeats)],
+        number: Some(("repeats", repeats)),
     }
 }
 

@@ -4,7 +4,6 @@
 //! `differ ring SEED CALLS`: ringlet choice and path.
 //! `differ station SEED CALLS`: the station, with the feature `station`.
 //! `differ heartbeat SEED CALLS`: heartbeats, with the feature `heartbeat`.
-//! `differ index SEED CALLS`: the index and stretches, with the feature `index`.
 //!
 //! Makes random calls and compares every answer and every lent byte. Ends with 1 on
 //! the first difference, when fewer than half of the counted calls were carried out,
@@ -16,12 +15,10 @@
 mod calls {
     include!(concat!(env!("OUT_DIR"), "/calls.rs"));
 }
-#[cfg(any(feature = "heartbeat", feature = "index"))]
+#[cfg(feature = "heartbeat")]
 mod edge;
 #[cfg(feature = "heartbeat")]
 mod heartbeat;
-#[cfg(feature = "index")]
-mod index;
 mod record;
 mod record_runs;
 mod ring;
@@ -40,7 +37,7 @@ type Part = fn(u64, u64) -> (Tally, Outcome<Vec<String>>);
 /// Fewer calls may be too few to see all that must be seen.
 const ENOUGH: u64 = 100_000;
 
-const USAGE: &str = "usage: differ [record|ring|station|heartbeat|index] SEED CALLS";
+const USAGE: &str = "usage: differ [record|ring|station|heartbeat] SEED CALLS";
 
 fn arguments() -> Option<(Part, u64, u64)> {
     let words: Vec<String> = env::args().skip(1).collect();
@@ -52,8 +49,6 @@ fn arguments() -> Option<(Part, u64, u64)> {
         ["station", seed, calls] => (station::run, seed, calls),
         #[cfg(feature = "heartbeat")]
         ["heartbeat", seed, calls] => (heartbeat::run, seed, calls),
-        #[cfg(feature = "index")]
-        ["index", seed, calls] => (index::run, seed, calls),
         _ => return None,
     };
     Some((part, seed.parse().ok()?, calls.parse().ok()?))

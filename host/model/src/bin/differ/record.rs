@@ -24,41 +24,7 @@ pub struct Reads {
     pub model: fn(&[u8], &[u8]) -> (u64, Vec<u8>),
 }
 
-impl Reads {
-    /// Calls it; the answer and the room's bytes afterwards.
-    pub fn call(
-        &self,
-        random: &mut Random,
-        tally: &mut Tally,
-        record: &[u8],
-        room: &[u8],
-    ) -> Outcome<(u64, Vec<u8>)> {
-        let mut lent = Lent::new(random, record);
-        let mut lent_room = Lent::new(random, room);
-        // SAFETY: both slices are real memory that nothing else uses.
-        let answer = unsafe {
-            (self.library)(
-                lent.pointer(),
-                lent.length(),
-                lent_room.pointer(),
-                lent_room.length(),
-            )
-        };
-        let call = Call {
-            function: self.function,
-            slices: vec![("record", record), ("room", room)],
-            numbers: Vec::new(),
-        };
-        let (expected, after) = (self.model)(record, room);
-        call.same_answer(expected, answer)?;
-        call.same_bytes("record", record, &lent)?;
-        call.same_bytes("room", &after, &lent_room)?;
-        tally.count(self.function, answer, room.len() != SUMMARY_LENGTH);
-        Ok((answer, after))
-    }
-}
-
-pub const SUMMARIZE: Reads = Reads {
+const SUMMARIZE: Reads = Reads {
     function: "rpr_summarize",
     library: rpr_summarize,
     model: host::summarize,
@@ -73,7 +39,29 @@ pub struct Trial {
 impl Trial {
     /// Calls a function that reads a record; the answer and the room's bytes afterwards.
     pub fn reads(&mut self, reads: &Reads, record: &[u8], room: &[u8]) -> Outcome<(u64, Vec<u8>)> {
-        reads.call(&mut self.random, &mut self.tally, record, room)
+        let mut lent = Lent::new(&mut self.random, record);
+        let mut lent_room = Lent::new(&mut self.random, room);
+        // SAFETY: both slices are real memory that nothing else uses.
+        let answer = unsafe {
+            (reads.library)(
+                lent.pointer(),
+                lent.length(),
+                lent_room.pointer(),
+                lent_room.length(),
+            )
+        };
+        let call = Call {
+            function: reads.function,
+            slices: vec![("record", record), ("room", room)],
+            number: None,
+        };
+        let (expected, after) = (reads.model)(record, room);
+        call.same_answer(expected, answer)?;
+        call.same_bytes("record", record, &lent)?;
+        call.same_bytes("room", &after, &lent_room)?;
+        let wrong_room = room.len() != SUMMARY_LENGTH;
+        self.tally.count(call.function, answer, wrong_room);
+        Ok((answer, after))
     }
 
     /// Calls rpr_summarize; the room's bytes afterwards.
@@ -107,7 +95,7 @@ impl Trial {
         let call = Call {
             function: "rpr_join",
             slices: vec![("first", first), ("second", second), ("room", room)],
-            numbers: Vec::new(),
+            number: None,
         };
         let (expected, after) = host::join(first, second, room);
         call.same_answer(expected, answer)?;
@@ -126,7 +114,7 @@ impl Trial {
         let call = Call {
             function: "rpr_settle",
             slices: vec![("summary", summary)],
-            numbers: vec![("start", start)],
+            number: Some(("start", start)),
         };
         call.same_answer(host::settle(summary, start), answer)?;
         call.same_bytes("summary", summary, &lent)?;
