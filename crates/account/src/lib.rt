@@ -1,4 +1,6 @@
 // The account of a shaper record: its summary, read from lent bytes.
+#![tactic(auto)]
+
 ghost use Rattle.std.specs.Prelude.{◌≡◌, ◌+◌, ◌-◌, ◌*◌, ◌/◌, ◌≤◌, Bool, true, length};
 ghost use Rattle.std.specs.Int.{w32};
 ghost use Rattle.std.proofs.Common.{to_z};
@@ -45,14 +47,14 @@ const TO_LEAST: u32 = 2147483648 - 16 * 65536;
 const ITEMS: u64 = 64;
 
 // A block that was tallied: the tally behind it, and whether none of its events has a fault.
-#[derive(Drop)]
+#[derive(Clone, Copy)]
 struct Tallied {
     tally: Tally,
     good: bool,
 }
 
 // How far events are tallied: the place behind them, how many they are, and their tally.
-#[derive(Drop)]
+#[derive(Clone, Copy)]
 struct Reach {
     at: usize,
     n: u64,
@@ -60,7 +62,7 @@ struct Reach {
 }
 
 // What a walk comes to: the answer, or how far it went.
-#[derive(Drop)]
+#[derive(Clone, Copy)]
 enum Walked {
     Ended(Answer),
     On(Reach),

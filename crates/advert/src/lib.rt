@@ -1,4 +1,6 @@
 // A fairness frame's 12 bytes: written, and parsed. Whether a station takes a frame in, by ringlet bit, ttl and address, is not decided here.
+#![tactic(auto)]
+
 ghost use Rattle.std.specs.Prelude.{◌≡◌, ◌<◌, length};
 ghost use Rattle.decide.specs.Test.{test};
 ghost use Rattle.wire.specs.Wire.{be, digits_be, put};
@@ -11,7 +13,7 @@ pub const LENGTH: usize = 12;
 const FAIRNESS: u8 = 2;
 
 // What a fairness frame says.
-#[derive(Drop)]
+#[derive(Clone, Copy)]
 pub struct Advert {
     // the ringlet bit, 0 or 1
     pub ringlet: u8,
@@ -23,7 +25,7 @@ pub struct Advert {
 }
 
 // What bytes are found to be: a fairness frame that says this, or the number of the refusal.
-#[derive(Drop)]
+#[derive(Clone, Copy)]
 pub enum Parsed {
     Frame(Advert),
     Refused(u64),

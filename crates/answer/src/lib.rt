@@ -1,5 +1,7 @@
 // The numbers that the host's calls answer, read as eight bytes: byte 0, the lowest, is 0 where the call was carried out, and the others say what was found. Each
 // value is cut to the bytes that it has, so that none runs into another's, whatever is given.
+#![tactic(auto)]
+
 ghost use Rattle.std.specs.Prelude.{◌≡◌, [], ◌∷◌};
 ghost use Rattle.answer.specs.Bytes.{packed, bit_of, chosen_bytes, moved_bytes, permitted_bytes, written_bytes, mark_bytes, refused_bytes, selected_bytes};
 

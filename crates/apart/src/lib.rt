@@ -1,4 +1,6 @@
 // Where two records part: what is printed of them, filled into a room. Each function here writes nothing but what its text says.
+#![tactic(auto)]
+
 mod line;
 mod step;
 pub mod together;
@@ -21,21 +23,21 @@ use together::turn;
 const TURNS: u64 = 5000;
 
 // What is known of a file: the mtu that its header bears, and whether no byte stands behind its window.
-#[derive(Drop)]
+#[derive(Clone, Copy)]
 pub struct Side {
     pub mtu: u32,
     pub last: bool,
 }
 
 // A place in a window: where an item begins, and how many of its events have gone by.
-#[derive(Drop)]
+#[derive(Clone, Copy)]
 pub struct Place {
     pub at: usize,
     pub gone: u32,
 }
 
 // A place in each of two windows, and the position of the events that stand there.
-#[derive(Drop)]
+#[derive(Clone, Copy)]
 pub struct Walk {
     pub first: Place,
     pub second: Place,
@@ -43,7 +45,7 @@ pub struct Walk {
 }
 
 // What stands at a place: events of an item that stands for so many, and where the next item begins; the file's end; or no whole item of the window.
-#[derive(Drop)]
+#[derive(Clone, Copy)]
 pub enum Stand {
     Events {
         kind: u16,
@@ -56,7 +58,7 @@ pub enum Stand {
 }
 
 // What is listed of a position.
-#[derive(Drop)]
+#[derive(Clone, Copy)]
 pub enum Finding {
     Nothing,
     Both(Event, Event),
@@ -65,7 +67,7 @@ pub enum Finding {
 }
 
 // A turn: the walk behind it, the line of the position before it, and whether it stops, as no more can be told from these windows.
-#[derive(Drop)]
+#[derive(Clone, Copy)]
 pub struct Turn {
     pub walk: Walk,
     pub line: Finding,
@@ -73,14 +75,14 @@ pub struct Turn {
 }
 
 // A page that was filled: the walk behind it, and how many bytes it has.
-#[derive(Drop)]
+#[derive(Clone, Copy)]
 pub struct Reached {
     pub walk: Walk,
     pub end: usize,
 }
 
 // What was filled of a page so quickly: the walk behind it, its turns, and how many bytes it has.
-#[derive(Drop)]
+#[derive(Clone, Copy)]
 pub struct Begun {
     walk: Walk,
     turns: u64,
@@ -88,7 +90,7 @@ pub struct Begun {
 }
 
 // A page that was printed: the walk behind it, whether it lists nothing, and whether all of it was written.
-#[derive(Drop)]
+#[derive(Clone, Copy)]
 pub struct Printed {
     pub walk: Walk,
     pub empty: bool,

@@ -5,7 +5,7 @@ use summary::Answer;
 
 // The files so far: their summaries joined; whether there was any, and whether standard input was among them; and whether one could not be read or was refused, which is
 // then said, and the status by that.
-#[derive(Drop)]
+#[derive(Clone, Copy)]
 struct Joined {
     sum: Answer,
     any: bool,

@@ -13,7 +13,7 @@ use summary::{Answer, Summary};
 const ROUNDS: u32 = 700;
 
 // What comes behind a page: of which file more is wanted, and whether both have ended.
-#[derive(Drop)]
+#[derive(Clone, Copy)]
 struct Next {
     first: Want,
     second: Want,

@@ -8,7 +8,7 @@ use window::Pair;
 pub const WINDOW: usize = 30000;
 
 // What a window holds of a file: where its bytes end, and where those begin that were read last; whether no byte stands behind them, and whether a read failed.
-#[derive(Drop)]
+#[derive(Clone, Copy)]
 pub struct Held {
     pub from: usize,
     pub end: usize,
@@ -17,7 +17,7 @@ pub struct Held {
 }
 
 // Both files as far as they are read: what their bytes come to so far, and their windows.
-#[derive(Drop)]
+#[derive(Clone, Copy)]
 pub struct Reach {
     pub fed: Pair,
     pub first: Held,
@@ -25,7 +25,7 @@ pub struct Reach {
 }
 
 // Whether more of a file is wanted, and from where on its window's bytes are kept.
-#[derive(Drop)]
+#[derive(Clone, Copy)]
 pub struct Want {
     pub more: bool,
     pub keep: usize,

@@ -6,7 +6,7 @@ use hex_text::{Hex, Place};
 use summary::Answer;
 
 // What one read brought: the record so far, whether there may be more, and whether the read failed. A record that is given as bytes is a text's bytes alone.
-#[derive(Drop)]
+#[derive(Clone, Copy)]
 struct Turn {
     text: Hex,
     more: bool,

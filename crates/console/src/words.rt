@@ -1,7 +1,7 @@
 // The words behind a command's name: its options, wherever they stand, and the files.
 
 // What a word is.
-#[derive(Drop)]
+#[derive(Clone, Copy)]
 pub enum Word {
     Bytes,
     Sheet,
@@ -11,7 +11,7 @@ pub enum Word {
 }
 
 // What the words ask for: options, one that no command has, how many files, and where the first two stand.
-#[derive(Drop)]
+#[derive(Clone, Copy)]
 pub struct Asked {
     pub bytes: bool,
     pub sheet: bool,

@@ -1,4 +1,6 @@
 // The credits of the five shapers: what they lack, and what is charged to them; and how a client frame goes into the stage, which they decide.
+#![tactic(auto)]
+
 ghost use Rattle.std.specs.Prelude.{◌≡◌, true, [], ◌∷◌};
 ghost use Rattle.decide.specs.Test.{test};
 ghost use Rattle.credits.specs.Which.{bucket_of, credit_of, with_credit, permits_of, permits_all, sends, fed};
@@ -19,7 +21,7 @@ const CLASS_B: u32 = 1;
 pub const MARKED: u32 = 1;
 
 // The credits of the five shapers: M (control), A, B, C, D (downstream).
-#[derive(Drop)]
+#[derive(Clone, Copy)]
 pub struct Credits {
     pub m: u32,
     pub a: u32,
@@ -29,7 +31,7 @@ pub struct Credits {
 }
 
 // Which shaper.
-#[derive(Drop)]
+#[derive(Clone, Copy)]
 pub enum Which {
     M,
     A,
@@ -39,7 +41,7 @@ pub enum Which {
 }
 
 // How a client frame goes into the stage: as A, as B within its own rate, or as excess.
-#[derive(Drop)]
+#[derive(Clone, Copy)]
 pub enum Way {
     ClassA,
     ClassB,

@@ -1,5 +1,7 @@
 // Small choices between numbers, and the test of hops against the ring. What else this crate holds are definitions and laws: tests that read two
 // ways (specs/Test.antt) and which of several refusals counts (specs/Refusal.antt).
+#![tactic(auto)]
+
 ghost use Rattle.std.specs.Prelude.{◌≡◌, ◌-◌, ◌<◌, min, max, ltb};
 ghost use Rattle.decide.specs.Test.{test};
 ghost use Rattle.decide.specs.Hops.{in_ring};

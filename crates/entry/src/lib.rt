@@ -1,5 +1,7 @@
 // Thin entry points, for Rattle callers: the station, or a shaper, stays where its owner keeps it and is lent for the call. Each calls the step by value,
 // stores what the step leaves, which is what was there where the step refuses, and answers the rest.
+#![tactic(auto)]
+
 ghost use Rattle.std.specs.Prelude.{◌≡◌};
 ghost use Rattle.shaper.specs.Shaper.{ticked_of, charge_of};
 ghost use Rattle.station.specs.Calls.{tick_of, select_of, age_of};
@@ -13,14 +15,14 @@ use station::Station;
 
 // What most calls answer: 0 or the number of the refusal. `detail`, here and below, is what a refusal says beside its number: of 6 how far short the shapers are,
 // else 0.
-#[derive(Drop)]
+#[derive(Clone, Copy)]
 pub struct Brief {
     pub number: u8,
     pub detail: u64,
 }
 
 // What a client's offer answers: also the mark that its frame was given.
-#[derive(Drop)]
+#[derive(Clone, Copy)]
 pub struct Marked {
     pub number: u8,
     pub detail: u64,
@@ -28,7 +30,7 @@ pub struct Marked {
 }
 
 // What goes next: where it comes from (0 nothing, 1 control, 2 primary, 3 secondary, 4 stage), and the frame.
-#[derive(Drop)]
+#[derive(Clone, Copy)]
 pub struct Chosen {
     pub number: u8,
     pub detail: u64,

@@ -1,5 +1,7 @@
 // The fairness state of a station: what it counted, its rates, congestion both ways, and what it last received. How a frame is counted, what an
 // aging interval does, what is advertised, and what a received frame changes. Settings are lent to each call and never kept here.
+#![tactic(auto)]
+
 ghost use Rattle.std.specs.Prelude.{◌≡◌};
 ghost use Rattle.decide.specs.Test.{test};
 ghost use Rattle.rates.specs.Rates.{share_of};
@@ -17,7 +19,7 @@ use settings::{Fairness, Settings};
 
 // A number of bytes for each of four kinds of eligible frames: those of this station (add), those on transit (fw), and of each the frames which pass
 // the congested station downstream (addc and fwc, the Congested twins).
-#[derive(Drop)]
+#[derive(Clone, Copy)]
 pub struct Four {
     pub add: u32,
     pub fw: u32,
@@ -26,7 +28,7 @@ pub struct Four {
 }
 
 // For each of the four its smoothed rate, kept times lpCoef, as a stored number. The rate shown is floor(stored number / lpCoef).
-#[derive(Drop)]
+#[derive(Clone, Copy)]
 pub struct Stored {
     pub add: u64,
     pub fw: u64,
@@ -35,7 +37,7 @@ pub struct Stored {
 }
 
 // What intervals decide: localFairRate, allowedRate, allowedRateCongested, own rate, and whether the station is locally congested (1, else 0).
-#[derive(Drop)]
+#[derive(Clone, Copy)]
 pub struct Decided {
     pub local: u32,
     pub allowed: u32,
@@ -47,7 +49,7 @@ pub struct Decided {
 // What a station knows of the rates and of congestion, its own and that of stations downstream: addRate, fwRate, addRateCongested, fwRateCongested, what is
 // stored for the same smoothed (lpAddRate and so on), what the last interval decided, how many intervals have gone by since localFairRate last changed (the conservative
 // method counts them while the station counts as locally congested), and what was received.
-#[derive(Drop)]
+#[derive(Clone, Copy)]
 pub struct Fair {
     pub counters: Four,
     pub smoothed: Stored,
@@ -57,7 +59,7 @@ pub struct Fair {
 }
 
 // What an interval decides first: whether the station is locally congested (1, else 0), localFairRate, and the intervals since its last change.
-#[derive(Drop)]
+#[derive(Clone, Copy)]
 pub struct Adjusted {
     pub congested: u32,
     pub local: u32,

@@ -1,4 +1,6 @@
 // A shaper record fed in chunks of any sizes, in constant memory.
+#![tactic(auto)]
+
 ghost use Rattle.std.specs.Prelude.{true, ◌≡◌, length, drop, set, ◌+◌, ◌<◌, ◌≤◌};
 ghost use Rattle.summary.specs.Range.{in_range};
 ghost use Rattle.feed.specs.Feed.{start_of, stage_of, item_size, next_stage, held_byte, stopped_at, fed_byte, fed_of, with_items, may_sum, AtOnce, ends_of, finish_of};
@@ -7,7 +9,7 @@ use record::{Header, Step};
 use summary::{Answer, Summary};
 
 // How far a record has come: in its header, among its events with the summary of those before, or past its earliest fault.
-#[derive(Drop)]
+#[derive(Clone, Copy)]
 pub enum Stage {
     Heading,
     Summing(Summary),
@@ -15,7 +17,7 @@ pub enum Stage {
 }
 
 // A record's bytes so far: the stage, and the bytes of a header or an item that is not yet whole.
-#[derive(Drop)]
+#[derive(Clone, Copy)]
 pub struct Feed {
     pub stage: Stage,
     pub pending: [u8; 14],
@@ -198,7 +200,7 @@ impl Feed {
 }
 
 // Items at the front of a chunk that were summed at once: the summary with them or a refusal, and where they end.
-#[derive(Drop)]
+#[derive(Clone, Copy)]
 struct Front {
     answer: Answer,
     end: usize,

@@ -1,5 +1,7 @@
 // The frames of a station and the credits that let them go: five shapers, three queues and the stage. Settings are lent to each call
 // that needs them, and a call answers the flow afterwards.
+#![tactic(auto)]
+
 ghost use Rattle.std.specs.Prelude.{◌≡◌, min};
 ghost use Rattle.decide.specs.Test.{test};
 ghost use Rattle.shaper.specs.Credit.{next};
@@ -18,7 +20,7 @@ use settings::{Bucket, Settings};
 use shaper::Shaper;
 
 // The credits, the queues, and the word of the frame in the stage: the word of an empty slot where there is none.
-#[derive(Drop)]
+#[derive(Clone, Copy)]
 pub struct Flow {
     pub credits: Credits,
     pub control: Queue,
@@ -28,7 +30,7 @@ pub struct Flow {
 }
 
 // Which queue.
-#[derive(Drop)]
+#[derive(Clone, Copy)]
 pub enum Line {
     Control,
     Primary,
@@ -37,7 +39,7 @@ pub enum Line {
 
 // What an offer to a queue answers: 0, or 4 where the frame exceeds its space, and the flow afterwards. `detail`, here and below, is what a refusal says
 // beside its number: of 6 how far short the shapers are, else 0.
-#[derive(Drop)]
+#[derive(Clone, Copy)]
 pub struct Entered {
     pub number: u8,
     pub detail: u64,
@@ -45,7 +47,7 @@ pub struct Entered {
 }
 
 // What a client's offer answers: 0, or 5, 6 or 7; the mark that its frame was given; and the flow afterwards.
-#[derive(Drop)]
+#[derive(Clone, Copy)]
 pub struct Client {
     pub number: u8,
     pub detail: u64,

@@ -1,5 +1,7 @@
 // What a fairness frame is to a station with these settings: what it received, whether a frame is refused, what one that is not leaves as received, and
 // the frames of its own.
+#![tactic(auto)]
+
 ghost use Rattle.std.specs.Prelude.{◌≡◌};
 ghost use Rattle.decide.specs.Test.{test};
 ghost use Rattle.decide.specs.Hops.{in_ring};
@@ -10,7 +12,7 @@ use advert::Advert;
 use settings::{Address, Settings};
 
 // What was received: whether a station downstream is congested (1, else 0), ttl, the high 16 and the low 32 bits of the address, rate.
-#[derive(Drop)]
+#[derive(Clone, Copy)]
 pub struct Received {
     pub downstream: u32,
     pub ttl: u32,

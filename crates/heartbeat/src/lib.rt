@@ -1,5 +1,7 @@
 // Heartbeats that always fit: whether a pattern of events, repeated, is permitted throughout from loLimit, and the credit at the end. The pattern is a record of at most 256
 // events, in either form; its summary is joined with itself, doubling.
+#![tactic(auto)]
+
 ghost use Rattle.std.specs.Prelude.{◌≡◌, ◌+◌, ◌≤◌};
 ghost use Rattle.heartbeat.specs.Repeat.{repeated_of};
 ghost use Rattle.heartbeat.specs.Doubling.{most_joins, none_of, joined_more, twice_of, doubling_of};
@@ -15,7 +17,7 @@ const MAX_PATTERN: u64 = 256;
 const DIGITS: u64 = 64;
 
 // Some repeats: their summary, or a refusal, and how many joins were asked for. Behind a refusal none is made.
-#[derive(Drop)]
+#[derive(Clone, Copy)]
 pub struct Repeats {
     pub sum: Answer,
     pub joins: u64,

@@ -1,4 +1,6 @@
 // A record given as hex text, in chunks of any sizes: the bytes that its digits pair up to are fed.
+#![tactic(auto)]
+
 ghost use Rattle.std.specs.Prelude.{◌≡◌, ◌<◌, length};
 ghost use Rattle.hex_text.specs.Hex.{is_within, is_blank, glyph_of};
 ghost use Rattle.hex_text.specs.Fed.{byte_of, start_of, read_text, is_whole, finish_of, is_lost, is_stopped_at_two, ends_of};
@@ -8,7 +10,7 @@ use feed::{Feed, Stage};
 use summary::Answer;
 
 // What a character is: a hex digit with its value, a blank or line end, or other text.
-#[derive(Drop)]
+#[derive(Clone, Copy)]
 pub enum Glyph {
     Digit(u8),
     Blank,
@@ -16,7 +18,7 @@ pub enum Glyph {
 }
 
 // How far a text has come: between two bytes, behind the first digit of a byte, or past other text.
-#[derive(Drop)]
+#[derive(Clone, Copy)]
 pub enum Place {
     Between,
     Behind(u8),
@@ -24,7 +26,7 @@ pub enum Place {
 }
 
 // A text so far: the record that its bytes are, and the place in it.
-#[derive(Drop)]
+#[derive(Clone, Copy)]
 pub struct Hex {
     pub feed: Feed,
     pub place: Place,
@@ -101,7 +103,7 @@ impl Hex {
 }
 
 // How far a chunk is decoded: the place in the text, the next character, and how many bytes stand in the room.
-#[derive(Drop)]
+#[derive(Clone, Copy)]
 struct Decoded {
     place: Place,
     next: usize,

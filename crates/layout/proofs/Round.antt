@@ -150,14 +150,14 @@ stored_in_range_fits c s p most ok =
 
 fair_in_range_fits : (s : Settings) (f : Fair) → SettingsOk s → FairOk s f → f.received.low < 4294967296 → FairFits f
 fair_in_range_fits s f settings ok low =
-    let lp = coef_bounds s.fairness.lp settings.of-fairness.lp_one_of in
+    let lp = coef_bounds s.fairness.lp settings.of_fairness.lp_one_of in
     record {
       of_counters = omega (arith, ok.of_counters);
       of_smoothed = stored_in_range_fits s.fairness.lp f.smoothed (omega (arith, lp)) lp.1 ok.of_smoothed;
       of_decided =
           let d = ok.of_decided in
-          omega (arith, d.own_most, d.local_most, d.allowed_most, d.allowedc_most, d.congested_most, settings.of-fairness.unreserved_most);
-      of_since = omega (arith, ok.since_below, settings.of-site.trip_most);
+          omega (arith, d.own_most, d.local_most, d.allowed_most, d.allowedc_most, d.congested_most, settings.of_fairness.unreserved_most);
+      of_since = omega (arith, ok.since_below, settings.of_site.trip_most);
       of_received = omega (arith, ok.of_received, low);
     }
 

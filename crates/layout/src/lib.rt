@@ -1,5 +1,7 @@
 // A station and its reading as bytes, in which a host keeps the one and looks at the other. A station's bytes are the credits, control, primary and
 // secondary queue, the stage's word, the fairness state and the settings, one behind the other.
+#![tactic(auto)]
+
 ghost use Rattle.std.specs.Prelude.{◌≡◌, ◌+◌, ◌%◌, ◌≤◌, length};
 ghost use Rattle.decide.specs.Test.{test};
 ghost use Rattle.wire.specs.Wire.{digits, put};

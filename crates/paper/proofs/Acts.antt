@@ -154,7 +154,7 @@ module _ {st : Station} (ok : StationOk st) where
       record {
         tick = tick_credits;
         transit = λ class size hops eligible. brings (queue_for st.settings class) (given_frame class size hops eligible);
-        control = λ size frame. brings Control (control_frame size) frame ok.settings.of-site.stations_least;
+        control = λ size frame. brings Control (control_frame size) frame ok.settings.of_site.stations_least;
         client = stages;
         select = select_done st in_range_lem;
         age = age_ages ok;

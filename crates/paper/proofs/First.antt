@@ -153,7 +153,7 @@ module _ (xs : List ℕ) where
   never_13 size n (refused a e) = refused a e
   never_13 size n (passed a (refused b e)) = passed a (refused b e)
   never_13 size n (passed a (passed b (refused c e))) = passed a (passed b (refused c e))
-  never_13 size n (passed a (passed b (passed c (refused d e)))) = absurd (b (λ ok. omega (arith, d, ok.settings.of-site.stations_least)))
+  never_13 size n (passed a (passed b (passed c (refused d e)))) = absurd (b (λ ok. omega (arith, d, ok.settings.of_site.stations_least)))
   never_13 size n (passed a (passed b (passed c (passed d rest)))) = passed a (passed b (passed c rest))
 
   control : (size : ℕ) → RefusesLent (control_refused xs size) (offer_control_answer xs size) xs (offer_control_after xs size)

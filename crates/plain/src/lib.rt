@@ -1,4 +1,6 @@
 // A summary by natural numbers: the paper's ceiling is hi - depth. Its functions are the leaves of the crate `summary`.
+#![tactic(auto)]
+
 ghost use Rattle.std.specs.Prelude.{◌≡◌, ◌*◌, ◌≤◌};
 ghost use Rattle.std.proofs.Math.IntN.{sub_ℕ};
 ghost use Rattle.decide.specs.Test.{test};
@@ -10,7 +12,7 @@ ghost use Rattle.plain.specs.Ceiling.{depth_below};
 use shaper::{Event, Limits};
 
 // The settings, the counts, how far the ceiling lies below hi, and the least credit that permits throughout (hi + 1: none does).
-#[derive(Drop)]
+#[derive(Clone, Copy)]
 pub struct Plain {
     pub limits: Limits,
     pub events: u64,

@@ -1,4 +1,6 @@
 // Frames, and the queues that hold them: at most 128 frames, first in, first out, in a ring of slots. A slot is one word.
+#![tactic(auto)]
+
 ghost use Rattle.std.specs.Prelude.{◌≡◌, ◌+◌, ◌<◌, ◌^◌};
 ghost use Rattle.decide.specs.Test.{test};
 ghost use Rattle.queue.specs.Frame.{hops_ok, frame_ok, held_ok, word_of, frame_of};
@@ -7,14 +9,14 @@ ghost use Rattle.queue.specs.Front.{front_of, fronted};
 ghost use Rattle.queue.specs.Range.{slot_ok, empty_ok, queue_ok, used_of};
 
 // What frames are held to: their largest size, and the number of stations on the ring, which their hops stay below.
-#[derive(Drop)]
+#[derive(Clone, Copy)]
 pub struct Bounds {
     pub mtu: u32,
     pub stations: u32,
 }
 
 // A frame. Its class is A 0, B 1 or C 2; its mark is 1 where it is fairness eligible, else 0.
-#[derive(Drop)]
+#[derive(Clone, Copy)]
 pub struct Frame {
     pub size: u32,
     pub hops: u32,
@@ -24,7 +26,7 @@ pub struct Frame {
 
 // A queue: its slots, the slot of its first frame, how many frames it holds, and their bytes. Slots from head to head + count, round the ring,
 // hold frames; the others are empty.
-#[derive(Drop)]
+#[derive(Clone, Copy)]
 pub struct Queue {
     pub slots: [u32; 128],
     pub head: u8,
@@ -33,7 +35,7 @@ pub struct Queue {
 }
 
 // The front of a queue, which is all that a selection looks at: the word of its first frame, how many frames it holds, and their bytes.
-#[derive(Drop)]
+#[derive(Clone, Copy)]
 pub struct Front {
     pub word: u32,
     pub count: u8,
@@ -41,7 +43,7 @@ pub struct Front {
 }
 
 // What taking gives: the first frame, and the queue of those behind it.
-#[derive(Drop)]
+#[derive(Clone, Copy)]
 pub struct Taken {
     pub frame: Frame,
     pub queue: Queue,

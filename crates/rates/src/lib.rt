@@ -1,5 +1,7 @@
 // The arithmetic of the fairness rates. Products and stored numbers are of 64 bits, and what is divided by 0 gives 0. Every public function but `smoothed`, whose sum
 // must fit, takes any numbers.
+#![tactic(auto)]
+
 ghost use Rattle.std.specs.Prelude.{◌≡◌, ◌≢◌, ℕ, ◌+◌, ◌/◌, ◌^◌, ◌<◌};
 ghost use Rattle.decide.specs.Test.{test};
 ghost use Rattle.rates.specs.Rates.{part_of, smoothed_of, shown_of, shown_ok_of, aged_of, ramped_of, reduced_of, allowance_of, own_rate_of, counted_of, share_of};

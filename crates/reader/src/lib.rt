@@ -1,4 +1,6 @@
 // A reader walks the lent bytes of a shaper record, in either form, and remembers its place.
+#![tactic(auto)]
+
 ghost use Rattle.std.specs.Prelude.{◌≡◌};
 ghost use Rattle.reader.specs.Place.{next_at, after_at};
 ghost use Rattle.reader.specs.Walk.{new_of, next_of, moved_of};
@@ -9,14 +11,14 @@ use record::{Header, Step};
 pub const START: usize = 14;
 
 // A place of a record: where an item begins, and how many events stand before it.
-#[derive(Drop)]
+#[derive(Clone, Copy)]
 pub struct Place {
     pub at: usize,
     pub done: u64,
 }
 
 // The lent bytes of a record, and a place in them.
-#[derive(Drop)]
+#[derive(Clone, Copy)]
 pub struct Reader<'a> {
     pub bytes: &'a [u8],
     pub place: Place,

@@ -1,4 +1,6 @@
 // A shaper record, read from lent bytes: its header, and each event at its place.
+#![tactic(auto)]
+
 ghost use Rattle.std.specs.Prelude.{true, ◌≡◌, ◌+◌, ◌-◌, ◌≤◌, ◌<◌, length};
 ghost use Rattle.wire.specs.Wire.{le};
 ghost use Rattle.shaper.specs.Limits.{most_events};
@@ -11,14 +13,14 @@ use shaper::{Event, Limits};
 const SEND: u16 = 3;
 
 // What a record's header says.
-#[derive(Drop)]
+#[derive(Clone, Copy)]
 pub enum Header {
     Settings(Limits),
     Unreadable(u64),
 }
 
 // What stands at a place of a record: an item's kind and number, how many events it stands for and where the next begins; the end; or a fault.
-#[derive(Drop)]
+#[derive(Clone, Copy)]
 pub enum Step {
     Stands {
         kind: u16,

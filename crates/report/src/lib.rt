@@ -1,4 +1,6 @@
 // What the programs print of a record: its summary and what it says of the start at loLimit, or a refusal's number.
+#![tactic(auto)]
+
 ghost use Rattle.std.specs.Prelude.{◌≡◌, ◌+◌, ◌≤◌, length};
 ghost use Rattle.wire.specs.Wire.{put};
 ghost use Rattle.report.specs.Text.{numeral, signed_numeral, line};

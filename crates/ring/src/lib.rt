@@ -1,18 +1,20 @@
 // Which side a frame takes round a ring of stations.
+#![tactic(auto)]
+
 ghost use Rattle.std.specs.Prelude.{◌≡◌, cond};
 ghost use Rattle.decide.specs.Refusal.{first_of};
 ghost use Rattle.ring.specs.Links.{other_of, rotated_of, reach_of, Stands};
 ghost use Rattle.ring.specs.Choosing.{code_of, wrapping_of, distance_of, tie_of, shorter_of, reaches_of, preferred_of, along_of, goes_of, place_faults, choose_of, Between, Placed};
 
 // A side of a station: right goes to the next higher number.
-#[derive(Drop)]
+#[derive(Clone, Copy)]
 pub enum Way {
     Left,
     Right,
 }
 
 // The side taken, as the host codes it, with its distance, ttl and wrap mark; or the number of the refusal.
-#[derive(Drop)]
+#[derive(Clone, Copy)]
 pub enum Choice {
     Chosen {
         side: u64,

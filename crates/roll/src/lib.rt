@@ -1,5 +1,7 @@
 // The movers: an old record in the new form, where equal ticks stand in runs, and either form in the old one. Both test the record whole and measure what they will
 // write before they write, so that a refusal leaves the room as it was.
+#![tactic(auto)]
+
 mod bytes;
 
 ghost use Rattle.std.specs.Prelude.{true, false, ◌≡◌, ◌+◌, ◌*◌, ◌≤◌, leb, length, drop};
@@ -13,7 +15,7 @@ use shaper::Limits;
 use summary::Answer;
 
 // How many bytes were written, or the number of the refusal.
-#[derive(Drop)]
+#[derive(Clone, Copy)]
 pub enum Moved {
     Written(u64),
     Refused(u64),
@@ -180,7 +182,7 @@ fn put_next(s: &[u8], at: usize, room: &mut [u8], end: usize) -> Ends
 }
 
 // A place of a record that is read, and one of the room that is written.
-#[derive(Drop)]
+#[derive(Clone, Copy)]
 struct Ends {
     at: usize,
     end: usize,

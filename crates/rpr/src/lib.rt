@@ -1,4 +1,6 @@
 // The functions that a host written in C calls.
+#![tactic(auto)]
+
 ghost use Rattle.std.specs.Prelude.{◌≡◌};
 ghost use Rattle.rpr.specs.Ways.{choose_answer, path_answer};
 ghost use Rattle.rpr.specs.Calls.{version_number, summarize_answer, summarize_after, join_answer, join_after, settle_answer};

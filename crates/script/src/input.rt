@@ -3,14 +3,14 @@ use crate::print;
 use libc::STDIN_FILENO;
 
 // How far the input was taken. Characters that were read and not taken yet stand in the reader's buffer, from one place to another.
-#[derive(Drop)]
+#[derive(Clone, Copy)]
 pub struct Input {
     from: usize,
     end: usize,
 }
 
 // A line that was taken: how many characters it has, whether it is the input's last, and the input behind it.
-#[derive(Drop)]
+#[derive(Clone, Copy)]
 pub struct Got {
     pub length: usize,
     pub last: bool,
@@ -18,7 +18,7 @@ pub struct Got {
 }
 
 // The next character and the input behind it, or the input's end.
-#[derive(Drop)]
+#[derive(Clone, Copy)]
 enum Next {
     Is(u8, Input),
     End,

@@ -1,5 +1,7 @@
 // What programs share that run a script: its lines and their words, the numbers and the bytes that words spell, and how an answer is printed. A line asks for
 // something by its first word; one that is empty or begins with # asks for nothing. Any text may be given; what is no number and no byte is said to be wrong.
+#![tactic(auto)]
+
 ghost use Rattle.std.specs.Prelude.{◌≤◌, length};
 
 mod input;
@@ -12,14 +14,14 @@ pub use numerals::{Row, Value, number, numbers};
 pub use pairs::{Spelt, bytes_of};
 
 // Where a word stands in a text: its first character, and the place behind its last. A word that is not there is empty.
-#[derive(Drop)]
+#[derive(Clone, Copy)]
 pub struct Place {
     pub from: usize,
     pub end: usize,
 }
 
 // How often a word asks for what, `N*WHAT`, or once, `WHAT`: this number, and the place where WHAT begins.
-#[derive(Drop)]
+#[derive(Clone, Copy)]
 pub struct Times {
     pub number: Value,
     pub from: usize,

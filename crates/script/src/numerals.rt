@@ -4,14 +4,14 @@ ghost use Rattle.std.specs.Prelude.{◌≤◌};
 use crate::word;
 
 // What a word is as a number.
-#[derive(Drop)]
+#[derive(Clone, Copy)]
 pub enum Value {
     Is(u64),
     Wrong,
 }
 
 // The numbers of a text: their values, how many there are (ROOM where there are more), the largest, and whether a word among them was none.
-#[derive(Drop)]
+#[derive(Clone, Copy)]
 pub struct Row {
     pub values: [u64; Row::ROOM],
     pub count: usize,

@@ -5,7 +5,7 @@ use crate::numerals::{NO_DIGIT, worth};
 use crate::word;
 
 // What a text spells: so many bytes, unless it is wrong.
-#[derive(Drop)]
+#[derive(Clone, Copy)]
 pub struct Spelt {
     pub count: usize,
     pub wrong: bool,

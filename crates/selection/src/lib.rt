@@ -1,4 +1,6 @@
 // Selection: what goes next, by table 6.4, store and forward.
+#![tactic(auto)]
+
 ghost use Rattle.std.specs.Prelude.{◌≡◌, true};
 ghost use Rattle.decide.specs.Test.{test};
 ghost use Rattle.credits.specs.Which.{permits_of};
@@ -12,7 +14,7 @@ use queue::{Frame, Front};
 use settings::Settings;
 
 // What a selection looks at: the credits, the stage's word, and the front of each queue.
-#[derive(Drop)]
+#[derive(Clone, Copy)]
 pub struct Sight {
     pub credits: Credits,
     pub stage: u32,
@@ -22,7 +24,7 @@ pub struct Sight {
 }
 
 // What goes next: where it comes from (0 nothing, 1 control, 2 primary, 3 secondary, 4 stage), the frame, and the credits and the stage's word afterwards.
-#[derive(Drop)]
+#[derive(Clone, Copy)]
 pub struct Pick {
     pub origin: u32,
     pub frame: Frame,
@@ -31,7 +33,7 @@ pub struct Pick {
 }
 
 // What the table selects: where it comes from, the frame, and the whole flow afterwards. Its two halves are `pick` here and `Flow::leave`.
-#[derive(Drop)]
+#[derive(Clone, Copy)]
 pub struct Selected {
     pub origin: u32,
     pub frame: Frame,

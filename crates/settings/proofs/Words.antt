@@ -230,7 +230,7 @@ in_range_fit v ok l =
       of_queues = omega arith;
       of_fairness =
           omega (arith, age_bounds v.fairness.age f.age_one_of, coef_bounds v.fairness.lp f.lp_one_of, coef_bounds v.fairness.ramp f.ramp_one_of);
-      of_site = let t : SiteOk v.site = ok.of_site in omega (arith, t.stations-most, t.method-most, t.trip-most, coef_bounds v.site.down t.down-one-of);
+      of_site = let t : SiteOk v.site = ok.of_site in omega (arith, t.stations_most, t.method_most, t.trip_most, coef_bounds v.site.down t.down_one_of);
     }
   where
     bucket_fits : {mtu : ℕ} {b : Bucket} → BucketOk mtu b → BucketFits b

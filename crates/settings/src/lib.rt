@@ -1,5 +1,7 @@
 // The settings of a station: their ranges, their defaults, and their words of 4 bytes. Each is a number, so that settings and words are
 // the same thing twice, and whether they are in range is asked of the numbers.
+#![tactic(auto)]
+
 ghost use Rattle.std.specs.Prelude.{◌≡◌, ◌+◌, ◌*◌, ◌≤◌, length};
 ghost use Rattle.decide.specs.Test.{test};
 ghost use Rattle.settings.specs.Range.{limits_of, bucket_ok, shapers_ok, capacity_ok, queues_ok, age_ok, coef_ok, fairness_ok, site_ok, settings_ok};
@@ -11,7 +13,7 @@ use shaper::Limits;
 mod places;
 
 // The settings of one shaper: loLimit, hiLimit, and the amount per tick.
-#[derive(Drop)]
+#[derive(Clone, Copy)]
 pub struct Bucket {
     pub lo: u32,
     pub hi: u32,
@@ -19,7 +21,7 @@ pub struct Bucket {
 }
 
 // The settings of the five shapers: M (control), A, B, C, D (downstream).
-#[derive(Drop)]
+#[derive(Clone, Copy)]
 pub struct Shapers {
     pub m: Bucket,
     pub a: Bucket,
@@ -29,7 +31,7 @@ pub struct Shapers {
 }
 
 // The capacities of the three queues in bytes, and the secondary's low threshold.
-#[derive(Drop)]
+#[derive(Clone, Copy)]
 pub struct Queues {
     pub control: u32,
     pub primary: u32,
@@ -38,7 +40,7 @@ pub struct Queues {
 }
 
 // The settings of the fairness rules: weight, rate unit, ticks per interval, unreservedRate, ageCoef, lpCoef, rampUp.
-#[derive(Drop)]
+#[derive(Clone, Copy)]
 pub struct Fairness {
     pub weight: u32,
     pub unit: u32,
@@ -51,7 +53,7 @@ pub struct Fairness {
 
 // The settings whose words stand behind those of all other parts: the number of stations on the ring, the method of adjusting localFairRate (0 aggressive,
 // 1 conservative), a fairness round trip in intervals, rampDn.
-#[derive(Drop)]
+#[derive(Clone, Copy)]
 pub struct Site {
     pub stations: u32,
     pub method: u32,
@@ -60,14 +62,14 @@ pub struct Site {
 }
 
 // An address of 48 bits: its high 16 and its low 32.
-#[derive(Drop)]
+#[derive(Clone, Copy)]
 pub struct Address {
     pub high: u32,
     pub low: u32,
 }
 
 // All settings of a station: own address, own ringlet, mtu, and the settings of its parts.
-#[derive(Drop)]
+#[derive(Clone, Copy)]
 pub struct Settings {
     pub address: Address,
     pub ringlet: u32,

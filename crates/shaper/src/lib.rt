@@ -1,4 +1,6 @@
 // A shaper: its limits, its events, and the credit that they leave.
+#![tactic(auto)]
+
 ghost use Rattle.std.specs.Prelude.{◌≡◌, ◌+◌, ◌-◌, min};
 ghost use Rattle.decide.specs.Test.{test};
 ghost use Rattle.shaper.specs.Limits.{limits_ok, same_limits};
@@ -6,7 +8,7 @@ ghost use Rattle.shaper.specs.Short.{shortfall};
 ghost use Rattle.shaper.specs.Shaper.{fresh_of, ticked_of, charge_of};
 
 // The settings of a shaper that bound its credit, and the longest frame.
-#[derive(Drop)]
+#[derive(Clone, Copy)]
 pub struct Limits {
     pub mtu: u32,
     pub lo: u32,
@@ -14,7 +16,7 @@ pub struct Limits {
 }
 
 // What happens to a shaper: a tick while traffic waits or while it does not, with its amount, or a send with its size.
-#[derive(Drop)]
+#[derive(Clone, Copy)]
 pub enum Event {
     Waiting(u32),
     Idle(u32),
@@ -33,7 +35,7 @@ impl Event {
 }
 
 // A shaper by value.
-#[derive(Drop)]
+#[derive(Clone, Copy)]
 pub struct Shaper {
     pub limits: Limits,
     pub credit: u32,
@@ -41,7 +43,7 @@ pub struct Shaper {
 
 // What a charge answers: 0, or 6 where the shaper does not permit, and the shaper afterwards. `detail` is what a refusal says beside its number: how far short the
 // shaper is.
-#[derive(Drop)]
+#[derive(Clone, Copy)]
 pub struct Charged {
     pub number: u8,
     pub detail: u64,

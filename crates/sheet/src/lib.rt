@@ -1,4 +1,6 @@
 // A summary as 48 bytes, in which a host keeps it.
+#![tactic(auto)]
+
 ghost use Rattle.std.specs.Prelude.{◌≡◌, length};
 ghost use Rattle.summary.specs.Answer.{answer_number};
 ghost use Rattle.sheet.specs.Sheet.{sheet_length, sheet_of, summary_at, handed};

@@ -1,4 +1,6 @@
 // A queue as 518 bytes, in which a host keeps it: its slots, the bytes held, the head and the count.
+#![tactic(auto)]
+
 ghost use Rattle.std.specs.Prelude.{◌≡◌, ◌+◌, ◌-◌, ◌≤◌, ◌<◌, length};
 ghost use Rattle.decide.specs.Test.{test};
 ghost use Rattle.wire.specs.Wire.{put};
@@ -13,7 +15,7 @@ use queue::{Bounds, Frame, Front, Queue};
 pub const LENGTH: usize = 518;
 
 // What frames come to: whether each may be held, and their bytes.
-#[derive(Drop)]
+#[derive(Clone, Copy)]
 struct Found {
     good: bool,
     bytes: u32,

@@ -1,6 +1,8 @@
 // A station on one ringlet: settings, frames and credits, and the fairness state together. Every call takes any station and any numbers, refuses by
 // document 01's number, first fault first, and answers the station afterwards: unchanged where it refuses. A call whose name ends in `known` is told whether the
 // station is in range, by a caller that has tested it already.
+#![tactic(auto)]
+
 ghost use Rattle.std.specs.Prelude.{◌≡◌};
 ghost use Rattle.decide.specs.Test.{test};
 ghost use Rattle.station.specs.Range.{station_ok, StationOk};
@@ -22,7 +24,7 @@ use selection::Sight;
 use settings::Settings;
 
 // A station: what it was set to, its credits, queues and stage, and what it knows of rates and congestion.
-#[derive(Drop)]
+#[derive(Clone, Copy)]
 pub struct Station {
     pub settings: Settings,
     pub flow: Flow,
@@ -31,7 +33,7 @@ pub struct Station {
 
 // What most calls answer: 0 or the number of the refusal, and the station afterwards. `detail`, here and below, is what a refusal says beside its number: of
 // 6 how far short the shapers are, else 0.
-#[derive(Drop)]
+#[derive(Clone, Copy)]
 pub struct Done {
     pub number: u8,
     pub detail: u64,
@@ -39,7 +41,7 @@ pub struct Done {
 }
 
 // What a client's offer answers: 0 or the number of the refusal, the mark that its frame was given, and the station afterwards.
-#[derive(Drop)]
+#[derive(Clone, Copy)]
 pub struct Client {
     pub number: u8,
     pub detail: u64,
@@ -49,7 +51,7 @@ pub struct Client {
 
 // What goes next: where it comes from (0 nothing, 1 control, 2 primary, 3 secondary, 4 stage), the frame, and what that changes of the station: its credits,
 // its stage's word and its fairness state. Of its queues only the one that is named changes: its first frame leaves.
-#[derive(Drop)]
+#[derive(Clone, Copy)]
 pub struct Pick {
     pub origin: u32,
     pub frame: Frame,
@@ -59,7 +61,7 @@ pub struct Pick {
 }
 
 // What goes next: where it comes from, the frame, and the whole station afterwards.
-#[derive(Drop)]
+#[derive(Clone, Copy)]
 pub struct Selected {
     pub number: u8,
     pub detail: u64,
@@ -69,7 +71,7 @@ pub struct Selected {
 }
 
 // What telling answers: 0 or the number of the refusal, and the frame that is advertised.
-#[derive(Drop)]
+#[derive(Clone, Copy)]
 pub struct Told {
     pub number: u8,
     pub detail: u64,
@@ -77,7 +79,7 @@ pub struct Told {
 }
 
 // How many frames a queue or the stage holds, and their bytes.
-#[derive(Drop)]
+#[derive(Clone, Copy)]
 pub struct Held {
     pub frames: u32,
     pub bytes: u32,
@@ -85,7 +87,7 @@ pub struct Held {
 
 // A reading of a station: its 31 words are these numbers in this order, 5 credits, 8 of what is held, 8 of the counters and the smoothed rates as they are
 // shown, and 5 each of what intervals decide and of what was received.
-#[derive(Drop)]
+#[derive(Clone, Copy)]
 pub struct Reading {
     pub credits: Credits,
     pub control: Held,
@@ -99,7 +101,7 @@ pub struct Reading {
 }
 
 // What showing answers: 0 or the number of the refusal, and the reading.
-#[derive(Drop)]
+#[derive(Clone, Copy)]
 pub struct Shown {
     pub number: u8,
     pub detail: u64,

@@ -1,4 +1,6 @@
 // A shaper record's summary: what a run of events does to any starting credit.
+#![tactic(auto)]
+
 ghost use Rattle.std.specs.Prelude.{◌≡◌, ◌≤◌, pos};
 ghost use Rattle.std.specs.Int.Signed.{lt_z};
 ghost use Rattle.shaper.specs.declared.Event.{Event};
@@ -12,7 +14,7 @@ use plain::Plain;
 use shaper::{Event, Limits};
 
 // The settings, the events counted, the bytes accrued and sent, the ceiling, and the least credit that permits throughout.
-#[derive(Drop)]
+#[derive(Clone, Copy)]
 pub struct Summary {
     pub limits: Limits,
     pub events: u32,
@@ -23,14 +25,14 @@ pub struct Summary {
 }
 
 // A summary, or the number of a refusal.
-#[derive(Drop)]
+#[derive(Clone, Copy)]
 pub enum Answer {
     Summed(Summary),
     Refused(u64),
 }
 
 // What a summary says of a starting credit: permitted throughout with the credit at the end, or not; or the number of a refusal.
-#[derive(Drop)]
+#[derive(Clone, Copy)]
 pub enum Outcome {
     Permitted(u64),
     NotPermitted,

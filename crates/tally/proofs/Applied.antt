@@ -143,7 +143,7 @@ module _ (rise v : ℕ) (t : Tally) (p : Part) (h : rise + room ≤ t.level) (g 
       ∙ ap (λ (y : ℕ). max after.peak y) (fallen t.level p.level v rise (omega arith) (omega (arith, room-left)) ∙ omega arith))
       (send_low (omega arith) up)))
       (λ e. rw (ne_eqb k 3 e)
-      (tally_eq _ _ (gained_all t.accrued (rise + room) p.level v p.total (omega (arith, w.level-min))) (omega arith)
+      (tally_eq _ _ (gained_all t.accrued (rise + room) p.level v p.total (omega (arith, w.level_min))) (omega arith)
       (most_level room t.level p.top (p.level + v - cond (eqb k 2) 0 rise) t.peak (omega arith)
       ∙ ap (λ (y : ℕ). max after.peak y) (risen t.level p.level v rise (cond (eqb k 2) 0 rise) (cond (eqb k 2) rise 0) h (omega (arith, room-left)) (falls (eqb k 2) rise)))
       refl))

@@ -109,11 +109,11 @@ module _ (l : Limits) (n : ℕ) (t : Tally) (p : Ready l n t) (v : ℕ) where
   unfolding plain_depth pick_of fall_of
   send_step hv =
       let w = p.within in
-      let g : v ≤ t.level = omega (arith, w.level-min, p.few) in
-      plain_eq _ _ refl refl (omega arith) (send_sent t.accrued t.level v w.level-max g) (send_depth t.peak t.level v w.peak-min g)
+      let g : v ≤ t.level = omega (arith, w.level_min, p.few) in
+      plain_eq _ _ refl refl (omega arith) (send_sent t.accrued t.level v w.level_max g) (send_depth t.peak t.level v w.peak_min g)
       (by_cases (need_is (plain_at l n t) (plain_single l (Send v)))
       (λ h. never_need l.lo l.hi _ _ _ _ (omega arith) h.0 h.1)
-      (λ h. some_need l.lo l.hi t.accrued _ _ _ _ w.level-max h.0 h.1))
+      (λ h. some_need l.lo l.hi t.accrued _ _ _ _ w.level_max h.0 h.1))
 
 -- no number of an event is above 65,535
 pub number_max : (l : Limits) → Holds (limits_ok l) → (e : Event) → Valid l e → number_of e ≤ most_amount

@@ -1,5 +1,7 @@
 // A summary in the making, one event at a time, with no branch on what the event holds. An event is a kind k (1 a tick while traffic waits, 2 a tick
 // while it does not, 3 a send) and a number v (the amount, or the size). Any other kind counts as a tick: the faults are for the reader to find.
+#![tactic(auto)]
+
 ghost use Rattle.std.specs.Prelude.{◌≡◌, ◌*◌, ◌≤◌};
 ghost use Rattle.shaper.specs.Limits.{most_amount, most_events};
 ghost use Rattle.tally.specs.Tally.{start_of, pick_of, fall_of, bar_of, step_of, Within, plain_at};
@@ -14,7 +16,7 @@ use shaper::Limits;
 const BASE: u64 = 1099511627776;
 
 // What the events so far come to.
-#[derive(Drop)]
+#[derive(Clone, Copy)]
 pub struct Tally {
     // the bytes that ticks brought
     pub accrued: u64,
@@ -27,7 +29,7 @@ pub struct Tally {
 }
 
 // A part: up to eight events as seen from where they begin, whatever stood before them. Its numbers have 32 bits, so that several parts are made side by side.
-#[derive(Drop)]
+#[derive(Clone, Copy)]
 pub struct Part {
     // the events' numbers, amounts and sizes alike
     pub total: u32,
@@ -42,7 +44,7 @@ pub struct Part {
 }
 
 // Eight parts that stand one behind the other.
-#[derive(Drop)]
+#[derive(Clone, Copy)]
 pub struct Parts {
     pub levels: [u32; 8],
     pub tops: [u32; 8],

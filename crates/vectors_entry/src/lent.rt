@@ -12,34 +12,34 @@ use shaper::Shaper;
 use station::Station;
 
 // The shaper after a tick.
-#[derive(Drop)]
+#[derive(Clone, Copy)]
 pub struct Ticked {
     pub shaper: Shaper,
 }
 
 // What a charge answered, and the shaper afterwards.
-#[derive(Drop)]
+#[derive(Clone, Copy)]
 pub struct Charged {
     pub said: Brief,
     pub shaper: Shaper,
 }
 
 // What most calls answered, and the station afterwards.
-#[derive(Drop)]
+#[derive(Clone, Copy)]
 pub struct Called {
     pub said: Brief,
     pub station: Station,
 }
 
 // What a client's offer answered, and the station afterwards.
-#[derive(Drop)]
+#[derive(Clone, Copy)]
 pub struct Offered {
     pub said: Marked,
     pub station: Station,
 }
 
 // What a selection answered, and the station afterwards.
-#[derive(Drop)]
+#[derive(Clone, Copy)]
 pub struct Selected {
     pub said: Chosen,
     pub station: Station,

@@ -1,4 +1,6 @@
 // Runs the entry points on a shaper and on a station that it keeps, and prints what each answers and what it left.
+#![tactic(auto)]
+
 mod lent;
 
 use script::print::{number, text};

@@ -1,5 +1,7 @@
 // Walks the records on its input, one on each line as words of hex, and prints what a reader finds in each: a line for each event, then `end` or
 // `refused N`. An empty line, and one that begins with #, is skipped.
+#![tactic(auto)]
+
 ghost use Rattle.std.specs.Prelude.{◌≤◌, length};
 
 use reader::Place;

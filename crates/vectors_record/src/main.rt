@@ -1,13 +1,15 @@
 // Runs the cases on its input, one on each line: a name, then a record's bytes as words. A word is hex digits, or a number, a star and hex digits: these
 // bytes so many times; a word `|` begins the next piece, a record of its own. For each case its name and what the record, or its pieces joined from the
 // left, comes to. An empty line, and one that begins with #, is skipped.
+#![tactic(auto)]
+
 use feed::Feed;
 use script::print::{text, wrong};
 use script::{Input, Value};
 use summary::{Answer, Summary};
 
 // A case so far: the piece that is being fed, the pieces before it joined, whether there are any, and the number of the first that was refused.
-#[derive(Drop)]
+#[derive(Clone, Copy)]
 struct Case {
     feed: Feed,
     whole: Answer,

@@ -1,5 +1,7 @@
 // Runs the cases on its input, one on each line: `choose STATIONS OWN TARGET LINKS SIDE PROTECTION RING` or `path STATIONS OWN TARGET LINKS HOME`, and
 // prints what the ring's two calls answer. Numbers are decimal, or hex behind 0x. An empty line, and one that begins with #, is skipped.
+#![tactic(auto)]
+
 use ring::Choice;
 use script::print::{number, text, wrong};
 use script::{Input, Row};

@@ -1,5 +1,7 @@
 // Runs the script on its input on one station by value, one call on each line, and prints what each answers. `N*CALL` is this call N times. Numbers are
 // decimal, or hex behind 0x. An empty line, and one that begins with #, is skipped. Before its first start the station is out of range: its settings are 0.
+#![tactic(auto)]
+
 mod calls;
 mod print;
 mod reading;

@@ -1,4 +1,6 @@
 // Two records read window by window: both are fed, chunks that are equal once; and whether windows and sums are equal.
+#![tactic(auto)]
+
 ghost use Rattle.std.specs.Prelude.{◌≡◌};
 ghost use Rattle.window.specs.Both.{alike_of, same_summary, same_answer_of, both_start, both_fed};
 
@@ -6,7 +8,7 @@ use feed::Feed;
 use summary::{Answer, Summary};
 
 // Two records so far, and whether all chunks so far were equal.
-#[derive(Drop)]
+#[derive(Clone, Copy)]
 pub struct Pair {
     pub first: Feed,
     pub second: Feed,

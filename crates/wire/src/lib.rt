@@ -1,4 +1,6 @@
 // Numbers in slices of bytes, in both orders, and signed numbers as unsigned ones.
+#![tactic(auto)]
+
 ghost use Rattle.std.specs.Prelude.{◌≡◌, ◌+◌, ◌≤◌, length};
 ghost use Rattle.wire.specs.Wire.{le, be, digits, digits_be, put};
 ghost use Rattle.wire.specs.Signed.{signed_of, unsigned_of};

@@ -1,4 +1,6 @@
 // The path of a wrap-marked frame round a ring with breaks.
+#![tactic(auto)]
+
 ghost use Rattle.std.specs.Prelude.{◌≡◌, false, ◌+◌};
 ghost use Rattle.ring.specs.Links.{other_of, next_of, link_of, ahead_of};
 ghost use Rattle.wrap.specs.Walking.{Stops, Walks, at_home, opposite, course_of, packed_of, side_of, path_of};
@@ -6,7 +8,7 @@ ghost use Rattle.wrap.specs.Walking.{Stops, Walks, at_home, opposite, course_of,
 use ring::Way;
 
 // What becomes of a wrap-marked frame; or the number of the refusal.
-#[derive(Drop)]
+#[derive(Clone, Copy)]
 pub enum Outcome {
     Moved { delivered: bool, hops: u64 },
     Refused(u64),
