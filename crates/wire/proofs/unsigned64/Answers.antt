@@ -12,8 +12,7 @@ use mir.Facts.{to_z-of_z}
 use mir.Syntax.{w64}
 use mir.Val.{Fits, SFits, to_z, of_z}
 use Rattle.wire.specs.Signed.{unsigned_of}
-use Rattle.wire.proofs.unsigned64.Statement.{statement}
-use Rattle.wire.proofs.unsigned64.Tie as tie
+use Rattle.wire.proofs.unsigned64.Goals as goal
 
 -- below 0
 down_to : (z : ℤ) → lt_z z (pos 0) ≡ true → negsuc 0 -ℤ z ≡ pos (mag z)
@@ -52,30 +51,27 @@ module _ {z : ℤ} (f : SFits w64 z) where
   cast : {y : ℤ} → y ≡ pos (mag z) → T (non_neg y) × Fits w64 (nat_abs y)
   cast e = subst (λ (y : ℤ). T (non_neg y) × Fits w64 (nat_abs y)) (sym e) (tt, record { fits = omega (arith, f.sfits) })
 
-sub-result : tie.Need-overflow-sub-result
-sub-result c =
-    subst (λ (y : ℤ). SFits w64 y) (sym (downward c.before.ranges.x c.if1.true)) (record { sfits = c.before.ranges.x.sfits })
+pub overflow_sub-result : goal.overflow_sub-result
+overflow_sub-result c =
+    subst (λ (y : ℤ). SFits w64 y) (sym (downward c.ranges.x c.if-x-lt0.true)) (record { sfits = c.ranges.x.sfits })
 
-cast-result : tie.Need-overflow-cast-result
-cast-result c = cast c.before.ranges.x (arrived c.before.ranges.x c.if1.true)
+pub overflow_cast-result : goal.overflow_cast-result
+overflow_cast-result c = cast c.ranges.x (arrived c.ranges.x c.if-x-lt0.true)
 
-sub-result-2 : tie.Need-overflow-sub-result-2
-sub-result-2 c =
-    subst (λ (y : ℤ). nat_abs y ≤ 18446744073709551615) (sym (arrived c.before.ranges.x c.if1.true))
-    (omega (arith, c.before.ranges.x.sfits))
+pub overflow_sub-result-then-x-lt0 : goal.overflow_sub-result-then-x-lt0
+overflow_sub-result-then-x-lt0 c =
+    subst (λ (y : ℤ). nat_abs y ≤ 18446744073709551615) (sym (arrived c.ranges.x c.if-x-lt0.true))
+    (omega (arith, c.ranges.x.sfits))
 
-cast-result-2 : tie.Need-overflow-cast-result-2
-cast-result-2 c = cast c.before.ranges.x (kept c.before.ranges.x c.if1.false)
+pub overflow_cast-result-else-x-lt0 : goal.overflow_cast-result-else-x-lt0
+overflow_cast-result-else-x-lt0 c = cast c.ranges.x (kept c.ranges.x c.if-x-lt0.false)
 
-returns : tie.Need-returns
-returns c =
-    ap (λ (y : ℤ). 18446744073709551615 - nat_abs y) (arrived c.before.ranges.x c.if1.true)
-    ∙ sym (unsigned_below c.before.args.x (tested c.before.ranges.x c.if1.true))
+pub returns-then-x-lt0 : goal.returns-then-x-lt0
+returns-then-x-lt0 c =
+    ap (λ (y : ℤ). 18446744073709551615 - nat_abs y) (arrived c.ranges.x c.if-x-lt0.true)
+    ∙ sym (unsigned_below c.args.x (tested c.ranges.x c.if-x-lt0.true))
 
-returns-2 : tie.Need-returns-2
-returns-2 c =
-    ap nat_abs (kept c.before.ranges.x c.if1.false)
-    ∙ sym (unsigned_not_below c.before.args.x (tested c.before.ranges.x c.if1.false))
-
-pub unsigned64_spec : {M : Type 1} → statement M
-unsigned64_spec = tie.close (tie.spec sub-result cast-result sub-result-2 cast-result-2 returns returns-2)
+pub returns-else-x-lt0 : goal.returns-else-x-lt0
+returns-else-x-lt0 c =
+    ap nat_abs (kept c.ranges.x c.if-x-lt0.false)
+    ∙ sym (unsigned_not_below c.args.x (tested c.ranges.x c.if-x-lt0.false))

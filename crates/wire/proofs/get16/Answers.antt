@@ -1,0 +1,10 @@
+-- `wire::get16` meets its contract. The number that two bytes hold is `le 2`, written out.
+-- Assumes nothing.
+use Rattle.wire.specs.Wire.{le}
+use native.Mathlib.Omega.{arith}
+use native.Mathlib.Numerals.{towards_numerals}
+use Rattle.wire.proofs.get16.Goals as goal
+
+pub returns : goal.returns
+unfolding le
+returns c = simp towards_numerals (omega arith)
