@@ -1,0 +1,9 @@
+-- The code is the test, comparison for comparison.
+-- Assumes nothing.
+use mathlib.Core.Path.{refl}
+use Rattle.decide.specs.Test.{test}
+use Rattle.queue.proofs.hops_ok.Goals as goal
+
+pub returns : goal.returns
+unfolding test
+returns c = refl
