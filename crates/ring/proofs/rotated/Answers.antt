@@ -9,8 +9,7 @@ use lib.Pow.{pow_pos, pow-lt, shl_exact}
 use Rattle.ring.specs.Links.{rotated_of, Stands}
 use Rattle.ring.proofs.Around.{high_lt}
 use borrow.Author.Rules.{rules}
-use Rattle.ring.proofs.rotated.Statement.{statement}
-use Rattle.ring.proofs.rotated.Tie as tie
+use Rattle.ring.proofs.rotated.Goals as goal
 
 -- `1 << k` is `2 ^ k`
 one_shl : (k : ℕ) → k < 64 → (1 * 2 ^ k) % 2 ^ 64 ≡ 2 ^ k
@@ -23,23 +22,8 @@ joined n own w s =
     ∙ shl_exact own (n - own) 64 (mod-lt w (pow_pos own)) (omega arith))
     ∙ or_shifted_r (w % 2 ^ own) (n - own) (w / 2 ^ own) (high_lt n own w s)
 
-shl-low : tie.Need-overflow-shl-low
-shl-low c = search rules
+pub nonzero_rem-low : goal.nonzero_rem-low
+nonzero_rem-low c = subst (λ (x : ℕ). zero < x) (sym (one_shl c.args.own (search rules))) (pow_pos c.args.own)
 
-rem-low : tie.Need-nonzero-rem-low
-rem-low c = subst (λ (x : ℕ). zero < x) (sym (one_shl c.args.own (search rules))) (pow_pos c.args.own)
-
-shr-result : tie.Need-overflow-shr-result
-shr-result c = search rules
-
-sub-result : tie.Need-overflow-sub-result
-sub-result c = search rules
-
-shl-result : tie.Need-overflow-shl-result
-shl-result c = search rules
-
-returns : tie.Need-returns
+pub returns : goal.returns
 returns c = joined c.args.stations c.args.own c.args.links c.requires
-
-pub rotated_spec : {M : Type 1} → statement M
-rotated_spec = tie.close (tie.spec shl-low rem-low shr-result sub-result shl-result returns)
