@@ -3,24 +3,19 @@
 use Prim.Native.Nat.{ℕ, ◌<◌}
 use mathlib.Core.Bool.{Bool}
 use mathlib.Core.List.{List, ◌++◌}
-use mathlib.Core.Path.{◌≡◌, refl, sym, ap, ◌∙◌}
-use native.Mathlib.Omega.{arith}
+use mathlib.Core.Path.{◌≡◌, sym, ap, ◌∙◌}
 use lib.ListN.{length}
 use Rattle.wire.specs.Wire.{Bytes}
 use Rattle.shaper.specs.declared.Limits.{Limits}
 use Rattle.shaper.specs.Limits.{most_events}
-use Rattle.record.specs.declared.Step.{Step}
-use Rattle.record.specs.declared.Step.TheVariants.{Stands, End, Faulty}
 use Rattle.record.specs.Items.{Item, written_items, unrolled, Formed}
-use Rattle.record.specs.Read.{unreadable, item_faults, item_count, read_in}
-use Rattle.record.specs.Step.{item_at}
+use Rattle.record.specs.Read.{unreadable, read_in}
 use Rattle.record.specs.Cause.{Why, too_many, has_fault, passes, Cause, in_header, behind_items}
 use Rattle.record.proofs.Rows.{free_stands}
 use Rattle.record.proofs.Steps.{header_faulty}
 use Rattle.record.proofs.Wrote.{says_whole}
 use Rattle.record.proofs.Earliest.{over_million, earliest, run_passes}
 use Rattle.record.proofs.Refused.{header_refused_exactly, item_refused_exactly}
-use Rattle.decide.specs.Refusal.{first_of}
 
 -- each number of an unreadable record has its cause,
 pub unreadable_means : (runs : Bool) (xs : List ℕ) (n : ℕ) → Bytes xs → read_in runs xs ≡ unreadable n → Cause runs xs n

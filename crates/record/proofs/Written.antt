@@ -1,13 +1,12 @@
 -- What a writer writes is read back whole, in either form.
 -- Assumes nothing.
 use Prim.Native.Nat.{ℕ, zero, suc, ◌+◌, ◌*◌, ◌-◌, ◌≤◌, ◌<◌}
-use mathlib.Core.Bool.{Bool, true}
+use mathlib.Core.Bool.{Bool}
 use mathlib.Core.List.{List, [], ◌∷◌, ◌++◌, append_assoc, append-nil}
-use mathlib.Core.Logic.{inr}
 use mathlib.Core.Path.{◌≡◌, refl, sym, ap, ◌∙◌}
 use native.Mathlib.Omega.{arith}
 use native.Mathlib.Nat.{zero-add, suc-add, add_assoc}
-use lib.ListN.{length, drop, replicate, length-append, length-replicate}
+use lib.ListN.{length, replicate, length-append, length-replicate}
 use lib.Seq.{drop_at}
 use Rattle.decide.specs.Test.{Holds, test, passes}
 use Rattle.shaper.specs.declared.Limits.{Limits}
@@ -15,14 +14,13 @@ use Rattle.shaper.specs.declared.Event.{Event}
 use Rattle.shaper.specs.declared.Event.TheVariants.{Waiting, Idle, Send}
 use Rattle.shaper.specs.Limits.{limits_ok, most_events}
 use Rattle.shaper.specs.Credit.{Valid, AllValid}
-use Rattle.shaper.specs.Kind.{kind_of, number_of, event_of}
+use Rattle.shaper.specs.Kind.{kind_of, number_of}
 use Rattle.shaper.proofs.Kind.{event_of_lem}
 use Rattle.wire.specs.Wire.{le}
 use Rattle.wire.specs.Parts.{laid_out, length_laid_out}
 use Rattle.wire.proofs.Places.{stands_between}
 use Rattle.wire.proofs.Laid.{le_part}
 use Rattle.record.specs.declared.Header.TheVariants.{Settings}
-use Rattle.record.specs.declared.Step.TheVariants.{Stands}
 use Rattle.record.specs.Record.{header_parts, event_parts, header_bytes, event_bytes, events_bytes, written, WellFormed}
 use Rattle.record.specs.Items.{Item, one, run, run_parts, run_bytes, item_bytes, items_bytes, written_items, unrolled_item, unrolled, ItemOk, ItemsOk, Formed}
 use Rattle.record.specs.Read.{limits_at, Events, faulty, events, onward, ahead, read_items, whole, read_in}

@@ -3,7 +3,7 @@
 use Prim.Native.Nat.{ℕ, zero, suc, ◌+◌, ◌-◌, ◌≤◌, ◌<◌}
 use mathlib.Core.Bool.{Bool, true, false}
 use mathlib.Core.List.{List, [], ◌∷◌, ◌++◌, append_assoc}
-use mathlib.Core.Logic.{◌⊎◌, ⊎_elim}
+use mathlib.Core.Logic.{⊎_elim}
 use mathlib.Core.Path.{◌≡◌, refl, sym, ap, ◌∙◌}
 use native.Mathlib.Omega.{arith}
 use native.Mathlib.Nat.{zero-add}
@@ -27,13 +27,13 @@ use Rattle.record.specs.declared.Step.{Step}
 use Rattle.record.specs.declared.Step.TheVariants.{Stands, End, Faulty}
 use Rattle.record.specs.Record.{header_parts, event_parts, header_bytes, event_bytes, events_bytes, written, WellFormed}
 use Rattle.record.specs.Items.{Item, one, run, run_parts, run_bytes, item_bytes, items_bytes, written_items, unrolled_item, unrolled, ItemOk, ItemsOk, Formed}
-use Rattle.record.specs.Read.{limits_at, Events, faulty, events, ahead, read_items, Read, unreadable, whole, under, read_in}
+use Rattle.record.specs.Read.{limits_at, Events, faulty, events, read_items, Read, unreadable, whole, under, read_in}
 use Rattle.record.specs.Step.{header_of_of, item_at}
 use Rattle.record.specs.Cause.{Why, too_many, has_fault, passes, Cause, in_header, behind_items}
 use Rattle.record.proofs.Fields.{event_good}
 use Rattle.record.proofs.Steps.{Headed, EventThere, RunThere, Stood, read_by, read_header, header_stands, header_faulty, read_end, read_over, step_stands, step_end, step_faulty, stood_bound, count_bound}
 use Rattle.record.proofs.Refused.{header_refused_exactly, item_refused_exactly}
-use Rattle.record.proofs.Written.{behind, behind_faulty, behind_events, ahead_behind, ones, ones_bytes, ones_unrolled}
+use Rattle.record.proofs.Written.{behind, behind_faulty, behind_events, ahead_behind, ones, ones_bytes}
 
 -- ---- what stands at the front
 
