@@ -2,12 +2,8 @@
 -- Assumes nothing.
 use mathlib.Core.Bool.{or_assoc}
 use Rattle.decide.specs.Test.{test}
-use Rattle.settings.proofs.age_ok.Statement.{statement}
-use Rattle.settings.proofs.age_ok.Tie as tie
+use Rattle.settings.proofs.age_ok.Goals as goal
 
-returns : tie.Need-returns
+pub returns : goal.returns
 unfolding test
 returns c = simp or_assoc
-
-pub age_ok_spec : {M : Type 1} → statement M
-age_ok_spec = tie.close (tie.spec returns)

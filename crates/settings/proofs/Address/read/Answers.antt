@@ -1,0 +1,6 @@
+-- `settings::Address::read` meets its contract. Each word is what stands at its place.
+-- Assumes nothing.
+use Rattle.settings.proofs.Address.read.Goals as goal
+
+pub returns : goal.returns
+returns c = cc

@@ -1,0 +1,6 @@
+-- `settings::Fairness::read` meets its contract. Each word is what stands at its place.
+-- Assumes nothing.
+use Rattle.settings.proofs.Fairness.read.Goals as goal
+
+pub returns : goal.returns
+returns c = cc
