@@ -5,4 +5,3 @@ pub mod Found
 pub mod Refused
 pub mod Determined
 pub mod Examples
-mod Held
