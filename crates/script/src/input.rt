@@ -1,6 +1,7 @@
 // Standard input, line by line.
 use crate::print;
-use libc::STDIN_FILENO;
+use std::io;
+use std::io::Read;
 
 // How far the input was taken. Characters that were read and not taken yet stand in the reader's buffer, from one place to another.
 #[derive(Clone, Copy)]
@@ -36,12 +37,12 @@ impl Input {
 
 // Takes the next line, without its end, into `room`. The input's end, or a read that fails, ends the last line. A proved loop has to end, and nothing says
 // that a line does: the turns are counted down, from a number that no run uses up.
-pub fn line(input: Input, buffer: &mut [u8], room: &mut [u8]) -> Got {
+pub fn line(rt: &impl io::Input, input: Input, buffer: &mut [u8], room: &mut [u8]) -> Got {
     let mut rest = input;
     let mut length = 0;
     let mut turns = u64::MAX;
     while 0 < turns {
-        let next = character(rest, buffer);
+        let next = character(rt, rest, buffer);
         let Next::Is(c, after) = next else {
             return taken(length, true, rest);
         };
@@ -56,9 +57,9 @@ pub fn line(input: Input, buffer: &mut [u8], room: &mut [u8]) -> Got {
 }
 
 // The line of this length that was taken into `room`. One that the room does not hold is said to be wrong, and read as empty.
-pub fn held(room: &[u8], length: usize) -> &[u8] {
+pub fn held<'a>(rt: &impl Print, room: &'a [u8], length: usize) -> &'a [u8] {
     if room.len() < length {
-        print::wrong(b"line", b"it is too long");
+        print::wrong(rt, b"line", b"it is too long");
         return &room[0..0];
     }
     &room[0..length]
@@ -82,8 +83,8 @@ fn longer(room: &mut [u8], length: usize, c: u8) -> usize {
 }
 
 // The next character. Where the buffer has no more, it is filled again.
-fn character(input: Input, buffer: &mut [u8]) -> Next {
-    let ready = filled(input, buffer);
+fn character(rt: &impl io::Input, input: Input, buffer: &mut [u8]) -> Next {
+    let ready = filled(rt, input, buffer);
     let from = ready.from;
     let end = ready.end;
     if end <= from {
@@ -100,12 +101,15 @@ fn character(input: Input, buffer: &mut [u8]) -> Next {
 }
 
 // The input with a character in the buffer, unless it is at its end.
-fn filled(input: Input, buffer: &mut [u8]) -> Input {
+fn filled(rt: &impl io::Input, input: Input, buffer: &mut [u8]) -> Input {
     if input.from < input.end {
         return input;
     }
-    let got = libc::read(STDIN_FILENO, buffer);
-    let count = io::count(got, buffer);
+    let mut reader = rt.reader();
+    let count = match reader.read(buffer) {
+        Ok(n) => n,
+        Err(_) => 0,
+    };
     Input {
         from: 0,
         end: count,

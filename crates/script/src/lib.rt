@@ -56,7 +56,7 @@ pub fn word(text: &[u8]) -> Place
 pub fn times_of(word: &[u8]) -> Times
     ensures { result.from ≤ length word.now }
 {
-    let star = bytes::scan::find(word, 0, word.len(), b'*');
+    let star = star(word);
     if word.len() <= star {
         return Times {
             number: Value::Is(1),
@@ -67,6 +67,20 @@ pub fn times_of(word: &[u8]) -> Times
         number: number(&word[0..star]),
         from: star + 1,
     }
+}
+
+// The place of a word's first star, or the word's end.
+fn star(word: &[u8]) -> usize
+    ensures { result ≤ length word.now }
+{
+    let mut i = 0;
+    while i < word.len() {
+        if word[i] == b'*' {
+            return i;
+        }
+        i += 1;
+    }
+    i
 }
 
 // The first place from `at` on where a blank stands, or where none does, as asked; the text's end if there is no such place.

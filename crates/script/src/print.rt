@@ -1,32 +1,30 @@
 // What an answer is printed with, on standard output. Each answers whether all of it was written.
-use libc::STDOUT_FILENO;
-
 // Some text as it is.
-pub fn text(bytes: &[u8]) -> bool {
-    io::write_all(STDOUT_FILENO, bytes)
+pub fn text(rt: &impl Print, bytes: &[u8]) -> bool {
+    rt.write_all(bytes).is_ok()
 }
 
 // A text and a number.
-pub fn number(label: &[u8], n: u64) -> bool {
-    text(label) & io::print_decimal(STDOUT_FILENO, n)
+pub fn number(rt: &impl Print, label: &[u8], n: u64) -> bool {
+    text(rt, label) & rt.print(n).is_ok()
 }
 
 // A line that says what is wrong with a word of the script.
-pub fn wrong(word: &[u8], what: &[u8]) -> bool {
-    text(word) & text(b": ") & text(what) & text(b"\n")
+pub fn wrong(rt: &impl Print, word: &[u8], what: &[u8]) -> bool {
+    text(rt, word) & text(rt, b": ") & text(rt, what) & text(rt, b"\n")
 }
 
 // Some bytes, two hex digits each.
-pub fn hex(bytes: &[u8]) -> bool {
+pub fn hex(rt: &impl Print, bytes: &[u8]) -> bool {
     let mut written = true;
     let mut i = 0;
     while i < bytes.len() {
-        written = written & byte(bytes[i]);
+        written = written & byte(rt, bytes[i]);
         i += 1;
     }
     written
 }
 
-fn byte(b: u8) -> bool {
-    io::print_hex(STDOUT_FILENO, b as u64, 2)
+fn byte(rt: &impl Print, b: u8) -> bool {
+    print!(rt; "{b:02x}").is_ok()
 }
