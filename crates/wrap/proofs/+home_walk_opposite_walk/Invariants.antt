@@ -1,0 +1,10 @@
+-- What falls in each call of {home_walk, opposite_walk}: twice the hops left, and the turn flag.
+-- Assumes nothing.
+use Prim.Native.Nat.{◌+◌, ◌*◌}
+use Rattle.wrap.proofs.+home_walk_opposite_walk.Given as goal
+
+abbrev pub decreases-home_walk : goal.decreases-home_walk
+decreases-home_walk l = 2 * l.left + l.turn
+
+abbrev pub decreases-opposite_walk : goal.decreases-opposite_walk
+decreases-opposite_walk l = 2 * l.left + l.turn
