@@ -1,5 +1,5 @@
 -- A part: up to eight events as seen from where they begin. What binds it is one law: a part that grows by an event, applied to a tally, is that tally's step
--- (`applied-grown`, proofs/Applied.antt).
+-- (`applied_grown`, proofs/Applied.antt).
 -- Assumes nothing.
 use Rattle.std.specs.Prelude.{ℕ, zero, suc, ◌+◌, ◌-◌, ◌*◌, ◌/◌, ◌%◌, ◌≤◌, ◌<◌, min, max, Bool, true, ◌&&◌, cond, ◌⊎◌, ◌≡◌, get_or}
 use Rattle.shaper.specs.Limits.{most_amount}
@@ -97,7 +97,7 @@ pub record PartsFit (q : Parts) : Type 0 where
 abbrev pub lane_of : Parts → ℕ → Part
 lane_of q j = record { total = 0; level = get_or q.levels j 0; top = get_or q.tops j 0; low = get_or q.lows j 0; good = true }
 
--- the tally after them (`over-applied`: of parts in a row it is that after each)
+-- the tally after them (`over_applied`: of parts in a row it is that after each)
 abbrev pub over_of : ℕ → Tally → Parts → Tally
 over_of rise t q =
     record {

@@ -1,5 +1,5 @@
 -- A tally: a summary in the making, and the summary that it stands for. How it counts is free; what binds it is the law that a step is the paper's join
--- with one event's summary (`step-joined`, proofs/Laws.antt), or with that of a run of equal ticks (`run-joined`, proofs/Runs.antt).
+-- with one event's summary (`step_joined`, proofs/Laws.antt), or with that of a run of equal ticks (`run_joined`, proofs/Runs.antt).
 -- Assumes nothing.
 use Rattle.std.specs.Prelude.{ℕ, ◌+◌, ◌-◌, ◌*◌, ◌≤◌, min, max, cond, eqb, leb}
 use Rattle.shaper.specs.declared.Limits.{Limits}
