@@ -6,25 +6,7 @@ use mathlib.Core.Path.{◌≡◌, sym, ap, ◌∙◌}
 use Prim.Native.Nat.{ℕ, zero, suc, ◌*◌, ◌≤◌, min}
 use native.Mathlib.Nat.{mul_assoc, mul-le-mul_right}
 use native.Mathlib.Omega.{arith}
-use borrow.Author.Rules.{rules}
-use Rattle.rates.proofs.allowance.Statement.{statement}
-use Rattle.rates.proofs.allowance.Tie as tie
-
-mul-lesser : tie.Need-overflow-mul-lesser
-mul-lesser c = omega (arith, mul-le-mul_right {m = c.args.weight} {n = 4294967295} c.args.unit (omega arith))
-
-lesser-requires : tie.Need-lesser-requires
-lesser-requires c κs = search rules
-
-mul-lesser-2 : tie.Need-overflow-mul-lesser-2
-mul-lesser-2 c =
-    omega (arith, mul-le-mul_right {m = c.before.args.received} {n = 4294967295} c.lesser.result (omega arith))
-
-lesser-requires-2 : tie.Need-lesser-requires-2
-lesser-requires-2 c κs = search rules
-
-cast-result : tie.Need-overflow-cast-result
-cast-result c = search rules
+use Rattle.rates.proofs.allowance.Goals as goal
 
 -- a factor above the largest word counts as that
 cut : (u r k : ℕ) → u ≤ 4294967295 → min u (r * min k 4294967295) ≡ min u (r * k)
@@ -36,17 +18,19 @@ cut u (suc n) k h =
     let e : min k 4294967295 ≡ 4294967295 = omega arith in
     ap (λ (m : ℕ). min u (suc n * m)) e ∙ omega (arith, mul-le-mul_right {m = 1} {n = suc n} k (omega arith)))
 
-returns : tie.Need-returns
+pub overflow_mul-weight : goal.overflow_mul-weight
+overflow_mul-weight c = omega (arith, mul-le-mul_right {m = c.args.weight} {n = 4294967295} c.args.unit (omega arith))
+
+pub overflow_mul-received : goal.overflow_mul-received
+overflow_mul-received c =
+    omega (arith, mul-le-mul_right {m = c.args.received} {n = 4294967295} c.lesser-factor.result (omega arith))
+
+pub returns : goal.returns
 unfolding allowance_of
 returns c =
-    let a : _ = c.before.before.args in
+    let a : _ = c.args in
     let u : ℕ = a.unreserved in
-    c.lesser2.ensures
-    ∙ ap (λ (k : ℕ). min u (a.received * k)) c.before.lesser.ensures
+    c.lesser.ensures
+    ∙ ap (λ (k : ℕ). min u (a.received * k)) c.lesser-factor.ensures
     ∙ cut u a.received (a.weight * a.unit) (omega arith)
     ∙ ap (λ (p : ℕ). min u p) (sym (mul_assoc a.received a.weight a.unit))
-
-pub allowance_spec : {M : Type 1} → statement M
-allowance_spec =
-    tie.close
-    (tie.spec mul-lesser lesser-requires mul-lesser-2 lesser-requires-2 cast-result returns)
