@@ -16,16 +16,14 @@ use station::Station;
 const SETTING: u64 = 1;
 
 // How many bytes a station takes.
-#[unsafe(no_mangle)]
-pub extern "C" fn rpr_station_length() -> u64
+pub fn rpr_station_length() -> u64
     ensures { result ≡ station_length }
 {
     layout::LENGTH as u64
 }
 
 // Makes the station a fresh one under these settings, whatever its bytes were. 2 where a slice is of another length, then 1.
-#[unsafe(no_mangle)]
-pub extern "C" fn rpr_start(settings: &[u8], station: &mut [u8]) -> u64
+pub fn rpr_start(settings: &[u8], station: &mut [u8]) -> u64
     ensures value { result ≡ start_answer settings.now station.old }
     ensures station_after { station.new ≡ start_after settings.now station.old }
 {
@@ -44,8 +42,7 @@ pub extern "C" fn rpr_start(settings: &[u8], station: &mut [u8]) -> u64
 }
 
 // A tick. The host says whether A, B and C traffic waits: 1 for yes, 0 for no. 2, 1, then 3.
-#[unsafe(no_mangle)]
-pub extern "C" fn rpr_tick(station: &mut [u8], a: u64, b: u64, c: u64) -> u64
+pub fn rpr_tick(station: &mut [u8], a: u64, b: u64, c: u64) -> u64
     ensures value { result ≡ tick_answer station.old a b c }
     ensures station_after { station.new ≡ tick_after station.old a b c }
 {
@@ -64,8 +61,7 @@ pub extern "C" fn rpr_tick(station: &mut [u8], a: u64, b: u64, c: u64) -> u64
 }
 
 // Takes a client frame into the stage, and answers the mark that it got. 2, 1, 3, 13, 5, 6 and how far short, then 7.
-#[unsafe(no_mangle)]
-pub extern "C" fn rpr_offer_client(station: &mut [u8], class: u64, size: u64, hops: u64) -> u64
+pub fn rpr_offer_client(station: &mut [u8], class: u64, size: u64, hops: u64) -> u64
     ensures value { result ≡ offer_client_answer station.old class size hops }
     ensures station_after { station.new ≡ offer_client_after station.old class size hops }
 {
@@ -85,8 +81,7 @@ pub extern "C" fn rpr_offer_client(station: &mut [u8], class: u64, size: u64, ho
 }
 
 // Takes a transit frame into the queue of its class. 2, 1, 3, 13, then 4.
-#[unsafe(no_mangle)]
-pub extern "C" fn rpr_offer_transit(
+pub fn rpr_offer_transit(
     station: &mut [u8],
     class: u64,
     size: u64,
@@ -112,8 +107,7 @@ pub extern "C" fn rpr_offer_transit(
 }
 
 // Takes a control frame, given by its size alone, into the control queue. 2, 1, 3, then 4.
-#[unsafe(no_mangle)]
-pub extern "C" fn rpr_offer_control(station: &mut [u8], size: u64) -> u64
+pub fn rpr_offer_control(station: &mut [u8], size: u64) -> u64
     ensures value { result ≡ offer_control_answer station.old size }
     ensures station_after { station.new ≡ offer_control_after station.old size }
 {
@@ -130,8 +124,7 @@ pub extern "C" fn rpr_offer_control(station: &mut [u8], size: u64) -> u64
 }
 
 // Selects the frame that goes next, and answers where it comes from and the frame. 2, then 1.
-#[unsafe(no_mangle)]
-pub extern "C" fn rpr_select(station: &mut [u8]) -> u64
+pub fn rpr_select(station: &mut [u8]) -> u64
     ensures value { result ≡ select_answer station.old }
     ensures station_after { station.new ≡ select_after station.old }
 {
@@ -155,8 +148,7 @@ pub extern "C" fn rpr_select(station: &mut [u8]) -> u64
 }
 
 // Ends an aging interval. 2, then 1.
-#[unsafe(no_mangle)]
-pub extern "C" fn rpr_age(station: &mut [u8]) -> u64
+pub fn rpr_age(station: &mut [u8]) -> u64
     ensures value { result ≡ age_answer station.old }
     ensures station_after { station.new ≡ age_after station.old }
 {
@@ -174,8 +166,7 @@ pub extern "C" fn rpr_age(station: &mut [u8]) -> u64
 }
 
 // Reads a fairness frame. 2 (the frame's shape and its ringlet bit too), 1, 3, 13, then 11.
-#[unsafe(no_mangle)]
-pub extern "C" fn rpr_read_frame(station: &mut [u8], frame: &[u8]) -> u64
+pub fn rpr_read_frame(station: &mut [u8], frame: &[u8]) -> u64
     ensures value { result ≡ read_frame_answer station.old frame.now }
     ensures station_after { station.new ≡ read_frame_after station.old frame.now }
 {
@@ -193,8 +184,7 @@ pub extern "C" fn rpr_read_frame(station: &mut [u8], frame: &[u8]) -> u64
 }
 
 // Leaves in the room the fairness frame that the station advertises. 2, then 1.
-#[unsafe(no_mangle)]
-pub extern "C" fn rpr_write_frame(station: &[u8], room: &mut [u8]) -> u64
+pub fn rpr_write_frame(station: &[u8], room: &mut [u8]) -> u64
     ensures value { result ≡ write_frame_answer station.now room.old }
     ensures room_after { room.new ≡ write_frame_after station.now room.old }
 {
@@ -215,8 +205,7 @@ pub extern "C" fn rpr_write_frame(station: &[u8], room: &mut [u8]) -> u64
 }
 
 // Leaves in the room a reading of the station. 2, then 1.
-#[unsafe(no_mangle)]
-pub extern "C" fn rpr_show(station: &[u8], room: &mut [u8]) -> u64
+pub fn rpr_show(station: &[u8], room: &mut [u8]) -> u64
     ensures value { result ≡ show_answer station.now room.old }
     ensures room_after { room.new ≡ show_after station.now room.old }
 {

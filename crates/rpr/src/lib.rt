@@ -1,4 +1,4 @@
-// The functions that a host written in C calls.
+// The functions that a host written in C calls, by the exports of rpr_c.
 #![tactic(auto)]
 
 ghost use Rattle.std.specs.Prelude.{◌≡◌};
@@ -6,7 +6,7 @@ ghost use Rattle.rpr.specs.Ways.{choose_answer, path_answer};
 ghost use Rattle.rpr.specs.Calls.{version_number, summarize_answer, summarize_after, join_answer, join_after, settle_answer};
 ghost use Rattle.rpr.specs.Movers.{roll_answer, roll_after, unroll_answer, unroll_after};
 
-mod lending;
+pub mod lending;
 
 use ring::Choice;
 use roll::Moved;
@@ -21,16 +21,14 @@ const VERSION: u64 = 4;
 const REVISION: u64 = 1;
 
 // The version: 256 times its first number and the second.
-#[unsafe(no_mangle)]
-pub extern "C" fn rpr_version() -> u64
+pub fn rpr_version() -> u64
     ensures { result ≡ version_number }
 {
     256 * VERSION + REVISION
 }
 
 // Leaves in the room the summary of a shaper record, of either form. 2 where the room is not 48 bytes, then the number of the record's earliest fault.
-#[unsafe(no_mangle)]
-pub extern "C" fn rpr_summarize(record: &[u8], room: &mut [u8]) -> u64
+pub fn rpr_summarize(record: &[u8], room: &mut [u8]) -> u64
     ensures value { result ≡ summarize_answer «record».now room.old }
     ensures room_after { room.new ≡ summarize_after «record».now room.old }
 {
@@ -42,8 +40,7 @@ pub extern "C" fn rpr_summarize(record: &[u8], room: &mut [u8]) -> u64
 }
 
 // Leaves in the room the summary of the first's events and then the second's. 2 where a slice is not 48 bytes, then 3, 10 and 9.
-#[unsafe(no_mangle)]
-pub extern "C" fn rpr_join(first: &[u8], second: &[u8], room: &mut [u8]) -> u64
+pub fn rpr_join(first: &[u8], second: &[u8], room: &mut [u8]) -> u64
     ensures value { result ≡ join_answer first.now second.now room.old }
     ensures room_after { room.new ≡ join_after first.now second.now room.old }
 {
@@ -61,8 +58,7 @@ pub extern "C" fn rpr_join(first: &[u8], second: &[u8], room: &mut [u8]) -> u64
 }
 
 // Whether every send of a summary's events is permitted from a starting credit, and the credit at the end. 2 where the slice is not 48 bytes, then 3.
-#[unsafe(no_mangle)]
-pub extern "C" fn rpr_settle(summary: &[u8], start: u64) -> u64
+pub fn rpr_settle(summary: &[u8], start: u64) -> u64
     ensures { result ≡ settle_answer summary.now start }
 {
     if summary.len() != sheet::LENGTH {
@@ -78,8 +74,7 @@ pub extern "C" fn rpr_settle(summary: &[u8], start: u64) -> u64
 
 // Leaves in the room an old record in the new form, where equal ticks stand in runs, and answers how many bytes that is. The number of the record's earliest fault, a run
 // being 2; then 12 where the room is too short.
-#[unsafe(no_mangle)]
-pub extern "C" fn rpr_roll(record: &[u8], room: &mut [u8]) -> u64
+pub fn rpr_roll(record: &[u8], room: &mut [u8]) -> u64
     ensures value { result ≡ roll_answer «record».now room.old }
     ensures room_after { room.new ≡ roll_after «record».now room.old }
 {
@@ -92,8 +87,7 @@ pub extern "C" fn rpr_roll(record: &[u8], room: &mut [u8]) -> u64
 
 // Leaves in the room a record of either form in the old one, and answers how many bytes that is. The number of the record's earliest fault; then 12 where the room is
 // too short.
-#[unsafe(no_mangle)]
-pub extern "C" fn rpr_unroll(record: &[u8], room: &mut [u8]) -> u64
+pub fn rpr_unroll(record: &[u8], room: &mut [u8]) -> u64
     ensures value { result ≡ unroll_answer «record».now room.old }
     ensures room_after { room.new ≡ unroll_after «record».now room.old }
 {
@@ -105,8 +99,7 @@ pub extern "C" fn rpr_unroll(record: &[u8], room: &mut [u8]) -> u64
 }
 
 // Which side a frame takes round the ring: the side, its distance, the ttl and the wrap mark.
-#[unsafe(no_mangle)]
-pub extern "C" fn rpr_choose(
+pub fn rpr_choose(
     stations: u64,
     own: u64,
     target: u64,
@@ -130,8 +123,7 @@ pub extern "C" fn rpr_choose(
 }
 
 // Whether a wrap-marked frame is delivered, and the hops that it moves.
-#[unsafe(no_mangle)]
-pub extern "C" fn rpr_path(stations: u64, own: u64, target: u64, links: u64, home: u64) -> u64
+pub fn rpr_path(stations: u64, own: u64, target: u64, links: u64, home: u64) -> u64
     ensures { result ≡ path_answer stations own target links home }
 {
     let outcome = wrap::path(stations, own, target, links, home);
