@@ -46,7 +46,7 @@ counted_faults l e count =
     ∷ fault 9 (ltb most_events count)
     ∷ []
 
--- the summary of so many equal events, one after the other (`run_closed`: in closed form; `counted-one-by-one`: joined one by one)
+-- the summary of so many equal events, one after the other (`run_closed`: in closed form; `counted_one_by_one`: joined one by one)
 unfoldable pub counted_answer : Limits → Event → ℕ → Answer
 counted_answer l e count = answered (first_of (counted_faults l e count)) (summary_of l (replicate count e))
 

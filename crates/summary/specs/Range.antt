@@ -27,7 +27,7 @@ need_ok s =
 unfoldable pub in_range : Summary → Bool
 in_range s = test (limits_ok s.limits) && (leb s.events most_events && (counts_ok s && (ceiling_ok s && need_ok s)))
 
--- the same as facts, one for each bound (`in-range-exactly`, proofs/Range.antt)
+-- the same as facts, one for each bound (`in_range_exactly`, proofs/Range.antt)
 pub record InRange (s : Summary) : Type 0 where
   pub settings_valid : LimitsOk s.limits
   pub events_most : s.events ≤ most_events

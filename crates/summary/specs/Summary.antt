@@ -48,7 +48,7 @@ need_ℤ a b =
     (pos (a.limits.hi + 1))
     (smaller_ℤ (larger_ℤ (pos a.need) (pos b.need -ℤ gain a)) (pos (a.limits.hi + 1)))
 
--- Join of 1 then 2: counts add. (Need is never negative, so that its size is itself: `need-signed`.)
+-- Join of 1 then 2: counts add. (Need is never negative, so that its size is itself: `need_signed`.)
 unfoldable pub joined : Summary → Summary → Summary
 joined a b =
     record {
