@@ -16,8 +16,8 @@ use Rattle.selection.specs.Select.{control_ready}
 use Rattle.decide.proofs.Chain.{chain}
 use Rattle.decide.proofs.Tests.{failing}
 use Rattle.selection.specs.Pick.{seen_in}
-use Rattle.selection.proofs.Sight.control_ready.Statement.{statement}
-use Rattle.selection.proofs.Sight.control_ready.Tie as tie
+use Rattle.std.proofs.lemmas.Bool.{not_from_false, not_from_true}
+use Rattle.selection.proofs.Sight.control_ready.Goals as goal
 
 -- the tests of a queue that holds a frame, of what was asked
 ready : (s : Settings) (f : Flow) {permitted : Bool} {size primary secondary : ℕ} → test (0 <? f.control.count) ≡ true → size ≡ (first_frame f.control).size
@@ -31,53 +31,21 @@ ready s f h z p q m =
     ((first_frame f.control).size ≤? space_of f.primary s.queues.primary)
     (((first_frame f.control).size ≤? space_of f.secondary s.queues.secondary) ∷ (s.shapers.m.lo <? f.credits.m) ∷ []))
 
-holds-frame-requires : tie.Need-holds-frame-requires
-holds-frame-requires c κs = tt
+pub returns-then-not-holds_frame : goal.returns-then-not-holds_frame
+unfolding test
+returns-then-not-holds_frame c =
+    let x = c.args in
+    sym (failing (control_ready x.settings (seen_in x.self)) (λ h. denied (0 <? x.self.control.count) c.holds_frame.ensures (not_from_false c.holds_frame.result c.if-not-holds_frame.true) h.0))
 
-returns : tie.Need-returns
+pub returns : goal.returns
 unfolding test
 returns c =
-    let x = c.before.before.args in
-    sym (failing (control_ready x.settings (seen_in x.self)) (λ h. denied (0 <? x.self.control.count) c.before.Holds-Frame.ensures c.if1.true h.0))
-
-first-requires : tie.Need-first-requires
-first-requires c κs = tt
-
-space-requires : tie.Need-space-requires
-space-requires c κs = tt
-
-space-requires-2 : tie.Need-space-requires-2
-space-requires-2 c κs = tt
-
-ask-requires : tie.Need-ask-requires
-ask-requires c κs = tt
-
-returns-2 : tie.Need-returns-2
-unfolding test
-returns-2 c =
-    let ask = c.before.before in
-    let secondary = ask.before in
-    let primary = secondary.before in
-    let first = primary.before in
-    let tested = first.before.before.before.before in
-    let x = tested.before.before.args in
+    let x = c.args in
     ready
     x.settings
     (seen_in x.self)
-    (left (0 <? x.self.control.count) tested.before.Holds-Frame.ensures tested.if1.false)
-    (ap (λ (y : Frame). y.size) first.first.ensures)
-    primary.space.ensures
-    secondary.space2.ensures
-    (ap (λ (short : ℕ). eqb short 0) ask.ask.ensures ∙ sym (permits_by x.self.credits.m x.settings.shapers.m.lo))
-
-pub control_ready_spec : {M : Type 1} → statement M
-control_ready_spec =
-    tie.close
-    (tie.spec
-    holds-frame-requires
-    returns
-    first-requires
-    space-requires
-    space-requires-2
-    ask-requires
-    returns-2)
+    (left (0 <? x.self.control.count) c.holds_frame.ensures (not_from_true c.holds_frame.result c.if-not-holds_frame.false))
+    (ap (λ (y : Frame). y.size) c.first-first.ensures)
+    c.space-primary.ensures
+    c.space-secondary.ensures
+    (ap (λ (short : ℕ). eqb short 0) c.ask-short.ensures ∙ sym (permits_by x.self.credits.m x.settings.shapers.m.lo))
