@@ -1,0 +1,24 @@
+-- Each turn compares one event more with the first; whatever the events are that stand there, n of them were found equal.
+-- Assumes nothing.
+use Prim.Native.Nat.{ℕ, suc, ◌+◌, ◌*◌, ◌-◌, ◌≤◌, ◌<◌}
+use mathlib.Core.List.{List, ◌∷◌}
+use mathlib.Core.Path.{◌≡◌, refl, sym, ap, ◌∙◌}
+use native.Mathlib.Omega.{arith}
+use borrow.Author.Rules.{rules}
+use lib.ListN.{length, drop}
+use Rattle.decide.proofs.Cases.{by_cases, le_or}
+use Rattle.shaper.specs.declared.Event.{Event}
+use Rattle.shaper.specs.Kind.{kind_of, number_of}
+use Rattle.wire.specs.Wire.{le}
+use Rattle.record.specs.Record.{events_bytes}
+use Rattle.roll.specs.Steps.{AllFit}
+use Rattle.roll.proofs.Ahead.{kind_small, fields_at, ahead_send, Found, found_first, found_end, found_other, found_full, found_more}
+use Rattle.roll.proofs.same_ahead.Given as goal
+
+abbrev pub invariant-loop-n : goal.invariant-loop-n
+invariant-loop-n l =
+    (l.n ≤ 65535) × (l.at ≤ length l.s) × (l.head ≡ le 4 l.s l.from) × (l.number ≡ le 2 l.s (l.from + 4)) × (l.head ≡ 196614 → ⊥)
+    × ((e : Event) (es : List Event) → drop l.from l.s ≡ events_bytes (e ∷ es) → AllFit (e ∷ es) → Found l.s l.from l.n l.at e es)
+
+abbrev pub decreases-loop-n : goal.decreases-loop-n
+decreases-loop-n l = 65535 - l.n
