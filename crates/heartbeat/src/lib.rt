@@ -25,8 +25,7 @@ pub struct Repeats {
 
 // Whether a pattern, repeated so many times, is permitted throughout from loLimit, and if so the credit at the end. The number of the pattern's earliest fault, which is 3 at a
 // 257th event; then 9 where the repeats have over 1,000,000 events.
-#[unsafe(no_mangle)]
-pub extern "C" fn rpr_heartbeat(pattern: &[u8], repeats: u64) -> u64
+pub fn rpr_heartbeat(pattern: &[u8], repeats: u64) -> u64
     ensures { result ≡ heartbeat_answer pattern.now repeats }
 {
     match from_low(heartbeats(pattern, repeats)) {
