@@ -1,0 +1,10 @@
+-- A join more; a refusal stays.
+-- Assumes nothing.
+use borrow.Author.Rules.{rules}
+use Rattle.heartbeat.proofs.Repeats.join.Goals as goal
+
+pub returns-in-Summed : goal.returns-in-Summed
+returns-in-Summed c = rw (c.join_next.ensures, c.in-Summed.is)
+
+pub returns-in-Refused : goal.returns-in-Refused
+returns-in-Refused c = rw c.in-Refused.is
