@@ -1,6 +1,6 @@
 -- What is left of a record has the answer of the whole: at the start, after each item, at a fault and at the end.
 -- Assumes nothing.
-use Rattle.std.proofs.Common.{◌≡◌, ℕ, ◌+◌, ◌-◌, ◌*◌, ◌<◌, ◌≤◌, Bool, List, ◌++◌, length, drop, replicate, sym, refl, ap, ◌∙◌, inl, inr, ⊎_elim, add_comm, arith}
+use Rattle.std.proofs.Common.{◌≡◌, ℕ, ◌+◌, ◌-◌, ◌*◌, ◌≤◌, Bool, List, ◌++◌, length, drop, replicate, sym, refl, ap, ◌∙◌, inl, inr, ⊎_elim, add_comm, arith}
 use Rattle.decide.specs.Test.{Holds}
 use Rattle.shaper.specs.declared.Limits.{Limits}
 use Rattle.shaper.specs.declared.Event.{Event}

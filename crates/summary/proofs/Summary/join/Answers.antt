@@ -8,6 +8,7 @@ use Rattle.summary.proofs.Paper.{in_range_plain, joined_fits, joined_plain}
 use Rattle.summary.proofs.Rows.{join_3_first, join_3_second, join_10, join_9, joins}
 use Rattle.summary.proofs.Summary.join.Goals as goal
 
+-- Below, an equation of a call with its test is what each passed test told.
 pub returns-then-not-in_range : goal.returns-then-not-in_range
 returns-then-not-in_range c = sym (join_3_first _ _ (sym c.in_range.ensures ∙ c.if-not-in_range.true))
 
