@@ -6,23 +6,12 @@ use mathlib.Core.Path.{◌≡◌, sym, ap, ◌∙◌}
 use Prim.Native.Nat.{ℕ, ◌%◌}
 use native.Mathlib.Omega.{arith}
 use lib.ListN.{set}
-use borrow.Author.Rules.{rules}
-use Rattle.advert.proofs.put8.Statement.{statement}
-use Rattle.advert.proofs.put8.Tie as tie
+use Rattle.advert.proofs.put8.Goals as goal
 
-slice-write-s : tie.Need-slice-write-s
-slice-write-s c = search rules
-
-same_length : tie.Need-same-length
-same_length c = search rules
-
-returns : tie.Need-returns
+pub returns : goal.returns
 unfolding digits digits_be
 returns c =
     let a : _ = c.args in
     let e : a.v % 256 ≡ a.v = omega arith in
     ap (λ (b : ℕ). set a.s.now a.at b) (sym e)
     ∙ sym (put_sets a.s.now (digits_be 1 a.v) a.at (omega arith))
-
-pub put8_spec : {M : Type 1} → statement M
-put8_spec = tie.close (tie.spec slice-write-s same_length returns)
