@@ -1,0 +1,8 @@
+-- The credit is cut to its four bytes, and they make it.
+-- Assumes nothing.
+use native.Mathlib.Omega.{arith}
+use Rattle.answer.proofs.Bytes.{packed_cut}
+use Rattle.answer.proofs.permitted.Goals as goal
+
+pub returns : goal.returns
+returns c = omega (arith, packed_cut c.args.credit)
