@@ -12,9 +12,9 @@ ghost use Rattle.record.specs.Items.{most_of_run};
 ghost use Rattle.apart.specs.Text.{opening_text, closing_text};
 ghost use Rattle.apart.specs.Page.{most_turns, walk_text, reached_of, page_of, Begins};
 
-use libc::STDOUT_FILENO;
 use line::{put_line, put_setting};
 use shaper::{Event, Limits};
+use std::io;
 use step::{event_in, is_event, level, passed, put_if};
 use summary::Answer;
 use together::turn;
@@ -89,24 +89,25 @@ pub struct Begun {
     end: usize,
 }
 
-// A page that was printed: the walk behind it, whether it lists nothing, and whether all of it was written.
+// A page that was printed: the walk behind it, whether it lists nothing, and whether all of it was written, or why not.
 #[derive(Clone, Copy)]
 pub struct Printed {
     pub walk: Walk,
     pub empty: bool,
-    pub written: bool,
+    pub written: io::Result<()>,
 }
 
-// Prints a line for each setting that differs, by one write; answers whether all of it was written.
-pub fn print_opening(first: Limits, second: Limits) -> bool {
+// Prints a line for each setting that differs, by one write; answers whether all of it was written, or why not.
+pub fn print_opening(rt: &impl Print, first: Limits, second: Limits) -> io::Result<()> {
     let mut room = [0u8; 528];
     let end = opening(first, second, &mut room);
-    io::write_all(STDOUT_FILENO, &room[..end])
+    rt.write_all(&room[..end])
 }
 
-// Prints a page of two windows from a walk on, by one write; answers the walk behind it, whether it lists nothing, and whether all of it was written. The caller
+// Prints a page of two windows from a walk on, by one write; answers the walk behind it, whether it lists nothing, and whether all of it was written, or why not. The caller
 // lends the room of 440,000 bytes for every page: 88, which no line exceeds, for each of its 5,000 turns. A walk past the most events of a record is none.
 pub fn print_page(
+    rt: &impl Print,
     first: &[u8],
     second: &[u8],
     a: Side,
@@ -117,7 +118,7 @@ pub fn print_page(
     let unprinted = Printed {
         walk: walk,
         empty: true,
-        written: false,
+        written: Err(io::Error::from(io::ErrorKind::InvalidInput)),
     };
     if room.len() < 440000 {
         return unprinted;
@@ -128,7 +129,7 @@ pub fn print_page(
     let page = page(first, second, a, b, walk, room);
     let end = page.end;
     let next = page.walk;
-    let written = io::write_all(STDOUT_FILENO, &room[..end]);
+    let written = rt.write_all(&room[..end]);
     Printed {
         walk: next,
         empty: end == 0,
@@ -136,11 +137,11 @@ pub fn print_page(
     }
 }
 
-// Prints both summaries, by one write; answers whether all of it was written.
-pub fn print_closing(first: Answer, second: Answer) -> bool {
+// Prints both summaries, by one write; answers whether all of it was written, or why not.
+pub fn print_closing(rt: &impl Print, first: Answer, second: Answer) -> io::Result<()> {
     let mut room = [0u8; 528];
     let end = closing(first, second, &mut room);
-    io::write_all(STDOUT_FILENO, &room[..end])
+    rt.write_all(&room[..end])
 }
 
 // Fills a room's first bytes with a line for each setting that differs, and answers how many they are.

@@ -1,75 +1,74 @@
 // `rpr heartbeat PATTERN REPEATS`: whether a pattern of events, a record file as bytes, in either form, is permitted throughout from loLimit where it is repeated so many times.
 // What is printed, where it is not refused, is what `rpr summarize` prints of the written-out record.
 use console::status::{TROUBLE, heartbeat_status};
-use console::{files, tell, words};
+use console::{Host, files, tell, words};
 use summary::Answer;
 
 // Reads the number of repeats first, and then the pattern.
-pub fn run() -> u64 {
-    let asked = words::all();
+pub fn run(rt: &impl Host) -> u64 {
+    let asked = words::all(rt);
     if asked.unknown | asked.bytes | asked.sheet | (asked.files != 2) {
-        tell::usage(b"heartbeat PATTERN REPEATS");
+        tell::usage(rt, b"heartbeat PATTERN REPEATS");
         return TROUBLE;
     }
-    let mut word = io::buffer();
-    let k = os::arg(asked.second, &mut word);
-    if os::errno() != 0 {
-        return no_number(&word);
-    }
+    let mut word = [0u8; 4096];
+    let Ok(k) = words::word_into(rt, asked.second, &mut word) else {
+        return no_number(rt, &word);
+    };
     if !is_number(&word[..k]) {
-        return no_number(&word[..k]);
+        return no_number(rt, &word[..k]);
     }
     let repeats = number(&word[..k]);
-    let mut name = io::buffer();
-    let n = os::arg(asked.first, &mut name);
-    if os::errno() != 0 {
-        tell::trouble(&name);
-        return TROUBLE;
-    }
-    of_file(&name[..n], repeats)
+    let mut name = [0u8; 4096];
+    let n = match words::word_into(rt, asked.first, &mut name) {
+        Ok(n) => n,
+        Err(why) => {
+            tell::trouble(rt, &name, why);
+            return TROUBLE;
+        }
+    };
+    of_file(rt, &name[..n], repeats)
 }
 
 // Says that a word is no number of repeats.
-fn no_number(word: &[u8]) -> u64 {
-    tell::say_word(word, b"not a number of repeats");
+fn no_number(rt: &impl Host, word: &[u8]) -> u64 {
+    tell::say_word(rt, word, b"not a number of repeats");
     TROUBLE
 }
 
 // Reads a file to its end, or to where the rest can change nothing, and tells what its pattern comes to. A pattern without a fault has at most 1,550 bytes, as an event takes at
 // most 6. Behind 255 events the next item begins at byte 1,544 at the latest, and takes at most 10: so the fault of a longer file lies within 1,554.
-fn of_file(name: &[u8], repeats: u64) -> u64 {
-    let fd = files::opened(name);
-    if fd < 0 {
+fn of_file<R: Host>(rt: &R, name: &[u8], repeats: u64) -> u64 {
+    let Some(mut file) = files::opened(rt, name) else {
         return TROUBLE;
-    }
+    };
     let mut pattern = [0u8; 1554];
-    let got = files::fill(fd, &mut pattern, 0);
-    if got.failed {
-        tell::trouble(name);
+    let got = files::fill(&mut file, &mut pattern, 0);
+    if let Some(why) = got.failed {
+        tell::trouble(rt, name, why);
         return TROUBLE;
     }
-    files::close(fd);
+    files::close(file);
     let end = got.end;
-    finish(name, heartbeat::heartbeats(&pattern[..end], repeats))
+    finish(rt, name, heartbeat::heartbeats(&pattern[..end], repeats))
 }
 
 // Prints what the repeats come to, and says why where they are refused.
-fn finish(name: &[u8], all: Answer) -> u64 {
-    let written = report::print(all);
-    if !written {
-        tell::unwritten();
-    } else {
-        say_why(name, all);
+fn finish(rt: &impl Host, name: &[u8], all: Answer) -> u64 {
+    let written = report::print(rt, all);
+    match written {
+        Ok(()) => say_why(rt, name, all),
+        Err(why) => tell::unwritten(rt, why),
     }
-    heartbeat_status(written, heartbeat::from_low(all))
+    heartbeat_status(written.is_ok(), heartbeat::from_low(all))
 }
 
 // Says why a heartbeat is refused, where it is.
-fn say_why(name: &[u8], all: Answer) {
+fn say_why(rt: &impl Host, name: &[u8], all: Answer) {
     match all {
         Answer::Summed(_) => {}
         Answer::Refused(number) => {
-            tell::refused_pattern(name, number);
+            tell::refused_pattern(rt, name, number);
         }
     }
 }

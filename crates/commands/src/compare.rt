@@ -4,105 +4,135 @@ use crate::listing::list;
 use crate::pairs;
 use crate::pairs::{Reach, Want, further, unread};
 use console::status::TROUBLE;
-use console::{files, tell, words};
+use console::{Host, files, tell, words};
+use std::io;
+use std::io::{Read, Seek, SeekFrom};
 use summary::Answer;
 
 // The most windows of a record: 200 that are full, and a last one that is not.
 const WINDOWS: u32 = 201;
 
-pub fn run() -> u64 {
-    let asked = words::all();
+pub fn run(rt: &impl Host) -> u64 {
+    let asked = words::all(rt);
     if asked.unknown | asked.bytes | asked.sheet | (asked.files != 2) {
-        tell::usage(b"compare FIRST SECOND");
+        tell::usage(rt, b"compare FIRST SECOND");
         return TROUBLE;
     }
-    let mut first = io::buffer();
-    let n = os::arg(asked.first, &mut first);
-    if os::errno() != 0 {
-        tell::trouble(&first);
-        return TROUBLE;
-    }
-    let mut second = io::buffer();
-    let m = os::arg(asked.second, &mut second);
-    if os::errno() != 0 {
-        tell::trouble(&second);
-        return TROUBLE;
-    }
-    compare(&first[..n], &second[..m])
+    let mut first = [0u8; 4096];
+    let n = match words::word_into(rt, asked.first, &mut first) {
+        Ok(n) => n,
+        Err(why) => {
+            tell::trouble(rt, &first, why);
+            return TROUBLE;
+        }
+    };
+    let mut second = [0u8; 4096];
+    let m = match words::word_into(rt, asked.second, &mut second) {
+        Ok(n) => n,
+        Err(why) => {
+            tell::trouble(rt, &second, why);
+            return TROUBLE;
+        }
+    };
+    compare(rt, &first[..n], &second[..m])
 }
 
 // Opens both files, tests them, and lists where they part. Standard input has one place to read from, and so is one file.
-fn compare(first: &[u8], second: &[u8]) -> u64 {
+fn compare<R: Host>(rt: &R, first: &[u8], second: &[u8]) -> u64 {
     if tell::is_input(first) & tell::is_input(second) {
-        tell::say(first, b"cannot be two files");
+        tell::say(rt, first, b"cannot be two files");
         return TROUBLE;
     }
-    let a = opened(first);
-    if a < 0 {
+    let Some(mut a) = opened(rt, first) else {
         return TROUBLE;
-    }
-    let b = opened(second);
-    if b < 0 {
+    };
+    let Some(mut b) = opened(rt, second) else {
         return TROUBLE;
-    }
-    let reach = tested(a, b);
-    judged(reach, a, b, first, second)
+    };
+    let reach = tested(&mut a, &mut b);
+    judged(rt, reach, &mut a, &mut b, first, second)
 }
 
 // Lists where they part, or says what is wrong with one of them: with the first before the second, as far as it was read.
-fn judged(reach: Reach, a: i32, b: i32, first: &[u8], second: &[u8]) -> u64 {
+fn judged<F: Read + Seek>(
+    rt: &impl Host,
+    reach: Reach,
+    a: &mut F,
+    b: &mut F,
+    first: &[u8],
+    second: &[u8],
+) -> u64 {
     let fed = reach.fed;
     let x = reach.first;
     let y = reach.second;
-    if x.lost {
-        tell::trouble(first);
+    if let Some(why) = x.lost {
+        tell::trouble(rt, first, why);
         return TROUBLE;
     }
     let one = fed.first;
     let two = fed.second;
     // Where the second cannot be read the first is read no further.
-    if y.lost & !x.last & !one.ends() {
-        tell::trouble(second);
-        return TROUBLE;
+    if !x.last & !one.ends() {
+        if let Some(why) = y.lost {
+            tell::trouble(rt, second, why);
+            return TROUBLE;
+        }
     }
     match one.finish() {
         Answer::Summed(s) => {
-            if y.lost {
-                tell::trouble(second);
+            if let Some(why) = y.lost {
+                tell::trouble(rt, second, why);
                 return TROUBLE;
             }
             match two.finish() {
-                Answer::Summed(t) => list(a, b, first, second, s, t),
-                Answer::Refused(n) => refuse(n, second),
+                Answer::Summed(t) => list(rt, a, b, first, second, s, t),
+                Answer::Refused(n) => refuse(rt, n, second),
             }
         }
-        Answer::Refused(n) => refuse(n, first),
+        Answer::Refused(n) => refuse(rt, n, first),
     }
 }
 
-// Opens a file for two readings. Where that cannot be it says why, and answers a number below 0.
-fn opened(name: &[u8]) -> i32 {
-    let fd = files::opened(name);
-    if fd < 0 {
-        return -1;
+// Opens a file for two readings. Where that cannot be it says why, and answers none.
+fn opened<R: Host>(rt: &R, name: &[u8]) -> Option<R::File> {
+    if tell::is_input(name) {
+        return at_first(rt, name, rt.input_again());
     }
-    let at = libc::lseek(fd, 0, libc::SEEK_CUR);
-    if at < 0 {
-        tell::say(
-            name,
-            b"cannot be read twice, as a pipe's bytes are gone once read",
-        );
-        return -1;
-    }
+    let file = files::opened(rt, name)?;
+    at_first(rt, name, Ok(file))
+}
+
+// A file, if it stands at its beginning and can be taken back there.
+fn at_first<F: Seek + Drop>(rt: &impl Host, name: &[u8], opened: io::Result<F>) -> Option<F> {
+    let Ok(mut file) = opened else {
+        return once(rt, name);
+    };
+    let Ok(at) = file.seek(SeekFrom::Current(0)) else {
+        return once(rt, name);
+    };
     if at != 0 {
-        tell::say(name, b"does not stand at its beginning, and is read twice");
-        return -1;
+        tell::say(
+            rt,
+            name,
+            b"does not stand at its beginning, and is read twice",
+        );
+        return None;
     }
-    fd
+    Some(file)
+}
+
+// Says that a file can be read but once.
+fn once<F>(rt: &impl Host, name: &[u8]) -> Option<F> {
+    tell::say(
+        rt,
+        name,
+        b"cannot be read twice, as a pipe's bytes are gone once read",
+    );
+    None
 }
 
 // The first reading: both files, to their ends or to the first fault that counts.
-fn tested(a: i32, b: i32) -> Reach {
+fn tested<F: Read>(a: &mut F, b: &mut F) -> Reach {
     let mut w = [0u8; 30000];
     let mut v = [0u8; 30000];
     let mut reach = unread();
@@ -126,7 +156,7 @@ fn tests_first(reach: Reach) -> Want {
     let y = reach.second;
     let one = fed.first;
     Want {
-        more: !x.last & !x.lost & !y.lost & !one.ends(),
+        more: !x.last & !x.lost.is_some() & !y.lost.is_some() & !one.ends(),
         keep: pairs::WINDOW,
     }
 }
@@ -139,17 +169,16 @@ fn tests_second(reach: Reach) -> Want {
     let one = fed.first;
     let two = fed.second;
     Want {
-        more: !y.last & !x.lost & !y.lost & !one.ends() & !two.ends(),
+        more: !y.last & !x.lost.is_some() & !y.lost.is_some() & !one.ends() & !two.ends(),
         keep: pairs::WINDOW,
     }
 }
 
 // Prints a refusal's number, and says which file is refused.
-fn refuse(n: u64, name: &[u8]) -> u64 {
-    if !report::print(Answer::Refused(n)) {
-        tell::unwritten();
-        return TROUBLE;
+fn refuse(rt: &impl Host, n: u64, name: &[u8]) -> u64 {
+    match report::print(rt, Answer::Refused(n)) {
+        Ok(()) => tell::refused_record(rt, name, n),
+        Err(why) => tell::unwritten(rt, why),
     }
-    tell::refused_record(name, n);
     TROUBLE
 }

@@ -1,6 +1,6 @@
 // `rpr join [--sheet] SUMMARY..`: summaries, each a file of 48 bytes, joined in the order given.
 use console::status::{TROUBLE, status_of};
-use console::{files, tell, words};
+use console::{Host, files, tell, words};
 use summary::Answer;
 
 // The files so far: their summaries joined; whether there was any, and whether standard input was among them; and whether one could not be read or was refused, which is
@@ -14,13 +14,13 @@ struct Joined {
     status: u64,
 }
 
-pub fn run() -> u64 {
-    let asked = words::all();
+pub fn run(rt: &impl Host) -> u64 {
+    let asked = words::all(rt);
     if asked.unknown | asked.bytes | (asked.files == 0) {
-        tell::usage(b"join [--sheet] SUMMARY..");
+        tell::usage(rt, b"join [--sheet] SUMMARY..");
         return TROUBLE;
     }
-    let count = os::arg_count();
+    let count = words::count(rt);
     let mut joined = Joined {
         sum: Answer::Refused(2),
         any: false,
@@ -31,10 +31,10 @@ pub fn run() -> u64 {
     let mut ended = false;
     let mut i = 1;
     while i < count {
-        let word = words::word_at(i, ended);
+        let word = words::word_at(rt, i, ended);
         ended = ended | words::ends(word);
         if words::is_file(word) {
-            joined = with_word(joined, i, asked.sheet);
+            joined = with_word(rt, joined, i, asked.sheet);
             if joined.over {
                 return joined.status;
             }
@@ -42,47 +42,48 @@ pub fn run() -> u64 {
         i += 1;
     }
     let sum = joined.sum;
-    let written = files::print(sum, asked.sheet);
-    if !written {
-        tell::unwritten();
+    let written = files::print(rt, sum, asked.sheet);
+    if let Err(why) = written {
+        tell::unwritten(rt, why);
     }
-    status_of(written, sum)
+    status_of(written.is_ok(), sum)
 }
 
 // The files so far and the one that a word names.
-fn with_word(before: Joined, at: usize, sheet: bool) -> Joined {
-    let mut name = io::buffer();
-    let n = os::arg(at, &mut name);
-    if os::errno() != 0 {
-        tell::trouble(&name);
-        return troubled(before);
-    }
+fn with_word(rt: &impl Host, before: Joined, at: usize, sheet: bool) -> Joined {
+    let mut name = [0u8; 4096];
+    let n = match words::word_into(rt, at, &mut name) {
+        Ok(n) => n,
+        Err(why) => {
+            tell::trouble(rt, &name, why);
+            return troubled(before);
+        }
+    };
     let input = tell::is_input(&name[..n]);
     if before.input & input {
-        tell::say(&name[..n], b"cannot be two files");
+        tell::say(rt, &name[..n], b"cannot be two files");
         return troubled(before);
     }
-    let mut joined = with_file(before, &name[..n], sheet);
+    let mut joined = with_file(rt, before, &name[..n], sheet);
     joined.input = before.input | input;
     joined
 }
 
 // The files so far and one more.
-fn with_file(before: Joined, name: &[u8], sheet: bool) -> Joined {
-    let fd = files::opened(name);
-    if fd < 0 {
+fn with_file<R: Host>(rt: &R, before: Joined, name: &[u8], sheet: bool) -> Joined {
+    let Some(mut file) = files::opened(rt, name) else {
         return troubled(before);
-    }
+    };
     let mut room = [0u8; 49];
-    let got = files::fill(fd, &mut room, 0);
+    let got = files::fill(&mut file, &mut room, 0);
     let end = got.end;
-    if got.failed {
-        tell::trouble(name);
+    if let Some(why) = got.failed {
+        tell::trouble(rt, name, why);
         return troubled(before);
     }
-    files::close(fd);
+    files::close(file);
     let sum = with_bytes(before, &room[..end]);
-    checked(before, sum, name, sheet)
+    checked(rt, before, sum, name, sheet)
 }
 
 // The summaries so far and the one that a file's bytes hold.
@@ -95,7 +96,7 @@ fn with_bytes(before: Joined, bytes: &[u8]) -> Answer {
 }
 
 // The files with the last one: where it is refused that is printed, and said of it.
-fn checked(before: Joined, sum: Answer, name: &[u8], sheet: bool) -> Joined {
+fn checked(rt: &impl Host, before: Joined, sum: Answer, name: &[u8], sheet: bool) -> Joined {
     match sum {
         Answer::Summed(_) => Joined {
             sum: sum,
@@ -105,13 +106,12 @@ fn checked(before: Joined, sum: Answer, name: &[u8], sheet: bool) -> Joined {
             status: TROUBLE,
         },
         Answer::Refused(number) => {
-            let written = files::print(sum, sheet);
-            if written {
-                tell::refused_summary(name, number);
-            } else {
-                tell::unwritten();
+            let written = files::print(rt, sum, sheet);
+            match written {
+                Ok(()) => tell::refused_summary(rt, name, number),
+                Err(why) => tell::unwritten(rt, why),
             }
-            let status = status_of(written, sum);
+            let status = status_of(written.is_ok(), sum);
             Joined {
                 sum: sum,
                 any: true,

@@ -5,8 +5,9 @@ use crate::pairs;
 use crate::pairs::{Held, Reach, Want, further, unread};
 use apart::{Place, Printed, Side, Stand, Walk, together};
 use console::status::{TROUBLE, same_status};
-use console::tell;
+use console::{Host, tell};
 use feed::{Feed, Stage};
+use std::io::{Read, Seek, SeekFrom};
 use summary::{Answer, Summary};
 
 // The most rounds of a listing: 200 pages are full, and behind each other page a window of either file is read, 201 of each at most.
@@ -22,8 +23,16 @@ struct Next {
 
 // The second reading: page after page, each written before more is read, and both summaries in the end. The records are the same where their settings are and nothing is
 // listed.
-pub fn list(a: i32, b: i32, first: &[u8], second: &[u8], s: Summary, t: Summary) -> u64 {
-    if !begins(a, b, s, t) {
+pub fn list<F: Read + Seek>(
+    rt: &impl Host,
+    a: &mut F,
+    b: &mut F,
+    first: &[u8],
+    second: &[u8],
+    s: Summary,
+    t: Summary,
+) -> u64 {
+    if !begins(rt, a, b, s, t) {
         return TROUBLE;
     }
     let mut room = room();
@@ -34,23 +43,23 @@ pub fn list(a: i32, b: i32, first: &[u8], second: &[u8], s: Summary, t: Summary)
     let mut same = same_settings(s, t);
     let mut k: u32 = 0;
     while k < ROUNDS {
-        if !stands(reach, first, second, s, t) {
+        if !stands(rt, reach, first, second, s, t) {
             return TROUBLE;
         }
         let n = first_end(reach);
         let m = second_end(reach);
-        let page = page(&w[..n], &v[..m], reach, walk, s, t, &mut room);
-        if !page.written {
-            tell::unwritten();
+        let page = page(rt, &w[..n], &v[..m], reach, walk, s, t, &mut room);
+        if let Err(why) = page.written {
+            tell::unwritten(rt, why);
             return TROUBLE;
         }
         same = same & page.empty;
         walk = page.walk;
         let next = wanted(&w[..n], &v[..m], reach, walk, s, t);
         if next.ended {
-            return finish(s, t, same);
+            return finish(rt, s, t, same);
         }
-        if !comes(reach, next, first, second) {
+        if !comes(rt, reach, next, first, second) {
             return TROUBLE;
         }
         reach = onward(a, b, &mut w, &mut v, reach, next);
@@ -61,18 +70,18 @@ pub fn list(a: i32, b: i32, first: &[u8], second: &[u8], s: Summary, t: Summary)
 }
 
 // Prints the settings that differ, and takes both files to their beginnings; answers whether all of it was written.
-fn begins(a: i32, b: i32, s: Summary, t: Summary) -> bool {
-    if !apart::print_opening(s.limits, t.limits) {
-        tell::unwritten();
+fn begins<F: Seek>(rt: &impl Host, a: &mut F, b: &mut F, s: Summary, t: Summary) -> bool {
+    if let Err(why) = apart::print_opening(rt, s.limits, t.limits) {
+        tell::unwritten(rt, why);
         return false;
     }
-    libc::lseek(a, 0, libc::SEEK_SET);
-    libc::lseek(b, 0, libc::SEEK_SET);
+    let _ = a.seek(SeekFrom::Start(0));
+    let _ = b.seek(SeekFrom::Start(0));
     true
 }
 
 // The first window of each file.
-fn begun(a: i32, b: i32, w: &mut [u8], v: &mut [u8]) -> Reach
+fn begun<F: Read>(a: &mut F, b: &mut F, w: &mut [u8], v: &mut [u8]) -> Reach
     requires { (length w.old ≡ 30000) × (length v.old ≡ 30000) }
     ensures { (result.first.end ≤ 30000) × (result.second.end ≤ 30000) }
 {
@@ -126,6 +135,7 @@ fn side(held: Held, sum: Summary) -> Side {
 
 // Prints a page. Windows that are equal from equal places on list nothing: all their whole items are passed at once.
 fn page(
+    rt: &impl Host,
     w: &[u8],
     v: &[u8],
     reach: Reach,
@@ -141,13 +151,13 @@ fn page(
             return Printed {
                 walk: behind(reach, w.len()),
                 empty: true,
-                written: true,
+                written: Ok(()),
             };
         }
     }
     let x = reach.first;
     let y = reach.second;
-    apart::print_page(w, v, side(x, s), side(y, t), walk, room)
+    apart::print_page(rt, w, v, side(x, s), side(y, t), walk, room)
 }
 
 // The walk behind the last whole item of equal windows of so many bytes: what is fed is all that was read, and what it holds stands behind that item.
@@ -225,24 +235,31 @@ fn is_ended(stand: Stand) -> bool {
 }
 
 // Whether what is wanted can come: a file of which more is wanted, and which has ended, is not what it was; that is said.
-fn comes(reach: Reach, next: Next, first: &[u8], second: &[u8]) -> bool {
+fn comes(rt: &impl Host, reach: Reach, next: Next, first: &[u8], second: &[u8]) -> bool {
     let x = reach.first;
     let y = reach.second;
     let one = next.first;
     let two = next.second;
     if x.last & one.more {
-        changed(first);
+        changed(rt, first);
         return false;
     }
     if y.last & two.more {
-        changed(second);
+        changed(rt, second);
         return false;
     }
     true
 }
 
 // Both files with what is wanted of them,
-fn onward(a: i32, b: i32, w: &mut [u8], v: &mut [u8], reach: Reach, next: Next) -> Reach
+fn onward<F: Read>(
+    a: &mut F,
+    b: &mut F,
+    w: &mut [u8],
+    v: &mut [u8],
+    reach: Reach,
+    next: Next,
+) -> Reach
     requires { (length w.old ≡ 30000) × (length v.old ≡ 30000) × (reach.first.end ≤ 30000) × (reach.second.end ≤ 30000) }
     ensures { (result.first.end ≤ 30000) × (result.second.end ≤ 30000) }
 {
@@ -284,9 +301,9 @@ fn room() -> [u8; 440000]
 }
 
 // Prints both summaries: what both files came to at both readings.
-fn finish(s: Summary, t: Summary, same: bool) -> u64 {
-    if !apart::print_closing(Answer::Summed(s), Answer::Summed(t)) {
-        tell::unwritten();
+fn finish(rt: &impl Host, s: Summary, t: Summary, same: bool) -> u64 {
+    if let Err(why) = apart::print_closing(rt, Answer::Summed(s), Answer::Summed(t)) {
+        tell::unwritten(rt, why);
         return TROUBLE;
     }
     same_status(same)
@@ -294,26 +311,33 @@ fn finish(s: Summary, t: Summary, same: bool) -> u64 {
 
 // Whether both files could be read, and are what they were at the first reading, as far as can be seen: they have no fault, and come to the same where they end. What is
 // not so is said.
-fn stands(reach: Reach, first: &[u8], second: &[u8], s: Summary, t: Summary) -> bool {
+fn stands(
+    rt: &impl Host,
+    reach: Reach,
+    first: &[u8],
+    second: &[u8],
+    s: Summary,
+    t: Summary,
+) -> bool {
     let x = reach.first;
     let y = reach.second;
-    if x.lost {
-        tell::trouble(first);
+    if let Some(why) = x.lost {
+        tell::trouble(rt, first, why);
         return false;
     }
-    if y.lost {
-        tell::trouble(second);
+    if let Some(why) = y.lost {
+        tell::trouble(rt, second, why);
         return false;
     }
     let fed = reach.fed;
     let one = fed.first;
     let two = fed.second;
     if !as_before(one, x, s) {
-        changed(first);
+        changed(rt, first);
         return false;
     }
     if !as_before(two, y, t) {
-        changed(second);
+        changed(rt, second);
         return false;
     }
     true
@@ -327,6 +351,6 @@ fn as_before(fed: Feed, held: Held, sum: Summary) -> bool {
     !fed.ends()
 }
 
-fn changed(name: &[u8]) {
-    tell::say(name, b"changed while it was read");
+fn changed(rt: &impl Host, name: &[u8]) {
+    tell::say(rt, name, b"changed while it was read");
 }

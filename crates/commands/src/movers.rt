@@ -4,8 +4,7 @@ ghost use Rattle.std.specs.Prelude.{◌≡◌, ℕ, ◌≤◌, length};
 ghost use Rattle.roll.specs.declared.Moved.TheVariants.{Written};
 
 use console::status::{TROUBLE, status_of};
-use console::{files, tell, words};
-use libc::STDOUT_FILENO;
+use console::{Host, files, tell, words};
 use roll::Moved;
 use summary::Answer;
 
@@ -17,51 +16,52 @@ const RECORD: usize = 6000018;
 const ROOM: usize = 6000014;
 
 // Reads the file that the words name, and writes its record: rolled, or unrolled.
-pub fn run(rolls: bool, record: &mut [u8], room: &mut [u8]) -> u64 {
-    let asked = words::all();
+pub fn run(rt: &impl Host, rolls: bool, record: &mut [u8], room: &mut [u8]) -> u64 {
+    let asked = words::all(rt);
     if asked.unknown | asked.bytes | asked.sheet | (1 < asked.files) {
-        usage(rolls);
+        usage(rt, rolls);
         return TROUBLE;
     }
     if asked.files == 0 {
-        return of_file(b"-", rolls, record, room);
+        return of_file(rt, b"-", rolls, record, room);
     }
-    let mut name = io::buffer();
-    let n = os::arg(asked.first, &mut name);
-    if os::errno() != 0 {
-        tell::trouble(&name);
-        return TROUBLE;
-    }
-    of_file(&name[..n], rolls, record, room)
+    let mut name = [0u8; 4096];
+    let n = match words::word_into(rt, asked.first, &mut name) {
+        Ok(n) => n,
+        Err(why) => {
+            tell::trouble(rt, &name, why);
+            return TROUBLE;
+        }
+    };
+    of_file(rt, &name[..n], rolls, record, room)
 }
 
-fn usage(rolls: bool) {
+fn usage(rt: &impl Host, rolls: bool) {
     if rolls {
-        tell::usage(b"roll [FILE]");
+        tell::usage(rt, b"roll [FILE]");
     } else {
-        tell::usage(b"unroll [FILE]");
+        tell::usage(rt, b"unroll [FILE]");
     }
 }
 
 // Reads a file to its end, or to where the rest can change nothing, and moves its record.
-fn of_file(name: &[u8], rolls: bool, record: &mut [u8], room: &mut [u8]) -> u64 {
+fn of_file<R: Host>(rt: &R, name: &[u8], rolls: bool, record: &mut [u8], room: &mut [u8]) -> u64 {
     if (record.len() < RECORD) | (room.len() < ROOM) {
-        tell::say(name, b"cannot be moved, as too little memory is lent");
+        tell::say(rt, name, b"cannot be moved, as too little memory is lent");
         return TROUBLE;
     }
-    let fd = files::opened(name);
-    if fd < 0 {
+    let Some(mut file) = files::opened(rt, name) else {
+        return TROUBLE;
+    };
+    let got = files::fill(&mut file, record, 0);
+    if let Some(why) = got.failed {
+        tell::trouble(rt, name, why);
         return TROUBLE;
     }
-    let got = files::fill(fd, record, 0);
-    if got.failed {
-        tell::trouble(name);
-        return TROUBLE;
-    }
-    files::close(fd);
+    files::close(file);
     let end = got.end;
     let moved = moved(rolls, &record[..end], room);
-    finish(name, moved, rolls, room)
+    finish(rt, name, moved, rolls, room)
 }
 
 // Leaves the record in the room, rolled or unrolled.
@@ -75,28 +75,33 @@ fn moved(rolls: bool, record: &[u8], room: &mut [u8]) -> Moved
 }
 
 // Writes what a record was moved to, or its refusal, and answers the status.
-fn finish(name: &[u8], moved: Moved, rolls: bool, room: &[u8]) -> u64
+fn finish(rt: &impl Host, name: &[u8], moved: Moved, rolls: bool, room: &[u8]) -> u64
     requires { (n : ℕ) → moved ≡ Written n → n ≤ length room.now }
 {
     match moved {
         Moved::Written(n) => {
             let end = n as usize;
-            if !io::write_all(STDOUT_FILENO, &room[..end]) {
-                tell::unwritten();
+            if let Err(why) = rt.write_all(&room[..end]) {
+                tell::unwritten(rt, why);
                 return TROUBLE;
             }
             0
         }
-        Moved::Refused(n) => refuse(name, n, rolls),
+        Moved::Refused(n) => refuse(rt, name, n, rolls),
     }
 }
 
 // Says which file is refused and why.
-fn refuse(name: &[u8], n: u64, rolls: bool) -> u64 {
+fn refuse(rt: &impl Host, name: &[u8], n: u64, rolls: bool) -> u64 {
     if rolls & (n == 2) {
-        tell::refused(name, n, b"the bytes are not a whole record without runs");
+        tell::refused(
+            rt,
+            name,
+            n,
+            b"the bytes are not a whole record without runs",
+        );
     } else {
-        tell::refused_record(name, n);
+        tell::refused_record(rt, name, n);
     }
     status_of(true, Answer::Refused(n))
 }

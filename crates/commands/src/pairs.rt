@@ -2,18 +2,20 @@
 ghost use Rattle.std.specs.Prelude.{◌≡◌, ◌≤◌, length};
 
 use console::files::fill;
+use std::io;
+use std::io::Read;
 use window::Pair;
 
 // The bytes of a window.
 pub const WINDOW: usize = 30000;
 
-// What a window holds of a file: where its bytes end, and where those begin that were read last; whether no byte stands behind them, and whether a read failed.
+// What a window holds of a file: where its bytes end, and where those begin that were read last; whether no byte stands behind them, and why a read failed, if one did.
 #[derive(Clone, Copy)]
 pub struct Held {
     pub from: usize,
     pub end: usize,
     pub last: bool,
-    pub lost: bool,
+    pub lost: Option<io::Error>,
 }
 
 // Both files as far as they are read: what their bytes come to so far, and their windows.
@@ -39,7 +41,7 @@ pub fn unread() -> Reach
         from: 0,
         end: 0,
         last: false,
-        lost: false,
+        lost: None,
     };
     let fed = window::both();
     Reach {
@@ -50,9 +52,9 @@ pub fn unread() -> Reach
 }
 
 // Both files with the next bytes of those of which more is wanted. Where the first cannot be read the second is left, so that the reason stands.
-pub fn further(
-    a: i32,
-    b: i32,
+pub fn further<F: Read>(
+    a: &mut F,
+    b: &mut F,
     first: &mut [u8],
     second: &mut [u8],
     before: Reach,
@@ -66,7 +68,7 @@ pub fn further(
     let x = before.first;
     let y = before.second;
     let x = next(a, first, x, one);
-    if x.lost {
+    if x.lost.is_some() {
         return Reach {
             fed: fed,
             first: x,
@@ -87,7 +89,7 @@ pub fn further(
 }
 
 // What a window holds once it is refilled, where more is wanted and the file has not ended.
-fn next(fd: i32, window: &mut [u8], held: Held, want: Want) -> Held
+fn next<F: Read>(file: &mut F, window: &mut [u8], held: Held, want: Want) -> Held
     requires { (length window.old ≡ 30000) × (held.end ≤ 30000) }
     ensures { (result.from ≤ result.end) × (result.end ≤ 30000) }
 {
@@ -97,11 +99,11 @@ fn next(fd: i32, window: &mut [u8], held: Held, want: Want) -> Held
             from: end,
             end: end,
             last: held.last,
-            lost: false,
+            lost: None,
         };
     }
     let kept = keep(window, want.keep, end);
-    let got = fill(fd, window, kept);
+    let got = fill(file, window, kept);
     let end = got.end;
     Held {
         from: decide::lesser(kept as u64, end as u64) as usize,

@@ -1,6 +1,6 @@
-// The program compare: the same as the command `rpr compare`, but for its exit status, which a program of the language has none of.
+// The program compare: the same as the command `rpr compare`, but for its exit status, which this program has none of.
 #![tactic(auto)]
 
-fn main() {
-    commands::rpr_main_compare();
+fn main(rt: HostRuntime) {
+    commands::rpr_main_compare(&rt);
 }

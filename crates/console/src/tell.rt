@@ -1,8 +1,10 @@
 // What is said on standard error: one line, and nothing where all is done. A line is put together in a room and written at once, so that the lines of commands that
-// run side by side stay whole; the system's own words are the kit's to write, behind what they are of.
+// run side by side stay whole; the system's own words stand behind what they are of.
 ghost use Rattle.std.specs.Prelude.{◌≡◌, ◌≤◌, length};
 
-use libc::STDERR_FILENO;
+use crate::host::Host;
+use std::io;
+use std::io::{Cursor, Write};
 
 // Whether a file's name stands for standard input.
 pub fn is_input(name: &[u8]) -> bool {
@@ -10,100 +12,172 @@ pub fn is_input(name: &[u8]) -> bool {
 }
 
 // Says how a command is called.
-pub fn usage(words: &[u8]) {
+pub fn usage(rt: &impl Host, words: &[u8]) {
     let mut room = room();
     let at = put(&mut room, 0, b"usage: rpr ");
-    end_line(&mut room, at, words);
+    end_line(rt, &mut room, at, words);
 }
 
 // Says that a file cannot be read, and the system's reason.
-pub fn trouble(name: &[u8]) {
+pub fn trouble(rt: &impl Host, name: &[u8], why: io::Error) {
     let mut room = room();
-    let end = put_name(&mut room, name);
-    os::fail(&room[..end]);
+    let at = put_name(&mut room, name);
+    end_trouble(rt, &mut room, at, why);
 }
 
 // Says that standard output cannot be written, and the system's reason.
-pub fn unwritten() {
-    os::fail(b"rpr: standard output");
+pub fn unwritten(rt: &impl Host, why: io::Error) {
+    trouble_of(rt, b"rpr: standard output", why);
+}
+
+// Says what there is trouble with, and the system's reason.
+pub fn trouble_of(rt: &impl Host, what: &[u8], why: io::Error) {
+    let mut room = room();
+    let at = put(&mut room, 0, what);
+    end_trouble(rt, &mut room, at, why);
 }
 
 // Says words of a file.
-pub fn say(name: &[u8], words: &[u8]) {
+pub fn say(rt: &impl Host, name: &[u8], words: &[u8]) {
     let mut room = room();
     let at = put_name(&mut room, name);
     let at = put(&mut room, at, b": ");
-    end_line(&mut room, at, words);
+    end_line(rt, &mut room, at, words);
 }
 
 // Says words of a word of the command line that is no file.
-pub fn say_word(word: &[u8], words: &[u8]) {
+pub fn say_word(rt: &impl Host, word: &[u8], words: &[u8]) {
     let mut room = room();
     let at = put(&mut room, 0, b"rpr: ");
     let at = put(&mut room, at, word);
     let at = put(&mut room, at, b": ");
-    end_line(&mut room, at, words);
+    end_line(rt, &mut room, at, words);
 }
 
 // Says a refusal of a file, with its number and what that means there.
-pub fn refused(name: &[u8], number: u64, words: &[u8]) {
+pub fn refused(rt: &impl Host, name: &[u8], number: u64, words: &[u8]) {
     let mut digits = [0u8; 20];
-    let n = io::decimal(number, &mut digits);
+    let n = decimal(number, &mut digits);
     let mut room = room();
     let at = put_name(&mut room, name);
     let at = put(&mut room, at, b": refused ");
     let at = put(&mut room, at, &digits[..n]);
     let at = put(&mut room, at, b": ");
-    end_line(&mut room, at, words);
+    end_line(rt, &mut room, at, words);
 }
 
 // Says a refusal of a record, by its number.
-pub fn refused_record(name: &[u8], number: u64) {
+pub fn refused_record(rt: &impl Host, name: &[u8], number: u64) {
     if number == 1 {
-        refused(name, number, b"a setting is outside its range");
+        refused(rt, name, number, b"a setting is outside its range");
     } else if number == 2 {
-        refused(name, number, b"the bytes are not a whole record");
+        refused(rt, name, number, b"the bytes are not a whole record");
     } else if number == 3 {
-        refused(name, number, b"the size of a send is outside its range");
+        refused(rt, name, number, b"the size of a send is outside its range");
     } else {
-        refused(name, number, b"over 1,000,000 events");
+        refused(rt, name, number, b"over 1,000,000 events");
     }
 }
 
 // Says a refusal of a heartbeat's pattern, by its number.
-pub fn refused_pattern(name: &[u8], number: u64) {
+pub fn refused_pattern(rt: &impl Host, name: &[u8], number: u64) {
     if number == 3 {
         refused(
+            rt,
             name,
             number,
             b"over 256 events, or the size of a send is outside its range",
         );
     } else if number == 9 {
-        refused(name, number, b"over 1,000,000 events with so many repeats");
+        refused(
+            rt,
+            name,
+            number,
+            b"over 1,000,000 events with so many repeats",
+        );
     } else {
-        refused_record(name, number);
+        refused_record(rt, name, number);
     }
 }
 
 // Says a refusal of a summary that is joined to those before it, by its number.
-pub fn refused_summary(name: &[u8], number: u64) {
+pub fn refused_summary(rt: &impl Host, name: &[u8], number: u64) {
     if number == 2 {
-        refused(name, number, b"not the 48 bytes of a summary");
+        refused(rt, name, number, b"not the 48 bytes of a summary");
     } else if number == 3 {
-        refused(name, number, b"the summary is outside its range");
+        refused(rt, name, number, b"the summary is outside its range");
     } else if number == 10 {
         refused(
+            rt,
             name,
             number,
             b"its settings are not those of the files before it",
         );
     } else {
         refused(
+            rt,
             name,
             number,
             b"over 1,000,000 events with the files before it",
         );
     }
+}
+
+// Puts a number in decimal at the front of a room, and answers how many digits it has.
+fn decimal(number: u64, room: &mut [u8; 20]) -> usize
+    ensures { result ≤ length room.new }
+{
+    let mut to = Cursor::new(&mut room[..]);
+    let _ = write!(to, "{number}");
+    within(to.position(), 20)
+}
+
+// Puts the system's reason for an error at the front of a room, without the error's number behind it, and answers its length.
+fn reason(why: io::Error, room: &mut [u8; 320]) -> usize
+    ensures { result ≤ length room.new }
+{
+    let mut to = Cursor::new(&mut room[..]);
+    let _ = write!(to, "{why}");
+    let end = within(to.position(), 320);
+    if why.raw_os_error().is_none() {
+        return end;
+    }
+    unnumbered(&room[..end])
+}
+
+// A place that a room of this length has, at most its end.
+fn within(place: u64, length: usize) -> usize
+    ensures { result ≤ length }
+{
+    if (length as u64) < place {
+        return length;
+    }
+    place as usize
+}
+
+// The length of a reason before the last bracket that opens in it, and the blank before that.
+fn unnumbered(text: &[u8]) -> usize
+    ensures { result ≤ length text.now }
+{
+    let mut end = text.len();
+    let mut i = 1;
+    while i < text.len() {
+        if (text[i] == b'(') & (text[i - 1] == b' ') {
+            end = i - 1;
+        }
+        i += 1;
+    }
+    end
+}
+
+// Ends a line in a room with the system's reason, and writes it.
+fn end_trouble(rt: &impl Host, room: &mut [u8], at: usize, why: io::Error)
+    requires { at ≤ length room.old }
+{
+    let mut words = [0u8; 320];
+    let n = reason(why, &mut words);
+    let at = put(room, at, b": ");
+    end_line(rt, room, at, &words[..n]);
 }
 
 // The room for a line: a name of 4,096 bytes, the longest that a word is read for, and the words around it.
@@ -125,16 +199,17 @@ fn put_name(room: &mut [u8], name: &[u8]) -> usize
 }
 
 // Ends a line in a room with these words, and writes it.
-fn end_line(room: &mut [u8], at: usize, words: &[u8])
+fn end_line(rt: &impl Host, room: &mut [u8], at: usize, words: &[u8])
     requires { at ≤ length room.old }
 {
     let at = put(room, at, words);
     let end = put(room, at, b"\n");
-    io::write_all(STDERR_FILENO, &room[..end]);
+    // Where standard error cannot be written, nothing is left to say it on.
+    let _ = rt.tell(&room[..end]);
 }
 
 // Puts words into a room from a place on, as far as they fit, and answers the place behind them.
-fn put(room: &mut [u8], at: usize, words: &[u8]) -> usize
+pub fn put(room: &mut [u8], at: usize, words: &[u8]) -> usize
     requires { at ≤ length room.old }
     ensures { result ≤ length room.new }
 {

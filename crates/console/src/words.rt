@@ -1,4 +1,9 @@
 // The words behind a command's name: its options, wherever they stand, and the files.
+ghost use Rattle.std.specs.Prelude.{◌≤◌, length, IfOk};
+
+use std::env::FillError;
+use std::io;
+use std::rt::Env;
 
 // What a word is.
 #[derive(Clone, Copy)]
@@ -22,8 +27,8 @@ pub struct Asked {
 }
 
 // All words of the command.
-pub fn all() -> Asked {
-    let count = os::arg_count();
+pub fn all(rt: &impl Env) -> Asked {
+    let count = count(rt);
     let mut asked = Asked {
         bytes: false,
         sheet: false,
@@ -35,7 +40,7 @@ pub fn all() -> Asked {
     let mut ended = false;
     let mut i = 1;
     while i < count {
-        let word = word_at(i, ended);
+        let word = word_at(rt, i, ended);
         ended = ended | ends(word);
         asked = with(asked, word, i);
         i += 1;
@@ -82,13 +87,55 @@ fn with_file(before: Asked, at: usize) -> Asked {
 }
 
 // What the word at a place is; behind `--` every word is a file.
-pub fn word_at(i: usize, ended: bool) -> Word {
-    let mut text = io::buffer();
-    let n = os::arg(i, &mut text);
-    if ended | (os::errno() != 0) {
-        return Word::File;
+pub fn word_at(rt: &impl Env, i: usize, ended: bool) -> Word {
+    let mut text = [0u8; 4096];
+    match rt.arg(i, &mut text) {
+        Ok(n) => {
+            if ended {
+                return Word::File;
+            }
+            word_of(&text[..n])
+        }
+        Err(_) => Word::File,
     }
-    word_of(&text[..n])
+}
+
+// What the system says of a name that is too long, and of a word that is not there.
+const TOO_LONG: i32 = 36;
+
+const NOT_THERE: i32 = 22;
+
+// Puts the word at a place at the front of a room, and answers its length, or why it is not there whole.
+pub fn word_into(rt: &impl Env, i: usize, room: &mut [u8]) -> io::Result<usize>
+    ensures { IfOk result (λ n. n ≤ length room.new) }
+{
+    match rt.arg(i, room) {
+        Ok(n) => Ok(n),
+        Err(FillError::TooLong) => Err(io::Error::from_raw_os_error(TOO_LONG)),
+        Err(FillError::NotPresent) => Err(io::Error::from_raw_os_error(NOT_THERE)),
+    }
+}
+
+// How many words there are, the command's own name among them.
+pub fn count(rt: &impl Env) -> usize {
+    let mut i = 0;
+    while i < usize::MAX {
+        if !is_there(rt, i) {
+            return i;
+        }
+        i += 1;
+    }
+    i
+}
+
+// Whether a word stands at a place.
+fn is_there(rt: &impl Env, i: usize) -> bool {
+    let mut front = [0u8; 1];
+    match rt.arg(i, &mut front) {
+        Ok(_) => true,
+        Err(FillError::TooLong) => true,
+        Err(FillError::NotPresent) => false,
+    }
 }
 
 // Whether the words behind this one are files.

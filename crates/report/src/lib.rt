@@ -6,14 +6,14 @@ ghost use Rattle.wire.specs.Wire.{put};
 ghost use Rattle.report.specs.Text.{numeral, signed_numeral, line};
 ghost use Rattle.report.specs.Report.{ceiling_line, counts_text, started_text, settled_text, printed_of};
 
-use libc::STDOUT_FILENO;
+use std::io;
 use summary::{Answer, Outcome, Summary};
 
-// Prints a summary as six lines, or `refused N`, by one write; answers whether all of it was written.
-pub fn print(answer: Answer) -> bool {
+// Prints a summary as six lines, or `refused N`, by one write; answers whether all of it was written, or why not.
+pub fn print(rt: &impl Print, answer: Answer) -> io::Result<()> {
     let mut room = [0u8; 256];
     let end = fill(answer, &mut room);
-    io::write_all(STDOUT_FILENO, &room[..end])
+    rt.write_all(&room[..end])
 }
 
 // Fills a room's first bytes with what is printed of an answer, and answers how many they are.

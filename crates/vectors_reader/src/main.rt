@@ -10,17 +10,17 @@ use script::Input;
 use script::print::{number, text, wrong};
 
 // Walks the record on a line of this length, which stands in the room.
-fn run(room: &[u8], length: usize) {
-    let mut bytes = io::buffer();
-    let count = spelt(script::held(room, length), &mut bytes);
+fn run(rt: &impl Print, room: &[u8], length: usize) {
+    let mut bytes = [0u8; 4096];
+    let count = spelt(rt, script::held(rt, room, length), &mut bytes);
     if 0 < count {
-        walk(&bytes[0..count]);
+        walk(rt, &bytes[0..count]);
     }
 }
 
 // Puts the bytes that the words of a line spell at the start of `room`, each word's behind those before it. The answer is how many they are: none where
 // a word is wrong, which is said.
-fn spelt(line: &[u8], room: &mut [u8]) -> usize
+fn spelt(rt: &impl Print, line: &[u8], room: &mut [u8]) -> usize
     ensures { result ≤ length room.new }
 {
     let mut rest = line;
@@ -32,7 +32,7 @@ fn spelt(line: &[u8], room: &mut [u8]) -> usize
         let word = &rest[from..end];
         let part = script::bytes_of(word, &mut room[count..]);
         if part.wrong {
-            wrong(word, b"hex is wanted");
+            wrong(rt, word, b"hex is wanted");
             return 0;
         }
         count += part.count;
@@ -43,7 +43,7 @@ fn spelt(line: &[u8], room: &mut [u8]) -> usize
 }
 
 // Prints what a reader finds from the first item on.
-fn walk(bytes: &[u8]) {
+fn walk(rt: &impl Print, bytes: &[u8]) {
     let mut place = Place {
         at: reader::START,
         done: 0,
@@ -56,18 +56,18 @@ fn walk(bytes: &[u8]) {
                 count,
                 next,
             } => {
-                events(kind, number, count);
+                events(rt, kind, number, count);
                 place = Place {
                     at: next,
                     done: place.done + count as u64,
                 };
             }
             Step::End => {
-                text(b"end\n");
+                text(rt, b"end\n");
                 return;
             }
             Step::Faulty(n) => {
-                numbered(b"refused ", n);
+                numbered(rt, b"refused ", n);
                 return;
             }
         }
@@ -75,43 +75,43 @@ fn walk(bytes: &[u8]) {
 }
 
 // An item's lines, one for each of its events: a run prints what its ticks print one by one.
-fn events(kind: u16, number: u16, count: u32) {
+fn events(rt: &impl Print, kind: u16, number: u16, count: u32) {
     let mut left = count;
     while 0 < left {
-        event(kind, number);
+        event(rt, kind, number);
         left -= 1;
     }
 }
 
 // An event's line.
-fn event(kind: u16, number: u16) {
+fn event(rt: &impl Print, kind: u16, number: u16) {
     let amount = number as u64;
     if kind == 1 {
-        return numbered(b"waiting tick ", amount);
+        return numbered(rt, b"waiting tick ", amount);
     }
     if kind == 2 {
-        return numbered(b"idle tick ", amount);
+        return numbered(rt, b"idle tick ", amount);
     }
-    numbered(b"send ", amount)
+    numbered(rt, b"send ", amount)
 }
 
 // A line of a text and a number.
-fn numbered(label: &[u8], n: u64) {
-    number(label, n);
-    text(b"\n");
+fn numbered(rt: &impl Print, label: &[u8], n: u64) {
+    number(rt, label, n);
+    text(rt, b"\n");
 }
 
 // A proved loop has to end, and nothing says that an input does: the turns are counted down, from a number that no run uses up.
-fn main() {
-    let mut ahead = io::buffer();
+fn main(rt: HostRuntime) {
+    let mut ahead = [0u8; 4096];
     let buffer: &mut [u8] = &mut ahead;
-    let mut space = io::buffer();
+    let mut space = [0u8; 4096];
     let room: &mut [u8] = &mut space;
     let mut input = Input::whole();
     let mut turns = u64::MAX;
     while 0 < turns {
-        let got = script::line(input, buffer, room);
-        run(room, got.length);
+        let got = script::line(&rt, input, buffer, room);
+        run(&rt, room, got.length);
         if got.last {
             return;
         }

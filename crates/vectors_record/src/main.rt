@@ -28,22 +28,22 @@ fn fresh() -> Case {
 }
 
 // Runs the case on a line of this length, which stands in the room, and prints its name and what it comes to.
-fn run(room: &[u8], length: usize) {
-    let line = script::held(room, length);
+fn run(rt: &impl Print, room: &[u8], length: usize) {
+    let line = script::held(rt, room, length);
     let name = script::head(line);
     let from = name.from;
     let end = name.end;
     if from == end {
         return;
     }
-    text(&line[from..end]);
-    text(b"\n");
-    let case = applied_all(fresh(), &line[end..]);
-    report::print(answer(parted(case)));
+    text(rt, &line[from..end]);
+    text(rt, b"\n");
+    let case = applied_all(rt, fresh(), &line[end..]);
+    let _ = report::print(rt, answer(parted(case)));
 }
 
 // The case after all words of a text.
-fn applied_all(case: Case, words: &[u8]) -> Case {
+fn applied_all(rt: &impl Print, case: Case, words: &[u8]) -> Case {
     let mut next = case;
     let mut rest = words;
     while 0 < rest.len() {
@@ -53,20 +53,20 @@ fn applied_all(case: Case, words: &[u8]) -> Case {
         if from == end {
             return next;
         }
-        next = applied(next, &rest[from..end]);
+        next = applied(rt, next, &rest[from..end]);
         rest = &rest[end..];
     }
     next
 }
 
 // The case after a word.
-fn applied(case: Case, word: &[u8]) -> Case {
+fn applied(rt: &impl Print, case: Case, word: &[u8]) -> Case {
     if check::same(word, b"|") {
         return parted(case);
     }
     let before = case.feed;
     let whole = case.whole;
-    let feed = worded(before, word);
+    let feed = worded(rt, before, word);
     Case {
         feed: feed,
         whole: whole,
@@ -76,21 +76,21 @@ fn applied(case: Case, word: &[u8]) -> Case {
 }
 
 // A record after the bytes of a word, as often as it says.
-fn worded(feed: Feed, word: &[u8]) -> Feed {
+fn worded(rt: &impl Print, feed: Feed, word: &[u8]) -> Feed {
     let times = script::times_of(word);
     let number = times.number;
     let from = times.from;
-    let mut room = io::buffer();
+    let mut room = [0u8; 4096];
     let spelt = script::bytes_of(&word[from..], &mut room);
     let count = spelt.count;
     if spelt.wrong {
-        wrong(word, b"hex is wanted");
+        wrong(rt, word, b"hex is wanted");
         return feed;
     }
     match number {
         Value::Is(n) => repeated(feed, &room[0..count], n),
         Value::Wrong => {
-            wrong(word, b"a number is wanted before the star");
+            wrong(rt, word, b"a number is wanted before the star");
             feed
         }
     }
@@ -156,16 +156,16 @@ fn answer(case: Case) -> Answer {
 }
 
 // A proved loop has to end, and nothing says that an input does: the turns are counted down, from a number that no run uses up.
-fn main() {
-    let mut ahead = io::buffer();
+fn main(rt: HostRuntime) {
+    let mut ahead = [0u8; 4096];
     let buffer: &mut [u8] = &mut ahead;
-    let mut space = io::buffer();
+    let mut space = [0u8; 4096];
     let room: &mut [u8] = &mut space;
     let mut input = Input::whole();
     let mut turns = u64::MAX;
     while 0 < turns {
-        let got = script::line(input, buffer, room);
-        run(room, got.length);
+        let got = script::line(&rt, input, buffer, room);
+        run(&rt, room, got.length);
         if got.last {
             return;
         }

@@ -8,31 +8,35 @@ use script::{Input, Row};
 use wrap::Outcome;
 
 // Does what a line of this length asks for, which stands in the room.
-fn run(room: &[u8], length: usize) {
-    let line = script::held(room, length);
+fn run(rt: &impl Print, room: &[u8], length: usize) {
+    let line = script::held(rt, room, length);
     let word = script::head(line);
     let from = word.from;
     let end = word.end;
     if from == end {
         return;
     }
-    called(&line[from..end], script::numbers(&line[end..]));
+    called(rt, &line[from..end], script::numbers(&line[end..]));
 }
 
 // The call of this name with these numbers.
-fn called(name: &[u8], row: Row) {
+fn called(rt: &impl Print, name: &[u8], row: Row) {
     let n = row.values;
     if check::same(name, b"choose") & row.are(7) {
-        return chosen(ring::choose(n[0], n[1], n[2], n[3], n[4], n[5], n[6]));
+        return chosen(rt, ring::choose(n[0], n[1], n[2], n[3], n[4], n[5], n[6]));
     }
     if check::same(name, b"path") & row.are(5) {
-        return moved(wrap::path(n[0], n[1], n[2], n[3], n[4]));
+        return moved(rt, wrap::path(n[0], n[1], n[2], n[3], n[4]));
     }
-    wrong(name, b"choose with 7 numbers, or path with 5, is wanted");
+    wrong(
+        rt,
+        name,
+        b"choose with 7 numbers, or path with 5, is wanted",
+    );
 }
 
 // Prints a choice.
-fn chosen(choice: Choice) {
+fn chosen(rt: &impl Print, choice: Choice) {
     match choice {
         Choice::Chosen {
             side,
@@ -40,30 +44,30 @@ fn chosen(choice: Choice) {
             ttl,
             mark,
         } => {
-            number(b"choose side ", side);
-            number(b" distance ", distance);
-            number(b" ttl ", ttl);
-            number(b" mark ", bit(mark));
+            number(rt, b"choose side ", side);
+            number(rt, b" distance ", distance);
+            number(rt, b" ttl ", ttl);
+            number(rt, b" mark ", bit(mark));
         }
         Choice::Refused(n) => {
-            number(b"choose refused ", n);
+            number(rt, b"choose refused ", n);
         }
     }
-    text(b"\n");
+    text(rt, b"\n");
 }
 
 // Prints what became of a frame.
-fn moved(outcome: Outcome) {
+fn moved(rt: &impl Print, outcome: Outcome) {
     match outcome {
         Outcome::Moved { delivered, hops } => {
-            number(b"path delivered ", bit(delivered));
-            number(b" hops ", hops);
+            number(rt, b"path delivered ", bit(delivered));
+            number(rt, b" hops ", hops);
         }
         Outcome::Refused(n) => {
-            number(b"path refused ", n);
+            number(rt, b"path refused ", n);
         }
     }
-    text(b"\n");
+    text(rt, b"\n");
 }
 
 fn bit(yes: bool) -> u64 {
@@ -71,16 +75,16 @@ fn bit(yes: bool) -> u64 {
 }
 
 // A proved loop has to end, and nothing says that an input does: the turns are counted down, from a number that no run uses up.
-fn main() {
-    let mut ahead = io::buffer();
+fn main(rt: HostRuntime) {
+    let mut ahead = [0u8; 4096];
     let buffer: &mut [u8] = &mut ahead;
-    let mut space = io::buffer();
+    let mut space = [0u8; 4096];
     let room: &mut [u8] = &mut space;
     let mut input = Input::whole();
     let mut turns = u64::MAX;
     while 0 < turns {
-        let got = script::line(input, buffer, room);
-        run(room, got.length);
+        let got = script::line(&rt, input, buffer, room);
+        run(&rt, room, got.length);
         if got.last {
             return;
         }

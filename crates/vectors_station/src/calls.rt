@@ -14,162 +14,166 @@ const READING: u64 = 4 * Reading::WORDS as u64;
 const MOST: u64 = u32::MAX as u64;
 
 // The call of this name. What stands behind `hear` is hex; behind the others stand numbers.
-pub fn call(station: Station, name: &[u8], rest: &[u8]) -> Station {
+pub fn call(rt: &impl Print, station: Station, name: &[u8], rest: &[u8]) -> Station {
     if check::same(name, b"hear") {
-        return hear(station, rest);
+        return hear(rt, station, rest);
     }
-    numbered(station, name, script::numbers(rest))
+    numbered(rt, station, name, script::numbers(rest))
 }
 
-fn numbered(station: Station, name: &[u8], row: Row) -> Station {
+fn numbered(rt: &impl Print, station: Station, name: &[u8], row: Row) -> Station {
     if check::same(name, b"start") {
-        return start(station, row);
+        return start(rt, station, row);
     }
     if check::same(name, b"tick") {
-        return tick(station, row);
+        return tick(rt, station, row);
     }
     if check::same(name, b"client") {
-        return client(station, row);
+        return client(rt, station, row);
     }
     if check::same(name, b"transit") {
-        return transit(station, row);
+        return transit(rt, station, row);
     }
     if check::same(name, b"control") {
-        return control(station, row);
+        return control(rt, station, row);
     }
     if check::same(name, b"select") {
-        return select(station, row);
+        return select(rt, station, row);
     }
     if check::same(name, b"age") {
-        return age(station, row);
+        return age(rt, station, row);
     }
     if check::same(name, b"tell") {
-        return tell(station, row);
+        return tell(rt, station, row);
     }
     if check::same(name, b"show") {
-        return show(station, row);
+        return show(rt, station, row);
     }
-    wrong(station, name, b"it is no call")
+    wrong(rt, station, name, b"it is no call")
 }
 
 // The words of the settings, each of 4 bytes; another number of words is another length.
-fn start(station: Station, row: Row) -> Station {
+fn start(rt: &impl Print, station: Station, row: Row) -> Station {
     let words = row.values;
     if row.wrong | (MOST < row.largest) {
-        return wrong(station, b"start", b"numbers of 32 bits are wanted");
+        return wrong(rt, station, b"start", b"numbers of 32 bits are wanted");
     }
     if row.count != Settings::WORDS {
-        return refused(station, b"start", 2);
+        return refused(rt, station, b"start", 2);
     }
-    after(b"start", station.start(settings_of(words)))
+    after(rt, b"start", station.start(settings_of(words)))
 }
 
 // Whether A, B and C traffic waits.
-fn tick(station: Station, row: Row) -> Station {
+fn tick(rt: &impl Print, station: Station, row: Row) -> Station {
     let n = row.values;
     if !row.are(3) {
-        return wrong(station, b"tick", b"3 numbers are wanted");
+        return wrong(rt, station, b"tick", b"3 numbers are wanted");
     }
-    after(b"tick", station.tick(n[0], n[1], n[2]))
+    after(rt, b"tick", station.tick(n[0], n[1], n[2]))
 }
 
 // Class, size and hops.
-fn client(station: Station, row: Row) -> Station {
+fn client(rt: &impl Print, station: Station, row: Row) -> Station {
     let n = row.values;
     if !row.are(3) {
-        return wrong(station, b"client", b"3 numbers are wanted");
+        return wrong(rt, station, b"client", b"3 numbers are wanted");
     }
     let out = station.offer_client(n[0], n[1], n[2]);
-    print::offered(out.number, out.detail, out.mark);
+    print::offered(rt, out.number, out.detail, out.mark);
     out.station
 }
 
 // Class, size, hops, and whether the frame is eligible.
-fn transit(station: Station, row: Row) -> Station {
+fn transit(rt: &impl Print, station: Station, row: Row) -> Station {
     let n = row.values;
     if !row.are(4) {
-        return wrong(station, b"transit", b"4 numbers are wanted");
+        return wrong(rt, station, b"transit", b"4 numbers are wanted");
     }
-    after(b"transit", station.offer_transit(n[0], n[1], n[2], n[3]))
+    after(
+        rt,
+        b"transit",
+        station.offer_transit(n[0], n[1], n[2], n[3]),
+    )
 }
 
 // The size.
-fn control(station: Station, row: Row) -> Station {
+fn control(rt: &impl Print, station: Station, row: Row) -> Station {
     let n = row.values;
     if !row.are(1) {
-        return wrong(station, b"control", b"1 number is wanted");
+        return wrong(rt, station, b"control", b"1 number is wanted");
     }
-    after(b"control", station.offer_control(n[0]))
+    after(rt, b"control", station.offer_control(n[0]))
 }
 
 // Nothing stands behind it.
-fn select(station: Station, row: Row) -> Station {
+fn select(rt: &impl Print, station: Station, row: Row) -> Station {
     if !row.are(0) {
-        return wrong(station, b"select", b"nothing more is wanted");
+        return wrong(rt, station, b"select", b"nothing more is wanted");
     }
     let out = station.select();
-    print::selected(out.number, out.origin, out.frame);
+    print::selected(rt, out.number, out.origin, out.frame);
     out.station
 }
 
 // Nothing stands behind it.
-fn age(station: Station, row: Row) -> Station {
+fn age(rt: &impl Print, station: Station, row: Row) -> Station {
     if !row.are(0) {
-        return wrong(station, b"age", b"nothing more is wanted");
+        return wrong(rt, station, b"age", b"nothing more is wanted");
     }
-    after(b"age", station.age())
+    after(rt, b"age", station.age())
 }
 
 // The bytes of a fairness frame, any number of them.
-fn hear(station: Station, rest: &[u8]) -> Station {
-    let mut room = io::buffer();
+fn hear(rt: &impl Print, station: Station, rest: &[u8]) -> Station {
+    let mut room = [0u8; 4096];
     let spelt = script::bytes_of(rest, &mut room);
     let count = spelt.count;
     if spelt.wrong {
-        return wrong(station, b"hear", b"hex in one word is wanted");
+        return wrong(rt, station, b"hear", b"hex in one word is wanted");
     }
-    after(b"hear", station.hear(&room[0..count]))
+    after(rt, b"hear", station.hear(&room[0..count]))
 }
 
 // Nothing, or the length of the room to write a frame in.
-fn tell(station: Station, row: Row) -> Station {
+fn tell(rt: &impl Print, station: Station, row: Row) -> Station {
     let Value::Is(length) = row.only_or(FRAME) else {
-        return wrong(station, b"tell", b"a length or nothing is wanted");
+        return wrong(rt, station, b"tell", b"a length or nothing is wanted");
     };
     if length != FRAME {
-        return refused(station, b"tell", 2);
+        return refused(rt, station, b"tell", 2);
     }
-    print::told(station.tell());
+    print::told(rt, station.tell());
     station
 }
 
 // Nothing, or the length of the room to write a reading in.
-fn show(station: Station, row: Row) -> Station {
+fn show(rt: &impl Print, station: Station, row: Row) -> Station {
     let Value::Is(length) = row.only_or(READING) else {
-        return wrong(station, b"show", b"a length or nothing is wanted");
+        return wrong(rt, station, b"show", b"a length or nothing is wanted");
     };
     if length != READING {
-        return refused(station, b"show", 2);
+        return refused(rt, station, b"show", 2);
     }
-    reading::shown(station.show());
+    reading::shown(rt, station.show());
     station
 }
 
 // The station after a call that answers its number alone.
-fn after(name: &[u8], done: Done) -> Station {
-    print::done(name, done.number);
+fn after(rt: &impl Print, name: &[u8], done: Done) -> Station {
+    print::done(rt, name, done.number);
     done.station
 }
 
 // The station after a call that is refused by this number.
-fn refused(station: Station, name: &[u8], number: u8) -> Station {
-    print::done(name, number);
+fn refused(rt: &impl Print, station: Station, name: &[u8], number: u8) -> Station {
+    print::done(rt, name, number);
     station
 }
 
 // The station after a line that is none.
-fn wrong(station: Station, name: &[u8], what: &[u8]) -> Station {
-    script::print::wrong(name, what);
+fn wrong(rt: &impl Print, station: Station, name: &[u8], what: &[u8]) -> Station {
+    script::print::wrong(rt, name, what);
     station
 }
 

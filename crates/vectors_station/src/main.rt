@@ -16,54 +16,54 @@ fn unset() -> Station {
 }
 
 // The station after what a line of this length asks for, which stands in the room.
-fn run(station: Station, room: &[u8], length: usize) -> Station {
-    let line = script::held(room, length);
+fn run(rt: &impl Print, station: Station, room: &[u8], length: usize) -> Station {
+    let line = script::held(rt, room, length);
     let word = script::head(line);
     let from = word.from;
     let end = word.end;
     if from == end {
         return station;
     }
-    called(station, &line[from..end], &line[end..])
+    called(rt, station, &line[from..end], &line[end..])
 }
 
 // The station after the calls that a word asks for, with the rest of the line behind it.
-fn called(station: Station, word: &[u8], rest: &[u8]) -> Station {
+fn called(rt: &impl Print, station: Station, word: &[u8], rest: &[u8]) -> Station {
     let times = script::times_of(word);
     let number = times.number;
     let from = times.from;
     match number {
-        Value::Is(n) => repeated(station, &word[from..], rest, n),
+        Value::Is(n) => repeated(rt, station, &word[from..], rest, n),
         Value::Wrong => {
-            script::print::wrong(word, b"a number is wanted before the star");
+            script::print::wrong(rt, word, b"a number is wanted before the star");
             station
         }
     }
 }
 
 // The station after so many calls.
-fn repeated(station: Station, name: &[u8], rest: &[u8], times: u64) -> Station {
+fn repeated(rt: &impl Print, station: Station, name: &[u8], rest: &[u8], times: u64) -> Station {
     let mut next = station;
     let mut left = times;
     while 0 < left {
-        next = calls::call(next, name, rest);
+        next = calls::call(rt, next, name, rest);
         left -= 1;
     }
     next
 }
 
 // A proved loop has to end, and nothing says that an input does: the turns are counted down, from a number that no run uses up.
-fn main() {
-    let mut ahead = io::buffer();
+fn main(rt: HostRuntime) {
+    let mut ahead = [0u8; 4096];
     let buffer: &mut [u8] = &mut ahead;
-    let mut space = io::buffer();
+    let mut space = [0u8; 4096];
     let room: &mut [u8] = &mut space;
     let mut station = unset();
     let mut input = Input::whole();
     let mut turns = u64::MAX;
     while 0 < turns {
-        let got = script::line(input, buffer, room);
-        station = run(station, room, got.length);
+        let got = script::line(&rt, input, buffer, room);
+        station = run(&rt, station, room, got.length);
         if got.last {
             return;
         }
