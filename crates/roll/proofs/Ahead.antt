@@ -5,13 +5,13 @@ use mathlib.Core.List.{List, [], ◌∷◌, ◌++◌}
 use mathlib.Core.Path.{◌≡◌, refl, sym, ap, ◌∙◌}
 use native.Mathlib.Nat.{add-zero}
 use native.Mathlib.Omega.{arith}
-use lib.ListN.{length, drop, length-append, length-drop}
+use lib.ListN.{length, drop, length-drop}
 use lib.Seq.{drop_at, drop-drop}
 use Rattle.shaper.specs.declared.Event.{Event}
 use Rattle.shaper.specs.declared.Event.TheVariants.{Waiting, Idle, Send}
 use Rattle.shaper.specs.Kind.{kind_of, number_of}
 use Rattle.wire.specs.Wire.{le}
-use Rattle.wire.specs.Parts.{laid_out, length_laid_out}
+use Rattle.wire.specs.Parts.{laid_out}
 use Rattle.wire.proofs.Numbers.{le_drop, le_add}
 use Rattle.wire.proofs.Places.{stands_between}
 use Rattle.wire.proofs.Laid.{le_part}

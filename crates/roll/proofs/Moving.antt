@@ -5,7 +5,7 @@ use mathlib.Core.Bool.{false}
 use mathlib.Core.List.{List, [], ◌∷◌, ◌++◌}
 use mathlib.Core.Path.{◌≡◌, refl, sym, ap, ◌∙◌}
 use native.Mathlib.Omega.{arith}
-use lib.ListN.{length, take, drop, length-append, length-take, length-replicate}
+use lib.ListN.{length, drop, length-append, length-take, length-replicate}
 use lib.Seq.{drop_at}
 use Rattle.decide.specs.Test.{Holds, ◌≡?◌, split}
 use Rattle.decide.proofs.Cases.{by_cases}

@@ -3,7 +3,7 @@
 use Prim.Native.Nat.{ℕ, ◌≤◌, ◌<◌}
 use mathlib.Core.Bool.{Bool, true, false}
 use mathlib.Core.List.{List}
-use mathlib.Core.Path.{◌≡◌, refl, sym, ap, ◌∙◌}
+use mathlib.Core.Path.{◌≡◌, ap, ◌∙◌}
 use lib.ListN.{length}
 use Rattle.shaper.specs.declared.Limits.{Limits}
 use Rattle.wire.specs.Wire.{put, Bytes}
@@ -16,7 +16,7 @@ use Rattle.record.proofs.Written.{items_read}
 use Rattle.account.specs.Account.{summarize_in}
 use Rattle.account.proofs.Promises.{summarize_unreadable, summarized_written}
 use Rattle.roll.specs.declared.Moved.TheVariants.{Written, Refused}
-use Rattle.roll.specs.Moved.{Output, refused, bytes, rolled_read, rolled_bytes, unrolled_read, unrolled_bytes, moved_of, left_of}
+use Rattle.roll.specs.Moved.{Output, bytes, rolled_read, rolled_bytes, unrolled_read, unrolled_bytes, moved_of, left_of}
 use Rattle.roll.specs.Steps.{Reads, output_of}
 use Rattle.roll.proofs.Rooms.{row_written, row_short, row_refused}
 

@@ -2,17 +2,16 @@
 -- Assumes nothing.
 use Prim.Native.Nat.{ℕ, zero, suc, ◌+◌, ◌*◌, ◌-◌, ◌≤◌, ◌<◌}
 use mathlib.Core.Bool.{true, cond}
-use mathlib.Core.List.{List, [], ◌∷◌, ◌++◌}
+use mathlib.Core.List.{List, [], ◌++◌}
 use mathlib.Core.Logic.{⊎_elim}
 use mathlib.Core.Path.{◌≡◌, refl, sym, ap, ◌∙◌}
 use native.Mathlib.Omega.{arith}
 use lib.ListN.{length, drop, replicate, length-append, length-replicate}
 use lib.Seq.{drop_at}
-use Rattle.decide.specs.Test.{Holds}
 use Rattle.decide.proofs.Cases.{by_cases, le_or}
 use Rattle.shaper.specs.declared.Limits.{Limits}
 use Rattle.shaper.specs.declared.Event.{Event}
-use Rattle.shaper.specs.Limits.{limits_ok, most_events}
+use Rattle.shaper.specs.Limits.{most_events}
 use Rattle.shaper.specs.Kind.{kind_of, number_of, event_of}
 use Rattle.wire.specs.Wire.{le, put}
 use Rattle.wire.proofs.Puts.{put_put, put_nil, length_put}
@@ -26,8 +25,8 @@ use Rattle.record.specs.declared.Header.TheVariants.{Settings, Unreadable}
 use Rattle.record.proofs.Fields.{event_good}
 use Rattle.record.proofs.Rows.{run_at, run_not_at, free_stands}
 use Rattle.record.proofs.Steps.{Stood, Headed, read_by, read_header, header_stands, read_end, read_over, step_stands, step_end, step_faulty}
-use Rattle.record.proofs.Written.{length_header, length_events, length_written, events_append, behind, ahead_behind, behind_events, behind_faulty}
-use Rattle.roll.specs.Moved.{bytes, unrolled_bytes}
+use Rattle.record.proofs.Written.{length_header, length_events, length_written, events_append, ahead_behind, behind_events, behind_faulty}
+use Rattle.roll.specs.Moved.{unrolled_bytes}
 use Rattle.roll.specs.Steps.{Reads, output_of, repeated_fields, item_bytes}
 use Rattle.roll.proofs.Laying.{length_repeated}
 

@@ -7,7 +7,6 @@ use native.Mathlib.Omega.{arith}
 use Rattle.wire.specs.Wire.{le, Bytes}
 use Rattle.wire.proofs.Numbers.{le_halves}
 use Rattle.roll.proofs.Laying.{RunFields, run_fields_lem, EventFields, event_fields_lem, item_least, repeated_one}
-use borrow.Author.Rules.{rules}
 use Rattle.roll.proofs.put_next.Goals as goal
 
 -- a word that is read is the two numbers that it stands for, by `le_halves`

@@ -1,12 +1,9 @@
 -- What is put from there on leaves what the whole leaves: the header first, then each turn an item.
 -- Assumes nothing.
-use Prim.Native.Nat.{◌+◌, ◌-◌, ◌≤◌}
-use mathlib.Core.Path.{◌≡◌, sym, ap, ◌∙◌}
+use mathlib.Core.Path.{◌≡◌, ◌∙◌}
 use native.Mathlib.Omega.{arith}
-use borrow.Author.Rules.{rules}
-use lib.ListN.{length}
 use Rattle.shaper.specs.Kind.{kind_of, number_of}
-use Rattle.roll.proofs.Moving.{Rolling, rolling, rolling_long, left_some, Taken, left_next, Laid, laid_start, laid_next, laid_end, laid_length, laid_whole, room_for_header, header_kept}
+use Rattle.roll.proofs.Moving.{rolling, rolling_long, left_some, Taken, left_next, laid_start, laid_next, laid_end, laid_length, laid_whole, room_for_header, header_kept}
 use Rattle.roll.proofs.put_rolled.Goals as goal
 
 pub put_header-requires : goal.put_header-requires

@@ -1,13 +1,13 @@
 -- What is put from there on leaves what the whole leaves: the header first, then each turn the events of an item.
 -- Assumes nothing.
-use Prim.Native.Nat.{◌+◌, ◌-◌}
-use mathlib.Core.Path.{◌≡◌, sym, ap, ◌∙◌}
+use Prim.Native.Nat.{◌+◌}
+use mathlib.Core.Path.{◌∙◌}
 use native.Mathlib.Omega.{arith}
-use lib.ListN.{length, drop}
+use lib.ListN.{drop}
 use Rattle.record.specs.Read.{item_kind, item_number, item_count}
 use Rattle.roll.specs.Steps.{item_bytes}
 use Rattle.roll.proofs.Laying.{item_least}
-use Rattle.roll.proofs.Unrolling.{unrolling, LaidUnder, laid_start, Taken, laid_item, laid_end, room_for_header, header_kept, laid_whole}
+use Rattle.roll.proofs.Unrolling.{unrolling, laid_start, Taken, laid_item, laid_end, room_for_header, header_kept, laid_whole}
 use Rattle.roll.proofs.put_unrolled.Goals as goal
 
 pub put_header-requires : goal.put_header-requires

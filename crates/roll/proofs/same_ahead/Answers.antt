@@ -1,18 +1,13 @@
 -- Each turn compares one event more with the first; whatever the events are that stand there, n of them were found equal.
 -- Assumes nothing.
-use Prim.Native.Nat.{ℕ, suc, ◌+◌, ◌*◌, ◌-◌, ◌≤◌, ◌<◌}
-use mathlib.Core.List.{List, ◌∷◌}
-use mathlib.Core.Path.{◌≡◌, refl, sym, ap, ◌∙◌}
+use Prim.Native.Nat.{ℕ, suc, ◌+◌, ◌*◌, ◌≤◌, ◌<◌}
+use mathlib.Core.Path.{◌≡◌, sym, ap, ◌∙◌}
 use native.Mathlib.Omega.{arith}
-use borrow.Author.Rules.{rules}
-use lib.ListN.{length, drop}
 use Rattle.decide.proofs.Cases.{by_cases, le_or}
 use Rattle.shaper.specs.declared.Event.{Event}
 use Rattle.shaper.specs.Kind.{kind_of, number_of}
 use Rattle.wire.specs.Wire.{le}
-use Rattle.record.specs.Record.{events_bytes}
-use Rattle.roll.specs.Steps.{AllFit}
-use Rattle.roll.proofs.Ahead.{kind_small, fields_at, ahead_send, Found, found_first, found_end, found_other, found_full, found_more}
+use Rattle.roll.proofs.Ahead.{kind_small, fields_at, ahead_send, found_first, found_end, found_other, found_full, found_more}
 use Rattle.roll.proofs.same_ahead.Goals as goal
 
 -- an event that is no send

@@ -4,7 +4,6 @@ use mathlib.Core.List.{[], ◌∷◌}
 use native.Mathlib.Nat.{add_assoc}
 use Rattle.wire.specs.Parts.{number}
 use Rattle.wire.proofs.Laid.{laid_put}
-use borrow.Author.Rules.{rules}
 use Rattle.roll.proofs.bytes.put_event.Goals as goal
 
 pub returns : goal.returns

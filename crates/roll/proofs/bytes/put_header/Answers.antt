@@ -2,7 +2,6 @@
 -- Assumes nothing.
 use Rattle.wire.proofs.Laid.{laid_put}
 use Rattle.record.specs.Record.{header_parts, header_bytes}
-use borrow.Author.Rules.{rules}
 use Rattle.roll.proofs.bytes.put_header.Goals as goal
 
 pub returns : goal.returns

@@ -4,7 +4,6 @@ use mathlib.Core.Path.{sym, ap, ◌∙◌}
 use native.Mathlib.Omega.{arith}
 use Rattle.wire.specs.Wire.{put}
 use Rattle.roll.proofs.Laying.{item_one, item_more}
-use borrow.Author.Rules.{rules}
 use Rattle.roll.proofs.bytes.put_item.Goals as goal
 
 pub put_event-requires : goal.put_event-requires

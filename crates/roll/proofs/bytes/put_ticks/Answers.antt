@@ -1,9 +1,8 @@
 -- What is left to put leaves what all leave: one tick put, and then the rest.
 -- Assumes nothing.
-use Prim.Native.Nat.{ℕ, ◌+◌, ◌*◌, ◌/◌, ◌%◌, ◌≤◌}
+use Prim.Native.Nat.{ℕ, ◌/◌, ◌%◌}
 use mathlib.Core.Path.{◌≡◌, refl, sym, ap, ◌∙◌}
 use native.Mathlib.Omega.{arith}
-use borrow.Author.Rules.{rules}
 use lib.ListN.{length}
 use Rattle.wire.specs.Wire.{put}
 use Rattle.wire.proofs.Puts.{length_put, put_nil}

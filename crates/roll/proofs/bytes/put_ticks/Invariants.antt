@@ -1,14 +1,10 @@
 -- What is left to put leaves what all leave: one tick put, and then the rest.
 -- Assumes nothing.
-use Prim.Native.Nat.{ℕ, ◌+◌, ◌*◌, ◌/◌, ◌%◌, ◌≤◌}
-use mathlib.Core.Path.{◌≡◌, refl, sym, ap, ◌∙◌}
-use native.Mathlib.Omega.{arith}
-use borrow.Author.Rules.{rules}
+use Prim.Native.Nat.{◌+◌, ◌*◌, ◌/◌, ◌%◌, ◌≤◌}
+use mathlib.Core.Path.{◌≡◌}
 use lib.ListN.{length}
 use Rattle.wire.specs.Wire.{put}
-use Rattle.wire.proofs.Puts.{length_put, put_nil}
 use Rattle.roll.specs.Steps.{repeated_fields}
-use Rattle.roll.proofs.Laying.{length_fields, repeated_more}
 use Rattle.roll.proofs.bytes.put_ticks.Given as goal
 
 abbrev pub invariant-loop-left : goal.invariant-loop-left
