@@ -3,7 +3,6 @@
 use mathlib.Core.Path.{sym, ◌∙◌}
 use native.Mathlib.Omega.{arith}
 use lib.Seq.{length-take-le}
-use borrow.Author.Rules.{rules}
 use Rattle.feed.proofs.at_once.Goals as goal
 
 pub slice_bounds-with_items-end : goal.slice_bounds-with_items-end

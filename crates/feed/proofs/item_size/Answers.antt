@@ -3,7 +3,6 @@
 use mathlib.Core.Path.{sym, ◌∙◌}
 use Rattle.record.proofs.Rows.{run_at, run_not_at}
 use Rattle.feed.proofs.Rows.{size_run, size_event}
-use borrow.Author.Rules.{rules}
 use Rattle.feed.proofs.item_size.Goals as goal
 
 pub returns-then-get16-eq4 : goal.returns-then-get16-eq4

@@ -1,8 +1,6 @@
 -- Each turn goes on by 6 bytes or 10, and only where 10 are left: so the first turn does.
 -- Assumes nothing.
-use Prim.Native.Nat.{◌-◌, ◌≤◌}
 use native.Mathlib.Omega.{arith}
-use lib.ListN.{length}
 use Rattle.feed.proofs.Rows.{size_within}
 use Rattle.feed.proofs.items_end.Goals as goal
 

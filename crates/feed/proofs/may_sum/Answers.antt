@@ -1,6 +1,5 @@
 -- The test of the range is the definition's.
 -- Assumes nothing.
-use borrow.Author.Rules.{rules}
 use Rattle.feed.proofs.may_sum.Goals as goal
 
 pub returns : goal.returns

@@ -1,18 +1,15 @@
 -- Each arm is a row of the definition, by the stage and by what was read of the bytes held.
 -- Assumes nothing.
-use Prim.Native.Nat.{ℕ, ◌-◌}
-use mathlib.Core.List.{List}
+use Prim.Native.Nat.{◌-◌}
 use mathlib.Core.Path.{◌≡◌, sym, ap, ◌∙◌}
 use native.Mathlib.Omega.{arith}
 use lib.ListN.{take}
 use lib.Seq.{length-take-le}
 use Rattle.shaper.specs.Limits.{most_events}
-use Rattle.summary.specs.declared.Summary.{Summary}
 use Rattle.summary.specs.Answer.{join_next}
 use Rattle.record.specs.Step.{step_within}
 use Rattle.feed.specs.Feed.{stage_of, item_size}
 use Rattle.feed.proofs.Rows.{size_within, next_settings, next_unreadable, next_stands, next_end, next_faulty, next_stopped}
-use borrow.Author.Rules.{rules}
 use Rattle.feed.proofs.next_stage.Goals as goal
 
 pub slice_bounds-bytes-end : goal.slice_bounds-bytes-end

@@ -3,7 +3,6 @@
 use mathlib.Core.Path.{sym}
 use native.Mathlib.Omega.{arith}
 use lib.Seq.{set_out}
-use borrow.Author.Rules.{rules}
 use Rattle.feed.proofs.placed.Goals as goal
 
 pub returns-else-at-lt14 : goal.returns-else-at-lt14

@@ -1,6 +1,5 @@
 -- Each arm is a row of the definition, by the variant that it matched.
 -- Assumes nothing.
-use borrow.Author.Rules.{rules}
 use Rattle.feed.proofs.stage_of.Goals as goal
 
 pub returns-in-Summed : goal.returns-in-Summed

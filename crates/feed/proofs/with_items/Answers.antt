@@ -5,7 +5,6 @@ use native.Mathlib.Omega.{arith}
 use Rattle.summary.specs.Answer.{join_next}
 use Rattle.summary.proofs.Paper.{in_range_plain}
 use Rattle.feed.specs.Feed.{with_items}
-use borrow.Author.Rules.{rules}
 use Rattle.feed.proofs.with_items.Goals as goal
 
 pub events-requires : goal.events-requires

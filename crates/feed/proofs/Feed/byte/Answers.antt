@@ -3,7 +3,6 @@
 use mathlib.Core.Path.{sym, ◌∙◌}
 use native.Mathlib.Omega.{arith}
 use Rattle.feed.proofs.Rows.{byte_heading, byte_over, byte_item, byte_stopped}
-use borrow.Author.Rules.{rules}
 use Rattle.feed.proofs.Feed.byte.Goals as goal
 
 pub returns-then-sum-ge-MAX_EVENTS : goal.returns-then-sum-ge-MAX_EVENTS

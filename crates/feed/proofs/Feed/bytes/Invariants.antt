@@ -1,11 +1,9 @@
 -- What is left of the chunk, fed from here, gives what the whole chunk gives from the start.
 -- Assumes nothing.
-use Prim.Native.Nat.{◌+◌, ◌-◌, ◌≤◌}
-use mathlib.Core.Path.{◌≡◌, refl, sym, ap, ◌∙◌}
-use native.Mathlib.Omega.{arith}
+use Prim.Native.Nat.{◌-◌, ◌≤◌}
+use mathlib.Core.Path.{◌≡◌}
 use lib.ListN.{length, drop}
 use Rattle.feed.specs.Feed.{fed_of}
-use Rattle.feed.proofs.Rows.{fed_next, fed_end}
 use Rattle.feed.proofs.Feed.bytes.Given as goal
 
 abbrev pub invariant-loop-i : goal.invariant-loop-i

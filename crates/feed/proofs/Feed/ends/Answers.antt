@@ -2,7 +2,6 @@
 -- Assumes nothing.
 use mathlib.Core.Path.{sym}
 use Rattle.feed.proofs.Rows.{ends_heading, ends_summing, ends_stopped}
-use borrow.Author.Rules.{rules}
 use Rattle.feed.proofs.Feed.ends.Goals as goal
 
 pub returns-in-Heading : goal.returns-in-Heading

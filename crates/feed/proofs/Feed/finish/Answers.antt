@@ -3,7 +3,6 @@
 use mathlib.Core.Path.{sym}
 use native.Mathlib.Omega.{arith}
 use Rattle.feed.proofs.Rows.{finish_heading, finish_whole, finish_cut, finish_stopped}
-use borrow.Author.Rules.{rules}
 use Rattle.feed.proofs.Feed.finish.Goals as goal
 
 pub returns-then-self-gt0 : goal.returns-then-self-gt0

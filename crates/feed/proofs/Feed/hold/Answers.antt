@@ -2,7 +2,6 @@
 -- Assumes nothing.
 use mathlib.Core.Path.{sym}
 use Rattle.feed.proofs.Rows.{hold_more, hold_whole}
-use borrow.Author.Rules.{rules}
 use Rattle.feed.proofs.Feed.hold.Goals as goal
 
 pub returns-then-held-size : goal.returns-then-held-size
