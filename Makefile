@@ -47,4 +47,4 @@ fuzz:
 	tools/fuzz $(SECONDS)
 
 clean:
-	rm -rf target host/model/target
+	rm -rf target host/model/target crates/*/out
