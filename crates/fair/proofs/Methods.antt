@@ -197,9 +197,11 @@ module _ (s : Settings) (old : Adjusted) (lp : Stored) (held : ℕ) where
   pub change_counts : (r : Row) → Changes r → (row_gives r s old lp).since ≡ 0
   unfolding row_gives
   change_counts enters h = refl
+  change_counts rests h = elim h [ ]
   change_counts lowers h = refl
   change_counts leaves h = refl
   change_counts raises h = refl
+  change_counts waits h = elim h [ ]
 
   -- and a step waits for a round trip
   pub step_due : Steps (row_of s old held) → s.site.trip ≤ old.since + 1

@@ -2,12 +2,8 @@
 -- Assumes nothing.
 use mathlib.Core.Bool.{and_assoc}
 use Rattle.decide.specs.Test.{test}
-use Rattle.fair.proofs.Four.in_range.Statement.{statement}
-use Rattle.fair.proofs.Four.in_range.Tie as tie
+use Rattle.fair.proofs.Four.in_range.Goals as goal
 
-returns : tie.Need-returns
+pub returns : goal.returns
 unfolding test
 returns c = simp and_assoc
-
-pub in_range_spec : {M : Type 1} → statement M
-in_range_spec = tie.close (tie.spec returns)

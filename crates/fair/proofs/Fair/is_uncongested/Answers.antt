@@ -1,0 +1,9 @@
+-- `fair::Fair::is_uncongested` meets its contract: the comparisons are the definition's.
+-- Assumes nothing.
+use mathlib.Core.Path.{refl}
+use Rattle.decide.specs.Test.{test}
+use Rattle.fair.proofs.Fair.is_uncongested.Goals as goal
+
+pub returns : goal.returns
+unfolding test
+returns c = refl
