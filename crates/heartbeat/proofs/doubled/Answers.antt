@@ -1,10 +1,9 @@
 -- From the first digit on, a turn for each: behind each stand the repeats that the digits so far make.
 -- Assumes nothing.
-use Prim.Native.Nat.{ℕ, suc, ◌-◌, ◌/◌, ◌%◌, ◌^◌, ◌≤◌}
+use Prim.Native.Nat.{ℕ, suc, ◌-◌, ◌/◌, ◌%◌, ◌^◌}
 use mathlib.Core.Path.{◌≡◌, ap, ◌∙◌}
 use native.Mathlib.Nat.{sub-zero, div-one}
 use native.Mathlib.Omega.{arith}
-use borrow.Author.Rules.{rules}
 use lib.Dec.{eqb}
 use lib.Count.{count_leading_zeros, leading_le}
 use Rattle.heartbeat.specs.Doubling.{twice_of, doubling, digits_in, doubling_of}

@@ -1,6 +1,5 @@
 -- A summary settles; a refusal stays.
 -- Assumes nothing.
-use borrow.Author.Rules.{rules}
 use Rattle.heartbeat.proofs.from_low.Goals as goal
 
 pub returns-in-Summed : goal.returns-in-Summed

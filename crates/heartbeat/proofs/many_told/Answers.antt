@@ -1,7 +1,6 @@
 -- A refusal with 9 becomes 3, and any other answer stays.
 -- Assumes nothing.
 use borrow.Author.Tests.{eq-eqb, ne_eqb}
-use borrow.Author.Rules.{rules}
 use Rattle.heartbeat.proofs.many_told.Goals as goal
 
 pub returns-then-number-eq9 : goal.returns-then-number-eq9

@@ -1,7 +1,6 @@
 -- The empty summary, and no join.
 -- Assumes nothing.
 use mathlib.Core.Path.{ap}
-use borrow.Author.Rules.{rules}
 use Rattle.summary.specs.declared.Answer.{Answer}
 use Rattle.heartbeat.specs.declared.Repeats.{Repeats}
 use Rattle.heartbeat.proofs.none.Goals as goal

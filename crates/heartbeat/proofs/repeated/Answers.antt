@@ -5,7 +5,6 @@ use native.Mathlib.Omega.{arith}
 use Rattle.heartbeat.proofs.Powers.{repeated_3}
 use Rattle.heartbeat.proofs.Doubling.{doubles}
 use Rattle.heartbeat.specs.declared.Repeats.{Repeats}
-use borrow.Author.Rules.{rules}
 use Rattle.heartbeat.proofs.repeated.Goals as goal
 
 pub returns-then-not-in_range : goal.returns-then-not-in_range

@@ -1,6 +1,5 @@
 -- A join more; a refusal stays.
 -- Assumes nothing.
-use borrow.Author.Rules.{rules}
 use Rattle.heartbeat.proofs.Repeats.join.Goals as goal
 
 pub returns-in-Summed : goal.returns-in-Summed

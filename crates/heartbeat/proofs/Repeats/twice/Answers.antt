@@ -1,7 +1,6 @@
 -- A join, and one more where the repeats are odd.
 -- Assumes nothing.
 use native.Mathlib.Omega.{arith}
-use borrow.Author.Rules.{rules}
 use Rattle.heartbeat.proofs.Repeats.twice.Goals as goal
 
 pub join-requires : goal.join-requires
