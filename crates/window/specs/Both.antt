@@ -8,7 +8,7 @@ use Rattle.summary.specs.declared.Answer.{Answer}
 use Rattle.feed.specs.Feed.{start_of, fed_of}
 use Rattle.window.specs.declared.Pair.{Pair}
 
--- ---- equal windows and equal sums (`alike-exactly`, `same-summary`, proofs/Equal.antt)
+-- ---- equal windows and equal sums (`alike_exactly`, `same_summary_lem`, proofs/Equal.antt)
 
 -- the first k bytes are equal
 unfoldable pub alike_to : ℕ → List ℕ → List ℕ → Bool
@@ -43,7 +43,7 @@ same_answer_of (Answer.Refused n) b = false
 abbrev pub both_start : Pair
 both_start = record { first = start_of; second = start_of; same = true }
 
--- A chunk of each. Where all chunks so far are equal, and these too, the first record's state stands for both (`fed-each`, proofs/Chunks.antt: each is then its own).
+-- A chunk of each. Where all chunks so far are equal, and these too, the first record's state stands for both (`fed_each`, proofs/Chunks.antt: each is then its own).
 unfoldable pub both_fed : Pair → List ℕ → List ℕ → Pair
 both_fed p w v =
     record {

@@ -21,17 +21,7 @@ use Rattle.wire.specs.Signed.{unsigned_of}
 use Rattle.shaper.specs.Limits.{same_limits}
 use Rattle.window.specs.Both.{eq_ℤ, same_summary}
 use Rattle.window.proofs.Equal.{unsigned_equal}
-use Rattle.window.proofs.same.Statement.{statement}
-use Rattle.window.proofs.same.Tie as tie
-
-same-requires : tie.Need-same-requires
-same-requires c κs = search rules
-
-unsigned64-requires : tie.Need-unsigned64-requires
-unsigned64-requires c κs = search rules
-
-unsigned64-requires-2 : tie.Need-unsigned64-requires-2
-unsigned64-requires-2 c κs = search rules
+use Rattle.window.proofs.same.Goals as goal
 
 -- a ceiling is of 8 bytes, and comes back from them
 ceiling_fits : (s : Summary) → Is (row the_type) s (val the_type the_laws s ∷ []) → mag s.ceiling < 9223372036854775808
@@ -47,15 +37,11 @@ asked : (s t : Summary) (limits : Bool) (x y : ℕ) → limits ≡ test (same_li
 unfolding same_summary test
 asked s t limits x y l e f c = rw (l, c)
 
-returns : tie.Need-returns
+pub returns : goal.returns
 returns c =
-    let start = c.before.before.before.before.before.before.before.before.before.before.before.before.before.before.before in
-    let s = start.args.s in
-    let t = start.args.t in
-    let e = c.before.before.before.before.before.before.before.before.before.before.unsigned64.ensures ∙ ap unsigned_of (back s start.well-formed.0) in
-    let f = c.before.before.before.before.before.before.before.before.unsigned642.ensures ∙ ap unsigned_of (back t start.well-formed.1.0) in
-    asked s t _ _ _ c.before.before.before.before.before.before.before.before.before.before.before.before.same.ensures e f
-    (rw (e, f) (unsigned_equal s.ceiling t.ceiling (ceiling_fits s start.well-formed.0) (ceiling_fits t start.well-formed.1.0)))
-
-pub same_spec : {M : Type 1} → statement M
-same_spec = tie.close (tie.spec same-requires unsigned64-requires unsigned64-requires-2 returns)
+    let s = c.args.s in
+    let t = c.args.t in
+    let e = c.unsigned64-ceiling.ensures ∙ ap unsigned_of (back s c.well_formed.0) in
+    let f = c.unsigned64-other.ensures ∙ ap unsigned_of (back t c.well_formed.1.0) in
+    asked s t _ _ _ c.same-limits.ensures e f
+    (rw (e, f) (unsigned_equal s.ceiling t.ceiling (ceiling_fits s c.well_formed.0) (ceiling_fits t c.well_formed.1.0)))
