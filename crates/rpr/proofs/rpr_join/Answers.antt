@@ -24,4 +24,4 @@ pub returns : goal.returns
 returns c =
     let joined = rw (c.read.ensures, c.read-2.ensures) at c.join-joined.ensures in
     let whole = join_whole _ _ _ c.if-first-ne-LENGTH.false c.if-second-ne-LENGTH.false c.if-room-ne-LENGTH.false _ joined in
-    let handed : _ = c.hand_over.ensures in record { value = handed.0 ∙ whole.0; room_after = handed.1 ∙ whole.1 }
+    let handed : _ = c.hand_over.ensures in record { value = handed.value ∙ whole.0; room_after = handed.room_after ∙ whole.1 }

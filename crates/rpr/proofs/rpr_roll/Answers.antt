@@ -12,11 +12,11 @@ unfolding roll_answer roll_after
 returns-in-Written c =
     let a = c.args in
     let m = c.roll-moved.ensures in
-    let g = mover_gives a.room.now (rolled_bytes a.«record».now) (roll_numbered a.«record».now) in record { value = c.written.ensures ∙ ap told_of (sym c.in-Written.is ∙ m.0) ∙ g.0; room_after = m.1 ∙ g.1 }
+    let g = mover_gives a.room.now (rolled_bytes a.«record».now) (roll_numbered a.«record».now) in record { value = c.written.ensures ∙ ap told_of (sym c.in-Written.is ∙ m.value) ∙ g.0; room_after = m.room_after ∙ g.1 }
 
 pub returns-in-Refused : goal.returns-in-Refused
 unfolding roll_answer roll_after
 returns-in-Refused c =
     let a = c.args in
     let m = c.roll-moved.ensures in
-    let g = mover_gives a.room.now (rolled_bytes a.«record».now) (roll_numbered a.«record».now) in record { value = ap told_of (sym c.in-Refused.is ∙ m.0) ∙ g.0; room_after = m.1 ∙ g.1 }
+    let g = mover_gives a.room.now (rolled_bytes a.«record».now) (roll_numbered a.«record».now) in record { value = ap told_of (sym c.in-Refused.is ∙ m.value) ∙ g.0; room_after = m.room_after ∙ g.1 }

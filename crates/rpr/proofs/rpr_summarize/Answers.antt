@@ -13,4 +13,4 @@ returns-then-room-ne-LENGTH c =
 pub returns : goal.returns
 returns c =
     let whole = summarize_whole _ _ c.if-room-ne-LENGTH.false _ c.summarize-whole.ensures in
-    let handed : _ = c.hand_over.ensures in record { value = handed.0 ∙ whole.0; room_after = handed.1 ∙ whole.1 }
+    let handed : _ = c.hand_over.ensures in record { value = handed.value ∙ whole.0; room_after = handed.room_after ∙ whole.1 }

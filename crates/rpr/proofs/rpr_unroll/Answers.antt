@@ -12,11 +12,11 @@ unfolding unroll_answer unroll_after
 returns-in-Written c =
     let a = c.args in
     let m = c.unroll-moved.ensures in
-    let g = mover_gives a.room.now (unrolled_bytes a.«record».now) (unroll_numbered a.«record».now) in record { value = c.written.ensures ∙ ap told_of (sym c.in-Written.is ∙ m.0) ∙ g.0; room_after = m.1 ∙ g.1 }
+    let g = mover_gives a.room.now (unrolled_bytes a.«record».now) (unroll_numbered a.«record».now) in record { value = c.written.ensures ∙ ap told_of (sym c.in-Written.is ∙ m.value) ∙ g.0; room_after = m.room_after ∙ g.1 }
 
 pub returns-in-Refused : goal.returns-in-Refused
 unfolding unroll_answer unroll_after
 returns-in-Refused c =
     let a = c.args in
     let m = c.unroll-moved.ensures in
-    let g = mover_gives a.room.now (unrolled_bytes a.«record».now) (unroll_numbered a.«record».now) in record { value = ap told_of (sym c.in-Refused.is ∙ m.0) ∙ g.0; room_after = m.1 ∙ g.1 }
+    let g = mover_gives a.room.now (unrolled_bytes a.«record».now) (unroll_numbered a.«record».now) in record { value = ap told_of (sym c.in-Refused.is ∙ m.value) ∙ g.0; room_after = m.room_after ∙ g.1 }

@@ -9,7 +9,7 @@ use mathlib.Core.Path.{sym, ap, ◌∙◌}
 use Rattle.rpr.proofs.Given.{not_whole, select_refused, select_given}
 use Rattle.rpr.proofs.Chosen.{nothing_chosen}
 use Rattle.rpr.proofs.Written.{select_written}
-use borrow.Author.Rules.{rules}
+use Rattle.std.proofs.lemmas.Bool.{not_from_false, not_from_true}
 use Rattle.rpr.proofs.lending.rpr_select.Goals as goal
 
 pub returns-then-station-ne-LENGTH : goal.returns-then-station-ne-LENGTH
@@ -22,7 +22,7 @@ pub returns-then-not-in_range : goal.returns-then-not-in_range
 unfolding select_answer select_after
 returns-then-not-in_range c =
     let xs : _ = c.args.station.now in
-    let out = taken (station_ok _) c.in_range.ensures c.if-not-in_range.true in
+    let out = taken (station_ok _) c.in_range.ensures (not_from_false _ c.if-not-in_range.true) in
     let gives = select_refused xs c.if-station-ne-LENGTH.false (station_at xs) _ _ out in
     record { value = gives.0; station_after = gives.1 }
 
@@ -30,7 +30,7 @@ pub returns-then-out-eq0 : goal.returns-then-out-eq0
 unfolding select_answer select_after
 returns-then-out-eq0 c =
     let xs : _ = c.args.station.now in
-    let o = left (station_ok _) c.in_range.ensures c.if-not-in_range.false in
+    let o = left (station_ok _) c.in_range.ensures (not_from_true _ c.if-not-in_range.false) in
     let none = nothing_chosen (station_at xs) o (rw c.pick-out.ensures at c.if-out-eq0.true) in
     let gives = select_given xs c.if-station-ne-LENGTH.false (station_at xs) _ _ o none.0
     (sym (bytes_of_state xs (λ j. c.type_inv.station j) c.if-station-ne-LENGTH.false) ∙ ap station_bytes none.1) in
@@ -42,7 +42,7 @@ returns c =
     let xs : _ = c.args.station.now in
     let said = c.pick-out.ensures in
     let all = rw (c.write_stage.ensures, c.write_credits.ensures, c.take_frame.ensures) at c.write_counters.ensures in
-    let gives = select_given xs c.if-station-ne-LENGTH.false (station_at xs) _ _ (left (station_ok _) c.in_range.ensures c.if-not-in_range.false)
+    let gives = select_given xs c.if-station-ne-LENGTH.false (station_at xs) _ _ (left (station_ok _) c.in_range.ensures (not_from_true _ c.if-not-in_range.false))
     (rw said at c.selected.ensures)
     (rw said at all ∙ select_written xs (λ j. c.type_inv.station j) c.if-station-ne-LENGTH.false) in
     record { value = gives.0; station_after = gives.1 }

@@ -6,7 +6,7 @@ use Rattle.settings.specs.Range.{settings_ok}
 use Rattle.layout.specs.Layout.{station_bytes}
 use Rattle.rpr.specs.Station.{start_answer, start_after}
 use Rattle.rpr.proofs.Given.{not_whole, then_not_whole, start_refused_lem, start_done}
-use borrow.Author.Rules.{rules}
+use Rattle.std.proofs.lemmas.Bool.{not_from_false, not_from_true}
 use Rattle.rpr.proofs.lending.rpr_start.Goals as goal
 
 pub returns-then-settings-ne-LENGTH : goal.returns-then-settings-ne-LENGTH
@@ -26,7 +26,7 @@ pub returns-then-not-in_range_at : goal.returns-then-not-in_range_at
 unfolding start_answer start_after
 returns-then-not-in_range_at c =
     let given : _ = c.args in
-    let out = taken (settings_ok _) c.in_range_at.ensures c.if-not-in_range_at.true in
+    let out = taken (settings_ok _) c.in_range_at.ensures (not_from_false _ c.if-not-in_range_at.true) in
     let gives = start_refused_lem given.settings.now given.station.now c.if-settings-ne-LENGTH.false c.if-station-ne-LENGTH.false _ out in
     record { value = gives.0; station_after = gives.1 }
 
@@ -34,6 +34,6 @@ pub returns : goal.returns
 unfolding start_answer start_after
 returns c =
     let given : _ = c.args in
-    let fits = left (settings_ok _) c.in_range_at.ensures c.if-not-in_range_at.false in
+    let fits = left (settings_ok _) c.in_range_at.ensures (not_from_true _ c.if-not-in_range_at.false) in
     let gives = start_done given.settings.now given.station.now c.if-settings-ne-LENGTH.false c.if-station-ne-LENGTH.false _ fits in
     let fresh = rw c.read-given.ensures at c.fresh.ensures in record { value = gives.0; station_after = c.write.ensures ∙ ap station_bytes fresh ∙ gives.1 }
