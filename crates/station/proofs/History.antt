@@ -104,11 +104,11 @@ module _ {st : Station} (ok : StationOk st) where
 -- after any calls the station is in range, and its settings are what they were
 pub after_ok : {st : Station} → StationOk st → (cs : List Call) → StationOk (after st cs)
 after_ok ok [] = ok
-after_ok ok (c ∷ cs) = after_ok (range_kept ok c) cs
+after_ok {st = st} ok (c ∷ cs) = after_ok {st = (step c st).station} (range_kept ok c) cs
 
 pub after_settings : {st : Station} → StationOk st → (cs : List Call) → (after st cs).settings ≡ st.settings
 after_settings ok [] = refl
-after_settings ok (c ∷ cs) = after_settings (range_kept ok c) cs ∙ (step_goes ok c).settings
+after_settings {st = st} ok (c ∷ cs) = after_settings {st = (step c st).station} (range_kept ok c) cs ∙ (step_goes ok c).settings
 
 -- the calls feed each shaper its record over them
 pub calls_feed : {st : Station} → StationOk st → (cs : List Call) → Feeds st.settings st.flow (after st cs).flow (λ (w : Which). record_of w st cs)
@@ -116,7 +116,7 @@ calls_feed {st} ok [] = none_feeds st.settings st.flow st.flow refl
 calls_feed {st} ok (c ∷ cs) =
     let next = (step c st).station in
     feeds_then (step_goes ok c).feeds
-    (subst (λ (s : Settings). Feeds s next.flow (after next cs).flow (λ (w : Which). record_of w next cs)) (step_goes ok c).settings (calls_feed (range_kept ok c) cs))
+    (subst (λ (s : Settings). Feeds s next.flow (after next cs).flow (λ (w : Which). record_of w next cs)) (step_goes ok c).settings (calls_feed {st = (step c st).station} (range_kept ok c) cs))
 
 -- Over any calls from a fresh station, each lent what the one before left and none a new start, a shaper's credit equals that of its record: one event per
 -- tick, one send per charge; and every send was permitted.

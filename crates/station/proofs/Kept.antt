@@ -42,7 +42,7 @@ use Rattle.station.specs.Calls.{flags_ok, ticked_of, aged_of, share_for, start_o
 use Rattle.station.specs.Offers.{given_frame, brought_of, offer_of, over_for, staged_of, staging, turned_of, offer_client_of}
 use Rattle.station.specs.Hear.{changed_of, hear_of}
 use Rattle.station.specs.History.{Call, tick, offer_client, offer_transit, offer_control, select, age, hear, tell, show, step}
-use Rattle.station.proofs.Range.{in_range_facts, facts_in_range, fresh_ok}
+use Rattle.station.proofs.Range.{facts_in_range, fresh_ok}
 use Rattle.station.proofs.Calls.{start_refused_lem, start_done, tick_coded, tick_done, select_done, age_done}
 use Rattle.station.proofs.Offers.{offer_coded, offer_beyond, offer_brought, client_coded, client_beyond, client_staged}
 use Rattle.station.proofs.Hear.{hear_not_whole, hear_whole, listen_own, listen_far, listen_beyond, listen_self, listen_done}

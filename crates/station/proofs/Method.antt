@@ -63,7 +63,7 @@ since_through {st} ok (c ∷ cs) =
     (subst (λ (f : Fair). f.since ≤ st.fair.since + 1) (sym (aged_fair ok)) (rows.interval_since st.fair st.settings (held_now st))))
     (λ z. omega (arith, z, (holds_till_interval st c (λ e. omega (arith, z, ap ends e))).2))
     in
-    omega (arith, one, since_through (range_kept ok c) cs)
+    omega (arith, one, since_through {st = (step c st).station} (range_kept ok c) cs)
 
 -- Two changes are at least a round trip apart, but for leaving and entering: from an interval that changes, over any calls, to one that steps.
 pub changes_apart : {st : Station} → StationOk st → st.settings.site.method ≡ 1 → Changes (row_now st)
@@ -87,7 +87,7 @@ conservative_within ok cs = in_range_rate (after_ok ok cs)
 free_through : {st : Station} → StationOk st → FreeAtUnreserved st → (cs : List Call) → FreeAtUnreserved (after st cs)
 free_through ok before [] = before
 free_through {st} ok before (c ∷ cs) =
-    free_through (range_kept ok c)
+    free_through {st = (step c st).station} (range_kept ok c)
     (by_cases (one_or_none c)
     (λ e. subst (λ (d : Call). FreeAtUnreserved (step d st).station) (sym e)
     (λ z.

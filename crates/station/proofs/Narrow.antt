@@ -72,7 +72,7 @@ fresh_narrow s own = record { own_low = own; low = omega arith }
 
 pub after_narrow : {st : Station} → Narrow st → (cs : List Call) → Narrow (after st cs)
 after_narrow old [] = old
-after_narrow old (c ∷ cs) = after_narrow (narrow_kept old c) cs
+after_narrow {st = st} old (c ∷ cs) = after_narrow {st = (step c st).station} (narrow_kept old c) cs
 
 module _ (s : Settings) (good : SettingsOk s) (own : NarrowOwn s) (cs : List Call) where
   reached : Narrow (after (fresh_of s) cs)

@@ -83,7 +83,7 @@ module _ (k : Rate) (rate : ℕ) where
   unfolding steady_of
   steady_stored ok [] at = refl
   steady_stored {st} ok (c ∷ cs) at =
-      steady_stored (range_kept ok c) cs at.1
+      steady_stored {st = (step c st).station} (range_kept ok c) cs at.1
       ∙ rw ((step_goes ok c).settings, call_stored ok c at.0) (sym (steady_add st.settings.fairness.lp rate (ends c) (intervals cs) (stored_of k st.fair.smoothed)))
 
   -- the rate is one that a counter stands at
@@ -92,7 +92,7 @@ module _ (k : Rate) (rate : ℕ) where
   steady_most {st} ok (c ∷ cs) at some =
       by_cases (one_or_none c)
       (λ e. omega (arith, at.0 e, counter_most k st.fair.counters ok.fair.of_counters))
-      (λ z. steady_most (range_kept ok c) cs at.1 (omega (arith, z)))
+      (λ z. steady_most {st = (step c st).station} (range_kept ok c) cs at.1 (omega (arith, z)))
 
   module _ {st : Station} (ok : StationOk st) (cs : List Call) (at : SteadyAt k rate st cs) where
     shown_after : shown_for k (after st cs) ≡ shown_of st.settings.fairness.lp (steady_of st.settings.fairness.lp rate (intervals cs) (stored_of k st.fair.smoothed))

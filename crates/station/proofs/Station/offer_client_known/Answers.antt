@@ -1,0 +1,63 @@
+-- The rows are tried in their order: each return is one of them. A number that is cut is out of range as it was.
+-- Assumes nothing.
+use mathlib.Core.Bool.{true, false}
+use mathlib.Core.Path.{sym, ap, ◌∙◌}
+use Rattle.decide.specs.Test.{left, taken}
+use Rattle.decide.specs.Hops.{in_ring}
+use Rattle.queue.specs.Frame.{frame_ok}
+use Rattle.flow.specs.Parts.{bounds_of}
+use Rattle.station.specs.Range.{station_ok}
+use Rattle.station.specs.Offers.{client_for}
+use Rattle.station.proofs.Offers.{cut_tested, cut_given, cut_ringed, client_lost, client_coded, client_beyond, client_staged}
+use Rattle.std.proofs.lemmas.Bool.{not_from_false, not_from_true}
+use Rattle.station.proofs.Station.offer_client_known.Goals as goal
+
+pub returns-then-not-good : goal.returns-then-not-good
+returns-then-not-good c =
+    let x = c.args in
+    let st = x.self in
+    c.turned_down.ensures
+    ∙ sym (client_lost st x.class x.size x.hops (taken (station_ok st) c.requires (not_from_false x.good c.if-not-good.true)))
+
+pub returns-then-not-frame_ok : goal.returns-then-not-frame_ok
+returns-then-not-frame_ok c =
+    let x = c.args in
+    let st = x.self in
+    let q = c.frame_of-frame in
+    -- the station is in range
+    let in_range = left (station_ok st) c.requires (not_from_true x.good c.if-not-good.false) in
+    let out = taken (frame_ok (bounds_of st.settings) q.result) c.frame_ok.ensures (not_from_false c.frame_ok.result c.if-not-frame_ok.true) in
+    c.turned_down-then-not-frame_ok.ensures
+    ∙ sym (client_coded st x.class x.size x.hops in_range (cut_tested st in_range x.class x.size x.hops 0 q.result q.ensures false out))
+
+pub returns-then-not-in_ring : goal.returns-then-not-in_ring
+returns-then-not-in_ring c =
+    let x = c.args in
+    let st = x.self in
+    let q = c.frame_of-frame in
+    -- the station is in range,
+    let in_range = left (station_ok st) c.requires (not_from_true x.good c.if-not-good.false) in
+    -- and so is the frame
+    let frame_in_range = left (frame_ok (bounds_of st.settings) q.result) c.frame_ok.ensures (not_from_true c.frame_ok.result c.if-not-frame_ok.false) in
+    -- as it was given
+    let given_in_range = cut_tested st in_range x.class x.size x.hops 0 q.result q.ensures true frame_in_range in
+    let out = taken (in_ring st.settings.site.stations q.result.hops) c.in_ring.ensures (not_from_false c.in_ring.result c.if-not-in_ring.true) in
+    c.turned_down-then-not-in_ring.ensures
+    ∙ sym
+    (client_beyond st x.class x.size x.hops in_range given_in_range
+    (cut_ringed st in_range x.class x.size x.hops 0 q.result q.ensures frame_in_range false out))
+
+pub returns : goal.returns
+returns c =
+    let x = c.args in
+    let st = x.self in
+    let q = c.frame_of-frame in
+    let in_range = left (station_ok st) c.requires (not_from_true x.good c.if-not-good.false) in
+    let frame_in_range = left (frame_ok (bounds_of st.settings) q.result) c.frame_ok.ensures (not_from_true c.frame_ok.result c.if-not-frame_ok.false) in
+    let given_in_range = cut_tested st in_range x.class x.size x.hops 0 q.result q.ensures true frame_in_range in
+    let within = left (in_ring st.settings.site.stations q.result.hops) c.in_ring.ensures (not_from_true c.in_ring.result c.if-not-in_ring.false) in
+    c.client.ensures
+    ∙ ap (client_for st) (cut_given st in_range x.class x.size x.hops 0 q.result q.ensures frame_in_range)
+    ∙ sym
+    (client_staged st x.class x.size x.hops in_range given_in_range
+    (cut_ringed st in_range x.class x.size x.hops 0 q.result q.ensures frame_in_range true within))

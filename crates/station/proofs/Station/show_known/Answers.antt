@@ -1,0 +1,21 @@
+-- The rows are tried in their order: each return is one of them. A station in range has a reading.
+-- Assumes nothing.
+use mathlib.Core.Path.{sym}
+use Rattle.decide.specs.Test.{left, taken}
+use Rattle.station.specs.Range.{station_ok}
+use Rattle.station.proofs.Range.{in_range_facts}
+use Rattle.station.proofs.Hear.{show_lost, show_done}
+use Rattle.std.proofs.lemmas.Bool.{not_from_false, not_from_true}
+use Rattle.station.proofs.Station.show_known.Goals as goal
+
+pub returns-then-not-good : goal.returns-then-not-good
+returns-then-not-good c = let st = c.args.self in
+    rw c.blank-blank.ensures (sym (show_lost st (taken (station_ok st) c.requires (not_from_false c.args.good c.if-not-good.true))))
+
+pub reading-reading-requires : goal.reading-reading-requires
+reading-reading-requires c = let st = c.args.self in
+    in_range_facts st (left (station_ok st) c.requires (not_from_true c.args.good c.if-not-good.false))
+
+pub returns : goal.returns
+returns c = let st = c.args.self in
+    rw c.reading-reading.ensures (sym (show_done st (left (station_ok st) c.requires (not_from_true c.args.good c.if-not-good.false))))
