@@ -18,7 +18,7 @@ use Rattle.credits.specs.Which.{credit_of}
 use Rattle.station.specs.declared.Station.{Station}
 use Rattle.station.specs.Range.{StationOk}
 use Rattle.station.specs.Calls.{fresh_of}
-use Rattle.station.specs.History.{Call, after, record_of, Recorded}
+use Rattle.station.specs.History.{Call, step, after, record_of, Recorded}
 use Rattle.station.proofs.History.{after_settings, credit_of_record}
 use Rattle.layout.specs.Layout.{station_length}
 use Rattle.rpr.specs.Station.{start_answer, start_after}
@@ -36,7 +36,7 @@ pub record Through (mem : List ℕ) (ls : List Lending) (st : Station) : Type 0 
 
 after_append : (st : Station) (cs ds : List Call) → after st (cs ++ ds) ≡ after (after st cs) ds
 after_append st [] ds = refl
-after_append st (c ∷ cs) ds = after_append _ cs ds
+after_append st (c ∷ cs) ds = after_append (step c st).station cs ds
 
 -- the first bytes of the memory are those that were lent, where these are a station's
 module _ (l : Lending) (mem : List ℕ) where

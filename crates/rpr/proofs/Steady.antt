@@ -11,7 +11,7 @@ use Rattle.decide.proofs.Cases.{by_cases}
 use Rattle.rates.specs.Steady.{gap_of}
 use Rattle.station.specs.declared.Reading.{Reading}
 use Rattle.station.specs.declared.Station.{Station}
-use Rattle.station.specs.History.{Call, after}
+use Rattle.station.specs.History.{Call, step, after}
 use Rattle.station.specs.Steady.{Rate, add, fw, add_congested, fw_congested, counter_of, shown_for, ends, intervals, SteadyAt}
 use Rattle.station.proofs.Steady.{steady_shown, steady_shown_always}
 use Rattle.layout.specs.Layout.{station_length}
@@ -81,12 +81,12 @@ module _ (l : Lending) (mem : List ℕ) (ls : List Lending) where
 module _ (k : Rate) (rate : ℕ) where
   steady_append : (st : Station) (cs ds : List Call) → SteadyAt k rate st cs → SteadyAt k rate (after st cs) ds → SteadyAt k rate st (cs ++ ds)
   steady_append st [] ds a b = b
-  steady_append st (c ∷ cs) ds a b = (a.0, steady_append _ cs ds a.1 b)
+  steady_append st (c ∷ cs) ds a b = (a.0, steady_append (step c st).station cs ds a.1 b)
 
   -- calls that end no interval are steady at any rate
   none_ended : (st : Station) (cs : List Call) → intervals cs ≡ 0 → SteadyAt k rate st cs
   none_ended st [] z = tt
-  none_ended st (c ∷ cs) z = (λ e. omega (arith, z, ap ends e), none_ended _ cs (omega (arith, z)))
+  none_ended st (c ∷ cs) z = (λ e. omega (arith, z, ap ends e), none_ended (step c st).station cs (omega (arith, z)))
 
   steady_call : (st : Station) (c : LentCall) → (c ≡ age → counter_of k st.fair.counters ≡ rate) → SteadyAt k rate st (calls_of c)
   steady_call st c at =
