@@ -18,7 +18,7 @@ use Rattle.paper.proofs.OfWrap as OfWrap
 use Rattle.paper.proofs.OfSheet as OfSheet
 use Rattle.paper.proofs.OfReader as OfReader
 use Rattle.paper.proofs.OfFeed as OfFeed
-use Rattle.paper.proofs.OfHex as OfHex
+use Rattle.paper.proofs.OfHexText as OfHexText
 use Rattle.paper.proofs.OfSettings as OfSettings
 use Rattle.paper.proofs.OfQueue as OfQueue
 use Rattle.paper.proofs.OfRates as OfRates
@@ -56,7 +56,7 @@ answers_determined =
       of_sheet = OfSheet.functions;
       of_reader = OfReader.functions;
       of_feed = OfFeed.functions;
-      of_hex = OfHex.functions;
+      of_hex_text = OfHexText.functions;
       of_settings = OfSettings.functions;
       of_queue = OfQueue.functions;
       of_rates = OfRates.functions;

@@ -37,7 +37,7 @@ pub mod OfWrap
 pub mod OfSheet
 pub mod OfReader
 pub mod OfFeed
-pub mod OfHex
+pub mod OfHexText
 pub mod OfSettings
 pub mod OfQueue
 pub mod OfRates

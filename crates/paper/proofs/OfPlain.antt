@@ -10,5 +10,5 @@ functions =
       plain_joined_lem = λ self other. by_equation;
       plain_end = λ self start. by_equation;
       depth_of = λ hi ceiling. by_equation;
-      ceiling_of_lem = λ hi depth. by_equation;
+      ceiling_of = λ hi depth. by_equation;
     }

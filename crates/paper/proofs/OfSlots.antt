@@ -11,5 +11,5 @@ functions =
       write = λ q s at. by_first;
       push = λ f s at. by_equation;
       take = λ s at. by_equation;
-      in_range_lem = λ s at bounds capacity. by_equation;
+      in_range = λ s at bounds capacity. by_equation;
     }

@@ -18,7 +18,7 @@ use Rattle.paper.specs.OfWrap as OfWrap
 use Rattle.paper.specs.OfSheet as OfSheet
 use Rattle.paper.specs.OfReader as OfReader
 use Rattle.paper.specs.OfFeed as OfFeed
-use Rattle.paper.specs.OfHex as OfHex
+use Rattle.paper.specs.OfHexText as OfHexText
 use Rattle.paper.specs.OfSettings as OfSettings
 use Rattle.paper.specs.OfQueue as OfQueue
 use Rattle.paper.specs.OfRates as OfRates
@@ -54,7 +54,7 @@ pub record AnswersDetermined : Type 0 where
   pub of_sheet : OfSheet.Functions
   pub of_reader : OfReader.Functions
   pub of_feed : OfFeed.Functions
-  pub of_hex : OfHex.Functions
+  pub of_hex_text : OfHexText.Functions
   pub of_settings : OfSettings.Functions
   pub of_queue : OfQueue.Functions
   pub of_rates : OfRates.Functions

@@ -1,14 +1,14 @@
 -- Public functions of `advert`, by name: two answers that meet the contract are equal.
 -- Assumes nothing.
-use Rattle.std.specs.Prelude.{ℕ, Bool, List, ◌≡◌}
 use Rattle.advert.specs.Frame.{advert_bytes, parsed_of, whole}
 use Rattle.advert.specs.declared.Advert.{Advert}
 use Rattle.advert.specs.declared.Parsed.{Parsed}
 use Rattle.decide.specs.Test.{test}
+use Rattle.std.specs.Prelude.{Bool, List, ℕ, ◌≡◌}
 use Rattle.paper.specs.Determined.{Determined}
 
 pub record Functions : Type 0 where
-  -- write (a leaf: it asks that length (now room) ≡ advertLength)
+  -- write (a leaf: it asks that length room.old ≡ advert_length)
   pub write : (advert : Advert) (room : List ℕ) → Determined (λ (after-room : List ℕ). after-room ≡ advert_bytes advert)
   -- parse
   pub parse : (frame : List ℕ) → Determined (λ (r : Parsed). r ≡ parsed_of frame)

@@ -1,8 +1,8 @@
 -- Public functions of `answer`, by name: two answers that meet the contract are equal.
 -- Assumes nothing.
-use Rattle.std.specs.Prelude.{ℕ, Bool, ◌≡◌}
 use Rattle.answer.specs.Bytes.{chosen_bytes, mark_bytes, moved_bytes, packed, permitted_bytes, refused_bytes, selected_bytes, written_bytes}
 use Rattle.queue.specs.declared.Frame.{Frame}
+use Rattle.std.specs.Prelude.{Bool, ℕ, ◌≡◌}
 use Rattle.paper.specs.Determined.{Determined}
 
 pub record Functions : Type 0 where

@@ -1,8 +1,8 @@
 -- Public functions of `decide`, by name: two answers that meet the contract are equal.
 -- Assumes nothing.
-use Rattle.std.specs.Prelude.{◌-◌, max, min, ℕ, ltb, Bool, ◌≡◌}
 use Rattle.decide.specs.Hops.{in_ring}
 use Rattle.decide.specs.Test.{test}
+use Rattle.std.specs.Prelude.{Bool, ltb, max, min, ℕ, ◌-◌, ◌≡◌}
 use Rattle.paper.specs.Determined.{Determined}
 
 pub record Functions : Type 0 where

@@ -1,6 +1,5 @@
 -- Public functions of `entry`, by name: two answers that meet the contract are equal.
 -- Assumes nothing.
-use Rattle.std.specs.Prelude.{ℕ, Bool, List, ◌≡◌}
 use Rattle.entry.specs.Brief.{brief_of, charge_brief_of, chosen_of, marked_of}
 use Rattle.entry.specs.declared.Brief.{Brief}
 use Rattle.entry.specs.declared.Chosen.{Chosen}
@@ -11,6 +10,7 @@ use Rattle.station.specs.Calls.{age_of, select_of, tick_of}
 use Rattle.station.specs.Hear.{hear_of}
 use Rattle.station.specs.Offers.{offer_client_of, offer_control_of, offer_transit_of}
 use Rattle.station.specs.declared.Station.{Station}
+use Rattle.std.specs.Prelude.{Bool, List, ℕ, ◌≡◌}
 use Rattle.paper.specs.Determined.{Determined, Determined²}
 
 pub record Functions : Type 0 where
@@ -21,11 +21,11 @@ pub record Functions : Type 0 where
   -- tick
   pub tick : (s : Station) (a b c : ℕ) → Determined² (λ (r : Brief) (after-s : Station). (r ≡ brief_of (tick_of s a b c)) × (after-s ≡ (tick_of s a b c).station))
   -- offer_client
-  pub offer_client_lem : (s : Station) (class size hops : ℕ) → Determined² (λ (r : Marked) (after-s : Station). (r ≡ marked_of (offer_client_of s class size hops)) × (after-s ≡ (offer_client_of s class size hops).station))
+  pub offer_client : (s : Station) (class size hops : ℕ) → Determined² (λ (r : Marked) (after-s : Station). (r ≡ marked_of (offer_client_of s class size hops)) × (after-s ≡ (offer_client_of s class size hops).station))
   -- offer_transit
-  pub offer_transit_lem : (s : Station) (class size hops eligible : ℕ) → Determined² (λ (r : Brief) (after-s : Station). (r ≡ brief_of (offer_transit_of s class size hops eligible)) × (after-s ≡ (offer_transit_of s class size hops eligible).station))
+  pub offer_transit : (s : Station) (class size hops eligible : ℕ) → Determined² (λ (r : Brief) (after-s : Station). (r ≡ brief_of (offer_transit_of s class size hops eligible)) × (after-s ≡ (offer_transit_of s class size hops eligible).station))
   -- offer_control
-  pub offer_control_lem : (s : Station) (size : ℕ) → Determined² (λ (r : Brief) (after-s : Station). (r ≡ brief_of (offer_control_of s size)) × (after-s ≡ (offer_control_of s size).station))
+  pub offer_control : (s : Station) (size : ℕ) → Determined² (λ (r : Brief) (after-s : Station). (r ≡ brief_of (offer_control_of s size)) × (after-s ≡ (offer_control_of s size).station))
   -- select
   pub select : (s : Station) → Determined² (λ (r : Chosen) (after-s : Station). (r ≡ chosen_of (select_of s)) × (after-s ≡ (select_of s).station))
   -- age

@@ -1,6 +1,5 @@
 -- Public functions of `fair`, by name: two answers that meet the contract are equal.
 -- Assumes nothing.
-use Rattle.std.specs.Prelude.{ℕ, Bool, ◌≡◌}
 use Rattle.advert.specs.declared.Advert.{Advert}
 use Rattle.decide.specs.Test.{test}
 use Rattle.fair.specs.Advertise.{heard_of, told_of}
@@ -15,6 +14,7 @@ use Rattle.fair.specs.declared.Four.{Four}
 use Rattle.fair.specs.declared.Stored.{Stored}
 use Rattle.rates.specs.Rates.{share_of}
 use Rattle.settings.specs.declared.Settings.{Settings}
+use Rattle.std.specs.Prelude.{Bool, ℕ, ◌≡◌}
 use Rattle.paper.specs.Determined.{Determined}
 
 pub record Functions : Type 0 where

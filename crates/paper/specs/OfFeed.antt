@@ -1,8 +1,8 @@
 -- Public functions of `feed`, by name: two answers that meet the contract are equal.
 -- Assumes nothing.
-use Rattle.std.specs.Prelude.{ℕ, Bool, List, ◌≡◌}
 use Rattle.feed.specs.Feed.{ends_of, fed_byte, fed_of, finish_of, start_of}
 use Rattle.feed.specs.declared.Feed.{Feed}
+use Rattle.std.specs.Prelude.{Bool, List, ℕ, ◌≡◌}
 use Rattle.summary.specs.declared.Answer.{Answer}
 use Rattle.paper.specs.Determined.{Determined}
 

@@ -1,6 +1,5 @@
 -- Public functions of `flow`, by name: two answers that meet the contract are equal.
 -- Assumes nothing.
-use Rattle.std.specs.Prelude.{ℕ, Bool, ◌≡◌}
 use Rattle.credits.specs.declared.Credits.{Credits}
 use Rattle.decide.specs.Test.{test}
 use Rattle.flow.specs.Leave.{left_of}
@@ -15,6 +14,7 @@ use Rattle.flow.specs.declared.Line.{Line}
 use Rattle.queue.specs.declared.Bounds.{Bounds}
 use Rattle.queue.specs.declared.Frame.{Frame}
 use Rattle.settings.specs.declared.Settings.{Settings}
+use Rattle.std.specs.Prelude.{Bool, ℕ, ◌≡◌}
 use Rattle.paper.specs.Determined.{Determined}
 
 pub record Functions : Type 0 where
@@ -34,7 +34,7 @@ pub record Functions : Type 0 where
   pub stage_ok_lem : (bounds : Bounds) (word : ℕ) → Determined (λ (r : Bool). r ≡ test (stage_ok bounds word))
   -- Flow::transit (a leaf: it asks that Offered settings self frame)
   pub flow_transit : (self : Flow) (settings : Settings) (frame : Frame) → Determined (λ (r : Entered). r ≡ transit_of settings self frame)
-  -- Flow::control (a leaf: it asks that Offered settings self (controlFrame size))
+  -- Flow::control (a leaf: it asks that Offered settings self (control_frame size))
   pub flow_control : (self : Flow) (settings : Settings) (size : ℕ) → Determined (λ (r : Entered). r ≡ control_of settings self size)
   -- Flow::client
   pub flow_client : (self : Flow) (settings : Settings) (class size hops : ℕ) (over : Bool) → Determined (λ (r : Client). r ≡ client_of settings self class size hops over)

@@ -1,6 +1,5 @@
 -- Public functions of `heard`, by name: two answers that meet the contract are equal.
 -- Assumes nothing.
-use Rattle.std.specs.Prelude.{ℕ, Bool, ◌≡◌}
 use Rattle.advert.specs.declared.Advert.{Advert}
 use Rattle.decide.specs.Hops.{in_ring}
 use Rattle.decide.specs.Test.{test}
@@ -8,6 +7,7 @@ use Rattle.heard.specs.Frame.{last_hop, none_received, other_ringlet, own_addres
 use Rattle.heard.specs.Range.{hops_of, received_ok, ttl_ok}
 use Rattle.heard.specs.declared.Received.{Received}
 use Rattle.settings.specs.declared.Settings.{Settings}
+use Rattle.std.specs.Prelude.{Bool, ℕ, ◌≡◌}
 use Rattle.paper.specs.Determined.{Determined}
 
 pub record Functions : Type 0 where

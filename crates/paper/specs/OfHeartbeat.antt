@@ -1,10 +1,10 @@
 -- Public functions of `heartbeat`, by name: two answers that meet the contract are equal.
 -- Assumes nothing.
-use Rattle.std.specs.Prelude.{ℕ, List, ◌≡◌}
 use Rattle.heartbeat.specs.Doubling.{doubling_of}
 use Rattle.heartbeat.specs.Heartbeat.{from_low_of, heartbeat_answer, heartbeats_of, pattern_of}
 use Rattle.heartbeat.specs.Repeat.{repeated_of}
 use Rattle.heartbeat.specs.declared.Repeats.{Repeats}
+use Rattle.std.specs.Prelude.{List, ℕ, ◌≡◌}
 use Rattle.summary.specs.declared.Answer.{Answer}
 use Rattle.summary.specs.declared.Outcome.{Outcome}
 use Rattle.summary.specs.declared.Summary.{Summary}

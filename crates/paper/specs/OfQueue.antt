@@ -1,6 +1,5 @@
 -- Public functions of `queue`, by name: two answers that meet the contract are equal.
 -- Assumes nothing.
-use Rattle.std.specs.Prelude.{ℕ, Bool, ◌≡◌}
 use Rattle.decide.specs.Test.{test}
 use Rattle.queue.specs.Frame.{frame_of, frame_ok, held_ok, hops_ok, word_of}
 use Rattle.queue.specs.Front.{front_of, fronted}
@@ -11,6 +10,7 @@ use Rattle.queue.specs.declared.Frame.{Frame}
 use Rattle.queue.specs.declared.Front.{Front}
 use Rattle.queue.specs.declared.Queue.{Queue}
 use Rattle.queue.specs.declared.Taken.{Taken}
+use Rattle.std.specs.Prelude.{Bool, ℕ, ◌≡◌}
 use Rattle.paper.specs.Determined.{Determined}
 
 pub record Functions : Type 0 where

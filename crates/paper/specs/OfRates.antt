@@ -1,8 +1,8 @@
 -- Public functions of `rates`, by name: two answers that meet the contract are equal.
 -- Assumes nothing.
-use Rattle.std.specs.Prelude.{ℕ, Bool, ◌≡◌}
 use Rattle.decide.specs.Test.{test}
 use Rattle.rates.specs.Rates.{aged_of, allowance_of, counted_of, own_rate_of, part_of, ramped_of, reduced_of, share_of, shown_of, shown_ok_of, smoothed_of}
+use Rattle.std.specs.Prelude.{Bool, ℕ, ◌≡◌}
 use Rattle.paper.specs.Determined.{Determined}
 
 pub record Functions : Type 0 where

@@ -1,10 +1,10 @@
 -- Public functions of `record`, by name: two answers that meet the contract are equal.
 -- Assumes nothing.
-use Rattle.std.specs.Prelude.{◌-◌, ℕ, Bool, List, ◌≡◌}
 use Rattle.record.specs.Step.{header_of_of, item_at, item_within}
 use Rattle.record.specs.declared.Header.{Header}
 use Rattle.record.specs.declared.Step.{Step}
 use Rattle.shaper.specs.Limits.{most_events}
+use Rattle.std.specs.Prelude.{Bool, List, ℕ, ◌-◌, ◌≡◌}
 use Rattle.paper.specs.Determined.{Determined}
 
 pub record Functions : Type 0 where

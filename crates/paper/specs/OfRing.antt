@@ -1,11 +1,11 @@
 -- Public functions of `ring`, by name: two answers that meet the contract are equal.
 -- Assumes nothing.
-use Rattle.std.specs.Prelude.{ℕ, ◌≡◌}
 use Rattle.decide.specs.Refusal.{first_of}
 use Rattle.ring.specs.Choosing.{choose_of, place_faults}
 use Rattle.ring.specs.Links.{other_of}
 use Rattle.ring.specs.declared.Choice.{Choice}
 use Rattle.ring.specs.declared.Way.{Way}
+use Rattle.std.specs.Prelude.{ℕ, ◌≡◌}
 use Rattle.paper.specs.Determined.{Determined}
 
 pub record Functions : Type 0 where

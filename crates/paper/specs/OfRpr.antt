@@ -1,11 +1,11 @@
 -- Public functions of `rpr`, by name: two answers that meet the contract are equal.
 -- Assumes nothing.
-use Rattle.std.specs.Prelude.{ℕ, List, ◌≡◌}
 use Rattle.layout.specs.Layout.{station_length}
 use Rattle.rpr.specs.Calls.{join_after, join_answer, settle_answer, summarize_after, summarize_answer, version_number}
 use Rattle.rpr.specs.Movers.{roll_after, roll_answer, unroll_after, unroll_answer}
 use Rattle.rpr.specs.Station.{age_after, age_answer, offer_client_after, offer_client_answer, offer_control_after, offer_control_answer, offer_transit_after, offer_transit_answer, read_frame_after, read_frame_answer, select_after, select_answer, show_after, show_answer, start_after, start_answer, tick_after, tick_answer, write_frame_after, write_frame_answer}
 use Rattle.rpr.specs.Ways.{choose_answer, path_answer}
+use Rattle.std.specs.Prelude.{List, ℕ, ◌≡◌}
 use Rattle.paper.specs.Determined.{Determined, Determined²}
 
 pub record Functions : Type 0 where

@@ -1,6 +1,5 @@
 -- Public functions of `settings`, by name: two answers that meet the contract are equal.
 -- Assumes nothing.
-use Rattle.std.specs.Prelude.{ℕ, Bool, List, ◌≡◌}
 use Rattle.decide.specs.Test.{test}
 use Rattle.settings.specs.Range.{address_of, aggressive, bucket_ok, fairness_ok, limits_of, queues_ok, settings_ok, shapers_ok, usual_of}
 use Rattle.settings.specs.Words.{settings_at, settings_bytes}
@@ -12,6 +11,7 @@ use Rattle.settings.specs.declared.Settings.{Settings}
 use Rattle.settings.specs.declared.Shapers.{Shapers}
 use Rattle.settings.specs.declared.Site.{Site}
 use Rattle.shaper.specs.declared.Limits.{Limits}
+use Rattle.std.specs.Prelude.{Bool, List, ℕ, ◌≡◌}
 use Rattle.wire.specs.Wire.{put}
 use Rattle.paper.specs.Determined.{Determined}
 
@@ -34,9 +34,9 @@ pub record Functions : Type 0 where
   pub fairness_in_range : (self : Fairness) → Determined (λ (r : Bool). r ≡ test (fairness_ok self))
   -- Site::is_aggressive
   pub site_is_aggressive : (self : Site) → Determined (λ (r : Bool). r ≡ test (aggressive self))
-  -- in_range_at (a leaf: it asks that at + settingsLength ≤ length (now s))
+  -- in_range_at (a leaf: it asks that at + settings_length ≤ length s.now)
   pub in_range_at : (s : List ℕ) (at : ℕ) → Determined (λ (r : Bool). r ≡ test (settings_ok (settings_at s at)))
-  -- Settings::read (a leaf: it asks that at + settingsLength ≤ length (now s))
+  -- Settings::read (a leaf: it asks that at + settings_length ≤ length s.now)
   pub settings_read : (s : List ℕ) (at : ℕ) → Determined (λ (r : Settings). r ≡ settings_at s at)
-  -- Settings::write (a leaf: it asks that at + settingsLength ≤ length (now s))
+  -- Settings::write (a leaf: it asks that at + settings_length ≤ length s.old)
   pub settings_write : (self : Settings) (s : List ℕ) (at : ℕ) → Determined (λ (after-s : List ℕ). after-s ≡ put s at (settings_bytes self))

@@ -1,6 +1,5 @@
 -- Public functions of `shaper`, by name: two answers that meet the contract are equal.
 -- Assumes nothing.
-use Rattle.std.specs.Prelude.{ℕ, Bool, ◌≡◌}
 use Rattle.decide.specs.Test.{test}
 use Rattle.shaper.specs.Limits.{limits_ok, same_limits}
 use Rattle.shaper.specs.Shaper.{charge_of, fresh_of, ticked_of}
@@ -8,6 +7,7 @@ use Rattle.shaper.specs.Short.{shortfall}
 use Rattle.shaper.specs.declared.Charged.{Charged}
 use Rattle.shaper.specs.declared.Limits.{Limits}
 use Rattle.shaper.specs.declared.Shaper.{Shaper}
+use Rattle.std.specs.Prelude.{Bool, ℕ, ◌≡◌}
 use Rattle.paper.specs.Determined.{Determined}
 
 pub record Functions : Type 0 where

@@ -1,10 +1,10 @@
 -- Public functions of `summary`, by name: two answers that meet the contract are equal.
 -- Assumes nothing.
-use Rattle.std.specs.Prelude.{ℕ, Bool, ◌≡◌}
 use Rattle.plain.specs.declared.Plain.{Plain}
 use Rattle.shaper.specs.Kind.{event_of}
 use Rattle.shaper.specs.declared.Event.{Event}
 use Rattle.shaper.specs.declared.Limits.{Limits}
+use Rattle.std.specs.Prelude.{Bool, ℕ, ◌≡◌}
 use Rattle.summary.specs.Answer.{counted_answer, empty_answer, join_next, join_of, settle_of, single_answer}
 use Rattle.summary.specs.Plain.{signed_from}
 use Rattle.summary.specs.Range.{in_range}

@@ -1,6 +1,6 @@
 -- Public functions of `window`, by name: two answers that meet the contract are equal.
 -- Assumes nothing.
-use Rattle.std.specs.Prelude.{ℕ, Bool, List, ◌≡◌}
+use Rattle.std.specs.Prelude.{Bool, List, ℕ, ◌≡◌}
 use Rattle.summary.specs.declared.Answer.{Answer}
 use Rattle.window.specs.Both.{alike_of, both_fed, both_start, same_answer_of}
 use Rattle.window.specs.declared.Pair.{Pair}

@@ -1,10 +1,10 @@
--- Public functions of `hex`, by name: two answers that meet the contract are equal.
+-- Public functions of `hex_text`, by name: two answers that meet the contract are equal.
 -- Assumes nothing.
-use Rattle.std.specs.Prelude.{ℕ, Bool, List, ◌≡◌}
 use Rattle.hex_text.specs.Fed.{ends_of, finish_of, is_whole, read_text, start_of}
 use Rattle.hex_text.specs.Hex.{glyph_of}
 use Rattle.hex_text.specs.declared.Glyph.{Glyph}
 use Rattle.hex_text.specs.declared.Hex.{Hex}
+use Rattle.std.specs.Prelude.{Bool, List, ℕ, ◌≡◌}
 use Rattle.summary.specs.declared.Answer.{Answer}
 use Rattle.paper.specs.Determined.{Determined}
 

@@ -1,6 +1,6 @@
--- Each contract of `hex` is an equation for the answer.
+-- Each contract of `hex_text` is an equation for the answer.
 -- Assumes nothing.
-use Rattle.paper.specs.OfHex.{Functions}
+use Rattle.paper.specs.OfHexText.{Functions}
 use Rattle.paper.proofs.Determined.{by_equation}
 
 pub functions : Functions
