@@ -185,7 +185,7 @@ module _ (xs : List ℕ) (k : Keeps xs (station_at xs)) where
 
 -- Lent bytes that hold a station in range serve it.
 pub hosts : (xs : List ℕ) (st : Station) → Keeps xs st → Hosts xs st
-hosts xs st k = subst (Hosts xs) k.holds (serves xs (subst (Keeps xs) (sym k.holds) k))
+hosts xs _ k = subst (Hosts xs) k.holds (serves xs (subst (Keeps xs) (sym k.holds) k))
 
 -- ---- start
 
