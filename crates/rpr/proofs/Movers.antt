@@ -1,12 +1,11 @@
 -- What the movers' answers say: a refusal is its number alone and leaves the room; else bytes 4 to 7 are the bytes written, and these stand at its front.
 -- Assumes nothing.
-use Prim.Native.Nat.{ℕ, zero, suc, ◌+◌, ◌*◌, ◌%◌, ◌≤◌, ◌<◌}
-use mathlib.Core.Bool.{Bool, true, false, not}
-use mathlib.Core.List.{List, [], ◌∷◌, ◌++◌}
-use mathlib.Core.Path.{◌≡◌, refl, sym, ap, ◌∙◌}
+use Prim.Native.Nat.{ℕ, zero, suc, ◌%◌, ◌≤◌, ◌<◌}
+use mathlib.Core.Bool.{true, false}
+use mathlib.Core.List.{List, []}
+use mathlib.Core.Path.{◌≡◌, refl, ap, ◌∙◌}
 use native.Mathlib.Omega.{arith}
 use borrow.Author.Tests.{ne_eqb, le-ltb, lt-ltb}
-use lib.Dec.{eqb, ltb}
 use lib.ListN.{length}
 use Rattle.decide.specs.Refusal.{Fault, first_of, RefusedExactly}
 use Rattle.decide.proofs.Cases.{by_cases, le_or}
@@ -14,13 +13,12 @@ use Rattle.decide.proofs.Refusal.{in_order_lem, refused_exactly}
 use Rattle.wire.specs.Wire.{digits, put}
 use Rattle.record.specs.Read.{Read, unreadable, whole, read_in}
 use Rattle.roll.specs.declared.Moved.{Moved}
-use Rattle.roll.specs.declared.Moved.TheVariants as Moved
 use Rattle.roll.specs.Moved.{Output, bytes, rolled_read, rolled_bytes, unrolled_read, unrolled_bytes, moved_of, left_of}
 use Rattle.roll.specs.Steps.{output_of}
 use Rattle.roll.proofs.Rooms.{row_written, row_short, row_refused}
 use Rattle.answer.specs.Bytes.{packed, written_bytes}
 use Rattle.rpr.specs.Shape.{answer_of, after_of, Bears}
-use Rattle.rpr.specs.Movers.{output_number, mover_rows, mover_answer, mover_after, roll_answer, roll_after, unroll_answer, unroll_after}
+use Rattle.rpr.specs.Movers.{mover_rows, mover_answer, mover_after}
 use Rattle.rpr.proofs.Shape.{most_number, refused_leaves}
 use Rattle.rpr.proofs.Shape as Shape
 use Rattle.rpr.proofs.Numbers.{OfTable, ReadNumbered, read_numbered}

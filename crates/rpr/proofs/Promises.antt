@@ -16,7 +16,6 @@ use Rattle.decide.proofs.Refusal.{refused_exactly}
 use Rattle.decide.proofs.Refused.{carried_by}
 use Rattle.wire.specs.Wire.{digits, Bytes}
 use Rattle.shaper.specs.declared.Limits.{Limits}
-use Rattle.shaper.specs.declared.Event.{Event}
 use Rattle.shaper.specs.Limits.{most_events, same_limits}
 use Rattle.shaper.proofs.Ranges.{same_exactly}
 use Rattle.summary.specs.declared.Summary.{Summary}

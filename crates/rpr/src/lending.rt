@@ -81,13 +81,7 @@ pub fn rpr_offer_client(station: &mut [u8], class: u64, size: u64, hops: u64) ->
 }
 
 // Takes a transit frame into the queue of its class. 2, 1, 3, 13, then 4.
-pub fn rpr_offer_transit(
-    station: &mut [u8],
-    class: u64,
-    size: u64,
-    hops: u64,
-    eligible: u64,
-) -> u64
+pub fn rpr_offer_transit(station: &mut [u8], class: u64, size: u64, hops: u64, eligible: u64) -> u64
     ensures value { result ≡ offer_transit_answer station.old class size hops eligible }
     ensures station_after { station.new ≡ offer_transit_after station.old class size hops eligible }
 {

@@ -2,7 +2,6 @@
 -- Assumes nothing.
 use mathlib.Core.Path.{sym, ap, ◌∙◌}
 use Rattle.rpr.specs.Ways.{choice_answer, choose_answer}
-use borrow.Author.Rules.{rules}
 use Rattle.rpr.proofs.rpr_choose.Goals as goal
 
 pub returns-in-Chosen : goal.returns-in-Chosen

@@ -1,7 +1,6 @@
 -- Each slice of another length is 2; else the join of what the two hold is handed over.
 -- Assumes nothing.
 use mathlib.Core.Path.{◌∙◌}
-use borrow.Author.Rules.{rules}
 use Rattle.rpr.proofs.Rows.{join_first, join_second, join_room, join_whole}
 use Rattle.rpr.proofs.rpr_join.Goals as goal
 

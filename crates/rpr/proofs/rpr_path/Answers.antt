@@ -2,7 +2,6 @@
 -- Assumes nothing.
 use mathlib.Core.Path.{sym, ap, ◌∙◌}
 use Rattle.rpr.specs.Ways.{moved_answer, path_answer}
-use borrow.Author.Rules.{rules}
 use Rattle.rpr.proofs.rpr_path.Goals as goal
 
 pub returns-in-Moved : goal.returns-in-Moved

@@ -1,6 +1,6 @@
 -- A slice of another length is 2; else the outcome is packed, or the number of the refusal alone.
 -- Assumes nothing.
-use mathlib.Core.Path.{◌≡◌, sym, ap, ◌∙◌}
+use mathlib.Core.Path.{sym, ap, ◌∙◌}
 use Rattle.summary.specs.declared.Outcome.{Outcome}
 use Rattle.summary.specs.Answer.{settle_of}
 use Rattle.rpr.proofs.Rows.{settle_length, settle_whole}

@@ -1,7 +1,6 @@
 -- A room of another length is 2; else what the record comes to is handed over.
 -- Assumes nothing.
 use mathlib.Core.Path.{◌∙◌}
-use borrow.Author.Rules.{rules}
 use Rattle.rpr.proofs.Rows.{summarize_room, summarize_whole}
 use Rattle.rpr.proofs.rpr_summarize.Goals as goal
 

@@ -1,10 +1,9 @@
 -- What the mover answers and leaves is what the call does, by its rows.
 -- Assumes nothing.
-use mathlib.Core.Path.{◌≡◌, sym, ap, ◌∙◌}
+use mathlib.Core.Path.{sym, ap, ◌∙◌}
 use Rattle.roll.specs.Moved.{unrolled_bytes}
 use Rattle.rpr.specs.Movers.{unroll_answer, unroll_after}
 use Rattle.rpr.proofs.Movers.{told_of, unroll_numbered, mover_gives}
-use borrow.Author.Rules.{rules}
 use Rattle.rpr.proofs.rpr_unroll.Goals as goal
 
 pub returns-in-Written : goal.returns-in-Written

@@ -29,5 +29,5 @@ returns c =
     let xs : _ = c.args.station.now in
     let said = rw c.read.ensures at c.age_known-out.ensures in
     let gives = done_carried xs _ c.if-station-ne-LENGTH.false _ _ said c.if-out-ne0.false (λ (st : Station). fair_in xs st.fair)
-    (λ z. fair_written xs (λ j. c.type_inv.station j) c.if-station-ne-LENGTH.false _) c.write_fair.ensures in
+    (λ z. fair_written xs (λ j. search rules) c.if-station-ne-LENGTH.false _) c.write_fair.ensures in
     record { value = gives.0; station_after = gives.1 }

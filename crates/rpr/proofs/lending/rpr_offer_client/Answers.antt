@@ -36,7 +36,7 @@ returns c =
     let said = rw c.read.ensures at c.offer_client_known-out.ensures in
     let b =
     taken_left xs _ _ _ _ _ _ said c.if-out-ne0.false (λ (f : Flow). stage_in (credits_in xs f) f)
-    (client_written xs (λ j. c.type_inv.station j) c.if-station-ne-LENGTH.false a.class a.size a.hops) in
+    (client_written xs (λ j. search rules) c.if-station-ne-LENGTH.false a.class a.size a.hops) in
     let both = c.write_stage.ensures ∙ ap (λ (l : List ℕ). stage_in l c.offer_client_known-out.result.station.flow) c.write_credits.ensures in
     let gives = whole_gives_short _ xs _ c.if-station-ne-LENGTH.false _ _ _ _ (c.marked.ensures ∙ b.0, both ∙ b.1) in
     record { value = gives.0; station_after = gives.1 }

@@ -33,5 +33,5 @@ returns c =
     let xs : _ = a.station.now in
     let said = rw c.read.ensures at c.offer_control_known-out.ensures in
     let gives = done_carried xs _ c.if-station-ne-LENGTH.false _ _ said c.if-out-ne0.false (λ (st : Station). pushed_at xs Control (control_frame a.size))
-    (offer_written xs (λ j. c.type_inv.station j) c.if-station-ne-LENGTH.false Control (control_frame a.size)) c.push_frame.ensures in
+    (offer_written xs (λ j. search rules) c.if-station-ne-LENGTH.false Control (control_frame a.size)) c.push_frame.ensures in
     record { value = gives.0; station_after = gives.1 }

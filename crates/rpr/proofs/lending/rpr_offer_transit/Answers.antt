@@ -38,5 +38,5 @@ returns c =
     let said = rw c.read-held.ensures at c.offer_transit_known-out.ensures in
     let there = c.push_frame.ensures ∙ ap (λ (m : Line). pushed_at xs m x) (rw c.read-held.ensures at c.queue_for-line.ensures) in
     let gives = done_carried xs _ c.if-station-ne-LENGTH.false _ _ said c.if-out-ne0.false (λ (st : Station). pushed_at xs l x)
-    (offer_written xs (λ j. c.type_inv.station j) c.if-station-ne-LENGTH.false l x) there in
+    (offer_written xs (λ j. search rules) c.if-station-ne-LENGTH.false l x) there in
     record { value = gives.0; station_after = gives.1 }

@@ -10,6 +10,7 @@ use Rattle.rpr.proofs.Given.{not_whole, select_refused, select_given}
 use Rattle.rpr.proofs.Chosen.{nothing_chosen}
 use Rattle.rpr.proofs.Written.{select_written}
 use Rattle.std.proofs.lemmas.Bool.{not_from_false, not_from_true}
+use borrow.Author.Rules.{rules}
 use Rattle.rpr.proofs.lending.rpr_select.Goals as goal
 
 pub returns-then-station-ne-LENGTH : goal.returns-then-station-ne-LENGTH
@@ -33,7 +34,7 @@ returns-then-out-eq0 c =
     let o = left (station_ok _) c.in_range.ensures (not_from_true _ c.if-not-in_range.false) in
     let none = nothing_chosen (station_at xs) o (rw c.pick-out.ensures at c.if-out-eq0.true) in
     let gives = select_given xs c.if-station-ne-LENGTH.false (station_at xs) _ _ o none.0
-    (sym (bytes_of_state xs (λ j. c.type_inv.station j) c.if-station-ne-LENGTH.false) ∙ ap station_bytes none.1) in
+    (sym (bytes_of_state xs (λ j. search rules) c.if-station-ne-LENGTH.false) ∙ ap station_bytes none.1) in
     record { value = gives.0; station_after = gives.1 }
 
 pub returns : goal.returns
@@ -44,5 +45,5 @@ returns c =
     let all = rw (c.write_stage.ensures, c.write_credits.ensures, c.take_frame.ensures) at c.write_counters.ensures in
     let gives = select_given xs c.if-station-ne-LENGTH.false (station_at xs) _ _ (left (station_ok _) c.in_range.ensures (not_from_true _ c.if-not-in_range.false))
     (rw said at c.selected.ensures)
-    (rw said at all ∙ select_written xs (λ j. c.type_inv.station j) c.if-station-ne-LENGTH.false) in
+    (rw said at all ∙ select_written xs (λ j. search rules) c.if-station-ne-LENGTH.false) in
     record { value = gives.0; station_after = gives.1 }

@@ -4,7 +4,6 @@ use mathlib.Core.Path.{◌∙◌}
 use Rattle.rpr.specs.Station.{show_answer, show_after}
 use Rattle.rpr.proofs.Shape.{turned_down, taken_on}
 use Rattle.rpr.proofs.Given.{not_whole, range_known, then_not_whole, then_whole_gives, shown_back}
-use borrow.Author.Rules.{rules}
 use Rattle.rpr.proofs.lending.rpr_show.Goals as goal
 
 pub returns-then-station-ne-LENGTH : goal.returns-then-station-ne-LENGTH

@@ -29,5 +29,5 @@ returns c =
     let xs : _ = c.args.station.now in
     let said = rw c.read.ensures at c.tick_known-out.ensures in
     let gives = done_carried xs _ c.if-station-ne-LENGTH.false _ _ said c.if-out-ne0.false (λ (st : Station). credits_in xs st.flow)
-    (λ z. tick_written xs (λ j. c.type_inv.station j) c.if-station-ne-LENGTH.false _ _ _) c.write_credits.ensures in
+    (λ z. tick_written xs (λ j. search rules) c.if-station-ne-LENGTH.false _ _ _) c.write_credits.ensures in
     record { value = gives.0; station_after = gives.1 }
