@@ -29,7 +29,7 @@ use Rattle.account.specs.Account.{summarized, summarize_in, events_of}
 use Rattle.account.specs.Rest.{rested, rest_of}
 
 -- what is read of some bytes is valid
-abbrev ValidEvents : Limits → Events → Type 0
+abbrev pub ValidEvents : Limits → Events → Type 0
 ValidEvents l (faulty n) = Unit {0}
 ValidEvents l (events es) = AllValid l es
 
@@ -42,7 +42,7 @@ valid_read runs late l left ys b = valid_by runs late l left ys b (read_items ru
 
 -- ---- the start
 
-start_by : (l : Limits) → Holds (limits_ok l) → (r : Events) → ValidEvents l r → summarized (under l r) ≡ rested l (plain_at l 0 (start_of l.lo)) r
+pub start_by : (l : Limits) → Holds (limits_ok l) → (r : Events) → ValidEvents l r → summarized (under l r) ≡ rested l (plain_at l 0 (start_of l.lo)) r
 start_by l ok (faulty n) v = refl
 start_by l ok (events es) v = ap Answer.Summed (summary_signed l ok es ∙ ap signed_from (sym (start_rest l ok es v)))
 
@@ -77,7 +77,7 @@ module _ (l : Limits) (n : ℕ) (t : Tally) (p : Ready l n t) where
   unfolding rest_of
   rest_end runs late left xs at h = rw (read_end runs late l.mtu left xs at h) (ap (λ q. Answer.Summed (signed_from q)) (end_rest l n t p))
 
-  step_by : (e : Event) → Valid l e → (c : ℕ) → Holds (count_ok e c) → (r : Events) → ValidEvents l r →
+  pub step_by : (e : Event) → Valid l e → (c : ℕ) → Holds (count_ok e c) → (r : Events) → ValidEvents l r →
       rested l (plain_at l n t) (ahead c e r) ≡ rested l (plain_at l (n + c) (step_of (l.hi - l.lo) (kind_of e) (c * number_of e) t)) r
   step_by e v c h (faulty m) w = rw (ahead_faulty c e m)
   step_by e v c h (events es) w = rw (ahead_events c e es) (ap (λ q. Answer.Summed (signed_from q)) (run_rest l n t p e v c h es w))

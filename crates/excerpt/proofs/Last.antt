@@ -1,22 +1,22 @@
 -- The events from a place to the record's end: item by item.
 -- Assumes nothing.
-use Prim.Native.Nat.{ℕ, zero, suc, ◌+◌, ◌-◌, ◌≤◌, ◌<◌}
+use Prim.Native.Nat.{ℕ, zero, suc, ◌+◌, ◌≤◌, ◌<◌}
 use mathlib.Core.Bool.{Bool, true, false, cond}
 use mathlib.Core.List.{List}
 use mathlib.Core.Path.{◌≡◌, refl, sym, ap, ◌∙◌}
 use native.Mathlib.Omega.{arith}
 use native.Mathlib.Nat.{zero-add, suc-add}
-use borrow.Author.Tests.{le-leb, lt-leb, le-ltb, lt-ltb, eq-eqb, ne_eqb, eqb-true}
+use borrow.Author.Tests.{le-leb, lt-leb, ne_eqb}
 use lib.Dec.{eqb}
 use lib.ListN.{length, drop}
 use Rattle.decide.specs.Test.{◌≡?◌, split}
 use Rattle.decide.specs.Refusal.{first_of}
-use Rattle.decide.proofs.Cases.{by_cases, le_or, true_or_false}
+use Rattle.decide.proofs.Cases.{by_cases}
 use Rattle.record.specs.Read.{length_at, item_faults, item_count}
 use Rattle.excerpt.specs.declared.Place.{Place}
 use Rattle.excerpt.specs.declared.Shape.{Shape}
 use Rattle.excerpt.specs.Place.{next_place, place_faults}
-use Rattle.excerpt.specs.Last.{not_whole, events_left, shape_of}
+use Rattle.excerpt.specs.Last.{events_left, shape_of}
 use Rattle.excerpt.proofs.Faults.{fault_gone, fault_item, fault_there}
 use Rattle.excerpt.proofs.Parts.{placed, next_amid, next_last}
 

@@ -1,15 +1,14 @@
 -- Events that stand as in a record of the old form, six bytes each, are read the same from a place on.
 -- Assumes nothing.
-use Prim.Native.Nat.{ℕ, zero, suc, ◌+◌, ◌-◌, ◌*◌, ◌≤◌, ◌<◌}
+use Prim.Native.Nat.{ℕ, zero, suc, ◌+◌, ◌*◌, ◌≤◌}
 use mathlib.Core.Bool.{Bool, true, false}
 use mathlib.Core.List.{List, [], ◌∷◌}
 use mathlib.Core.Logic.{⊎_elim}
 use mathlib.Core.Path.{◌≡◌, refl, sym, ap, ◌∙◌}
 use native.Mathlib.Omega.{arith}
 use native.Mathlib.Nat.{suc-add, zero-add, add-zero}
-use borrow.Author.Tests.{le-ltb}
-use lib.ListN.{length, take, drop, length-drop, length-take, take-append-drop}
-use lib.Seq.{drop-append-le, drop-drop, take_all, take-add, length-take-le, drop_at}
+use lib.ListN.{length, take, drop, length-drop, take-append-drop}
+use lib.Seq.{drop-drop, take-add, length-take-le, drop_at}
 use Rattle.shaper.specs.declared.Event.{Event}
 use Rattle.shaper.specs.declared.Limits.{Limits}
 use Rattle.shaper.specs.Kind.{event_of}
@@ -21,12 +20,11 @@ use Rattle.summary.specs.Summary.{summary_of}
 use Rattle.account.specs.Account.{events_of}
 use Rattle.record.specs.declared.Step.{Step}
 use Rattle.record.specs.declared.Step.TheVariants.{Stands, End, Faulty}
-use Rattle.record.specs.Read.{Events, faulty, events, onward, ahead, read_items}
+use Rattle.record.specs.Read.{Events, faulty, events, onward, read_items}
 use Rattle.record.specs.Step.{item_at}
-use Rattle.record.proofs.Fields.{Good, facts_free}
+use Rattle.record.proofs.Fields.{facts_free}
 use Rattle.record.proofs.Rows.{event_stands}
 use Rattle.record.proofs.Steps.{GoodAt, EventThere, Stood, step_stands, step_end, step_faulty, read_end}
-use Rattle.excerpt.specs.declared.Place.{Place}
 use Rattle.excerpt.specs.Place.{passed_of, place_after}
 use Rattle.excerpt.specs.declared.Excerpt.{Excerpt}
 use Rattle.excerpt.specs.Excerpt.{read_part, excerpt_of}

@@ -1,13 +1,13 @@
 -- Events from a place on: an item's in one step, and what is read of them.
 -- Assumes nothing.
-use Prim.Native.Nat.{ℕ, zero, suc, ◌+◌, ◌-◌, ◌≤◌, ◌<◌}
+use Prim.Native.Nat.{ℕ, zero, suc, ◌+◌, ◌≤◌, ◌<◌}
 use mathlib.Core.Bool.{true}
-use mathlib.Core.List.{List, [], ◌∷◌, ◌++◌}
+use mathlib.Core.List.{List, []}
 use mathlib.Core.Path.{◌≡◌, refl, sym, ap, ◌∙◌}
 use native.Mathlib.Omega.{arith}
 use native.Mathlib.Nat.{zero-add, suc-add}
 use borrow.Author.Tests.{le-ltb, lt-ltb}
-use lib.ListN.{length, drop}
+use lib.ListN.{drop}
 use Rattle.decide.specs.Refusal.{first_of}
 use Rattle.decide.proofs.Cases.{by_cases, le_or}
 use Rattle.shaper.specs.declared.Limits.{Limits}
@@ -20,7 +20,6 @@ use Rattle.record.specs.declared.Step.TheVariants.{Stands, End, Faulty}
 use Rattle.record.specs.Read.{Events, faulty, events, onward, ahead, length_at, item_faults, item_count}
 use Rattle.record.specs.Step.{item_at}
 use Rattle.record.proofs.Steps.{step_end, step_faulty, stood_bound}
-use Rattle.record.proofs.Written.{behind}
 use Rattle.account.proofs.Rest.{ValidEvents}
 use Rattle.excerpt.specs.declared.Place.{Place}
 use Rattle.excerpt.specs.Place.{bytes_from, event_from, next_place, passed_of, place_after, place_faults}

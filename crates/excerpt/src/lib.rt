@@ -1,4 +1,6 @@
 // So many events of a record from a place on: their summary, and the place behind them. Nothing of the record but those events is looked at.
+#![tactic(auto)]
+
 ghost use Rattle.std.specs.Prelude.{cond, ◌≡◌, ◌≤◌, eqb};
 ghost use Rattle.decide.specs.Test.{Holds};
 ghost use Rattle.shaper.specs.Limits.{limits_ok, most_events};
@@ -23,14 +25,14 @@ const EVENT: usize = 6;
 const NOT_WHOLE: u64 = 2;
 
 // The place of an event: the byte of its item in the record, and how many of that item's events come before it.
-#[derive(Drop)]
+#[derive(Clone, Copy)]
 pub struct Place {
     pub at: usize,
     pub gone: u64,
 }
 
 // The summary of some events and the place behind them, or the number of their earliest fault.
-#[derive(Drop)]
+#[derive(Clone, Copy)]
 pub enum Excerpt {
     Summed { sum: Summary, next: Place },
     Refused(u64),
@@ -205,7 +207,7 @@ fn shape_at(s: &[u8], at: usize, mtu: u32) -> Shape
 const SIZE: u64 = 3;
 
 // How many events an item stands for, and where the next begins.
-#[derive(Drop)]
+#[derive(Clone, Copy)]
 struct Shape {
     count: u64,
     next: usize,

@@ -3,20 +3,19 @@
 use Prim.Native.Nat.{ℕ, zero, suc, ◌+◌, ◌≤◌, ◌<◌}
 use mathlib.Core.Bool.{Bool, true, false, cond, ◌&&◌}
 use mathlib.Core.Logic.{◌⊎◌, inl, inr}
-use mathlib.Core.List.{List, [], ◌∷◌}
-use mathlib.Core.Path.{◌≡◌, refl, sym, ap, ◌∙◌}
+use mathlib.Core.List.{List, ◌∷◌}
+use mathlib.Core.Path.{◌≡◌, refl, sym, ◌∙◌}
 use native.Mathlib.Omega.{arith}
 use native.Mathlib.Nat.{add-zero}
 use borrow.Author.Tests.{le-leb, lt-leb, le-ltb, lt-ltb, eq-eqb, ne_eqb}
-use lib.Dec.{leb, ltb, eqb}
+use lib.Dec.{eqb}
 use lib.ListN.{length, drop}
 use Rattle.decide.specs.Test.{◌≡?◌, split}
 use Rattle.decide.specs.Refusal.{Fault, fault, First, nothing, row, first, first_of}
 use Rattle.decide.proofs.Cases.{by_cases, le_or, true_or_false}
 use Rattle.wire.specs.Wire.{le}
 use Rattle.wire.proofs.Numbers.{le_drop}
-use Rattle.record.specs.declared.Step.{Step}
-use Rattle.record.specs.declared.Step.TheVariants.{Stands, End, Faulty}
+use Rattle.record.specs.declared.Step.TheVariants.{Stands, Faulty}
 use Rattle.record.specs.Read.{length_at, field_fault, is_run, run_field_fault, item_faults, item_kind, item_number, item_count}
 use Rattle.record.specs.Step.{item_at}
 use Rattle.record.proofs.Fields.{fields_length, fields_below, fields_above, fields_small, fields_large, fields_tick, fields_send, run_length, run_below, run_above, run_few, run_good}

@@ -1,0 +1,182 @@
+-- What is left keeps its answer with each item that the decoder finds, or some of its events; an end, a fault or a place within no item is that answer.
+-- Assumes nothing.
+use Prim.Native.Nat.{ℕ, ◌+◌, ◌-◌, ◌*◌, ◌≤◌, ◌<◌, min}
+use mathlib.Core.Path.{◌≡◌, refl, sym, ◌∙◌}
+use native.Mathlib.Omega.{arith}
+use native.Mathlib.Nat.{mul-le-mul_left}
+use mathlib.Core.Bool.{Bool, true, false, cond}
+use lib.Dec.{eqb}
+use Rattle.decide.specs.Test.{Holds}
+use Rattle.shaper.specs.declared.Limits.{Limits}
+use Rattle.shaper.specs.Limits.{limits_ok, most_amount, most_events}
+use Rattle.record.proofs.Steps.{step_end, step_faulty, stood_bound}
+use Rattle.excerpt.proofs.Faults.{standing, faulty_there, fault_gone, fault_there, item_none}
+use Rattle.tally.specs.Tally.{plain_at}
+use Rattle.summary.specs.Plain.{signed_from}
+use Rattle.excerpt.specs.declared.Excerpt.TheVariants.{Summed}
+use Rattle.account.proofs.Passed.{rise_max}
+use Rattle.tally.proofs.Laws.{within_more, start_ready}
+use Rattle.excerpt.proofs.Parts.{placed, passed_late}
+use Rattle.excerpt.proofs.Walk.{rest_part, part_start, part_stops, part_end, part_step, step_ready}
+use Rattle.excerpt.proofs.walked.Goals as goal
+
+low_high : (l : Limits) → Holds (limits_ok l) → l.lo ≤ l.hi
+low_high l ok = omega arith
+
+-- how many of its events are taken: one at least, and no more than it has or than are wanted
+record Taken (gone many left number taken : ℕ) : Type 0 where
+  some : 1 ≤ taken
+  few : gone + taken ≤ many
+  enough : taken ≤ left
+  small : number ≤ most_amount
+  brings : taken * number ≤ most_amount * most_events
+
+taking : (gone many left number taken : ℕ) → taken ≡ min (many - gone) left → gone < many → 0 < left → left ≤ most_events → number ≤ most_amount → Taken gone many left number taken
+taking gone many left number taken e there some most small =
+    let enough : taken ≤ left = omega arith in
+    let b = mul-le-mul_left taken small in
+    record { some = omega arith; few = omega arith; enough = enough; small = small; brings = omega arith }
+
+pub overflow_sub-rise : goal.overflow_sub-rise
+overflow_sub-rise c = low_high c.args.limits c.requires.0
+
+pub loop-left-init : goal.loop-left-init
+loop-left-init c =
+    let a = c.args in
+    let p = c.requires in
+    let none : a.count - a.count ≡ 0 = omega arith in
+    (rw (none, c.start-t.ensures) (start_ready a.limits p.0), omega arith, p.1, p.2, rw none refl)
+
+pub returns-then-many-gone : goal.returns-then-many-gone
+returns-then-many-gone c =
+    let L = c.loop-left in
+    let a = c.args in
+    let s = standing a.limits.mtu a.s.now L.at _ _ _ _ (sym c.event_at.ensures ∙ c.in-Stands.is) in
+    sym (part_stops a.limits _ L.t L.left a.s.now (placed L.at L.gone) 2 c.loop-left-test.true (omega arith)
+    (fault_gone a.limits.mtu a.s.now (placed L.at L.gone) (rw s.told.count c.if-many-gone.true)))
+    ∙ (
+    let a = c.args in
+    let bytes = λ (j : ℕ). c.type_inv.s j in
+    c.loop-left.invariant.4 ∙ rw c.start-t.ensures (sym (part_start a.limits c.requires.0 a.s.now (λ j. (bytes j).fits) a.count a.place)))
+
+pub overflow_mul-taken : goal.overflow_mul-taken
+overflow_mul-taken c = record {
+  fits = omega (
+    arith,
+    ((let L = c.loop-left in
+        let a = c.args in
+        let f = c.in-Stands in
+        let bytes = λ (j : ℕ). c.type_inv.s j in
+        let s = standing a.limits.mtu a.s.now L.at _ _ _ _ (sym c.event_at.ensures ∙ c.in-Stands.is) in
+        taking L.gone f.stands L.left f.number c.lesser-taken.result c.lesser-taken.ensures c.if-many-gone.false c.loop-left-test.true (omega (arith, L.invariant.1, L.invariant.2))
+        (stood_bound true a.limits.mtu a.s.now L.at f.kind f.number f.stands f.next (λ j. (bytes j).fits) s.stood))).brings,
+  );
+}
+
+pub step-t-requires : goal.step-t-requires
+step-t-requires c =
+    let L = c.loop-left in
+    let a = c.args in
+    let n = a.count - L.left in (
+      within_more n most_events L.t L.invariant.0.few L.invariant.0.within,
+      rise_max a.limits n L.t L.invariant.0,
+      ((let L = c.loop-left in
+          let a = c.args in
+          let f = c.in-Stands in
+          let bytes = λ (j : ℕ). c.type_inv.s j in
+          let s = standing a.limits.mtu a.s.now L.at _ _ _ _ (sym c.event_at.ensures ∙ c.in-Stands.is) in
+          taking L.gone f.stands L.left f.number c.lesser-taken.result c.lesser-taken.ensures c.if-many-gone.false c.loop-left-test.true (omega (arith, L.invariant.1, L.invariant.2))
+          (stood_bound true a.limits.mtu a.s.now L.at f.kind f.number f.stands f.next (λ j. (bytes j).fits) s.stood))).brings,
+    )
+
+pub overflow_sub-left : goal.overflow_sub-left
+overflow_sub-left c = ((let L = c.loop-left in
+    let a = c.args in
+    let f = c.in-Stands in
+    let bytes = λ (j : ℕ). c.type_inv.s j in
+    let s = standing a.limits.mtu a.s.now L.at _ _ _ _ (sym c.event_at.ensures ∙ c.in-Stands.is) in
+    taking L.gone f.stands L.left f.number c.lesser-taken.result c.lesser-taken.ensures c.if-many-gone.false c.loop-left-test.true (omega (arith, L.invariant.1, L.invariant.2))
+    (stood_bound true a.limits.mtu a.s.now L.at f.kind f.number f.stands f.next (λ j. (bytes j).fits) s.stood))).enough
+
+pub loop-left-preserved : goal.loop-left-preserved
+loop-left-preserved c =
+    let L = c.loop-left in
+    let a = c.args in
+    let bytes = λ (j : ℕ). c.type_inv.s j in
+    let f = c.in-Stands in
+    let s = standing a.limits.mtu a.s.now L.at _ _ _ _ (sym c.event_at.ensures ∙ c.in-Stands.is) in
+    let w = (let L = c.loop-left in
+    let a = c.args in
+    let f = c.in-Stands in
+    let bytes = λ (j : ℕ). c.type_inv.s j in
+    let s = standing a.limits.mtu a.s.now L.at _ _ _ _ (sym c.event_at.ensures ∙ c.in-Stands.is) in
+    taking L.gone f.stands L.left f.number c.lesser-taken.result c.lesser-taken.ensures c.if-many-gone.false c.loop-left-test.true (omega (arith, L.invariant.1, L.invariant.2))
+    (stood_bound true a.limits.mtu a.s.now L.at f.kind f.number f.stands f.next (λ j. (bytes j).fits) s.stood)) in
+    let taken = c.lesser-taken.result in
+    let i = L.invariant in
+    let n = a.count - L.left in
+    let more : a.count - (L.left - taken) ≡ n + taken = omega (arith, i.1, w.enough) in
+    let ready = step_ready a.limits n L.t i.0 a.s.now (λ j. (bytes j).fits) L.at f.kind f.number f.stands f.next s i.3 taken L.gone w.some w.few in
+    let step = part_step a.limits n L.t i.0 a.s.now (λ j. (bytes j).fits) L.at f.kind f.number f.stands f.next s i.3 taken L.gone w.some w.few L.left w.enough in (
+      rw (more, c.step-t.ensures) (ready (omega (arith, i.1, i.2, w.enough))),
+      omega (arith, i.1),
+      i.2,
+      rw c.passed-behind.ensures (passed_late L.at (L.gone + taken) f.stands f.next i.3 (omega (arith, s.stood.further))),
+      rw (more, c.step-t.ensures, c.passed-behind.ensures) (sym step ∙ i.4),
+    )
+
+pub returns-in-End : goal.returns-in-End
+returns-in-End c =
+    let L = c.loop-left in
+    let a = c.args in
+    let e = sym c.event_at.ensures ∙ c.in-End.is in
+    let none = item_none a.limits.mtu a.s.now L.at (step_end true a.limits.mtu a.s.now L.at e) in
+    sym (part_stops a.limits _ L.t L.left a.s.now (placed L.at L.gone) 2 c.loop-left-test.true (omega arith)
+    (fault_there a.limits.mtu a.s.now L.at L.gone 2 L.invariant.3 none (omega arith) ∙ two (eqb L.gone 0)))
+    ∙ (
+    let a = c.args in
+    let bytes = λ (j : ℕ). c.type_inv.s j in
+    c.loop-left.invariant.4 ∙ rw c.start-t.ensures (sym (part_start a.limits c.requires.0 a.s.now (λ j. (bytes j).fits) a.count a.place)))
+  where
+    two : (b : Bool) → ◌≡◌ {A = ℕ} (cond b 2 2) 2
+    two true = refl
+    two false = refl
+
+pub returns-in-Faulty : goal.returns-in-Faulty
+returns-in-Faulty c =
+    let L = c.loop-left in
+    let a = c.args in
+    let f = c.in-Faulty.fault in
+    let e = sym c.event_at.ensures ∙ c.in-Faulty.is in
+    let some = (step_faulty true a.limits.mtu a.s.now L.at f e).given in
+    let there = fault_there a.limits.mtu a.s.now L.at L.gone f L.invariant.3 (faulty_there a.limits.mtu a.s.now L.at f e) some in
+    c.refused.ensures
+    ∙ sym (part_stops a.limits _ L.t L.left a.s.now (placed L.at L.gone) (cond (eqb L.gone 0) f 2) c.loop-left-test.true (positive (eqb L.gone 0) f some) there)
+    ∙ (
+    let a = c.args in
+    let bytes = λ (j : ℕ). c.type_inv.s j in
+    c.loop-left.invariant.4 ∙ rw c.start-t.ensures (sym (part_start a.limits c.requires.0 a.s.now (λ j. (bytes j).fits) a.count a.place)))
+  where
+    positive : (b : Bool) (f : ℕ) → 0 < f → 0 < cond b f 2
+    positive true f h = h
+    positive false f h = omega arith
+
+pub ended-requires : goal.ended-requires
+ended-requires c =
+    let L = c.loop-left in
+    let a = c.args in
+    let none : a.count - L.left ≡ a.count = omega (arith, c.loop-left-test.false) in
+    rw none at L.invariant.0
+
+pub returns : goal.returns
+returns c =
+    let L = c.loop-left in
+    let a = c.args in
+    let done : L.left ≡ 0 = omega (arith, c.loop-left-test.false) in
+    let none : a.count - L.left ≡ a.count = omega (arith, done) in
+    let same : Summed (signed_from (plain_at a.limits a.count L.t)) (placed L.at L.gone) ≡ rest_part a.limits (a.count - L.left) L.t L.left a.s.now (placed L.at L.gone) =
+    rw (none, done) (sym (part_end a.limits a.count L.t (rw none at L.invariant.0) a.s.now (placed L.at L.gone))) in
+    c.ended.ensures ∙ same ∙ (
+    let a = c.args in
+    let bytes = λ (j : ℕ). c.type_inv.s j in
+    c.loop-left.invariant.4 ∙ rw c.start-t.ensures (sym (part_start a.limits c.requires.0 a.s.now (λ j. (bytes j).fits) a.count a.place)))
