@@ -1,0 +1,12 @@
+-- Each arm is the turn by what stands at the first place.
+-- Assumes nothing.
+use Rattle.apart.proofs.together.met.Goals as goal
+
+pub returns-in-Events : goal.returns-in-Events
+returns-in-Events c = rw (c.in-Events.is, ← c.event.ensures) c.beside.ensures
+
+pub returns-in-Ended : goal.returns-in-Ended
+returns-in-Ended c = rw c.in-Ended.is (cc)
+
+pub returns-in-Unread : goal.returns-in-Unread
+returns-in-Unread c = rw c.in-Unread.is (cc)
