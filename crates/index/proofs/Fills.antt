@@ -2,30 +2,27 @@
 -- Assumes nothing.
 use Prim.Native.Nat.{ℕ, suc, ◌+◌, ◌-◌, ◌*◌, ◌/◌, ◌≤◌, ◌<◌, min}
 use mathlib.Core.Bool.{true}
-use mathlib.Core.List.{List, ◌++◌}
-use mathlib.Core.Path.{◌≡◌, refl, sym, ap, ◌∙◌}
+use mathlib.Core.List.{List}
+use mathlib.Core.Path.{◌≡◌, refl, sym}
 use native.Mathlib.Omega.{arith}
 use lib.ListN.{length}
-use Rattle.decide.proofs.Cases.{by_cases, le_or, min_is}
 use Rattle.shaper.specs.declared.Limits.{Limits}
 use Rattle.shaper.specs.declared.Event.{Event}
 use Rattle.shaper.specs.Limits.{most_events}
 use Rattle.wire.specs.Wire.{Bytes, put}
 use Rattle.wire.proofs.Puts.{length_put}
-use Rattle.summary.specs.declared.Summary.{Summary}
 use Rattle.record.specs.Record.{WellFormed}
 use Rattle.record.specs.Read.{whole, read_in}
 use Rattle.excerpt.specs.declared.Place.{Place}
 use Rattle.excerpt.specs.declared.Excerpt.{Excerpt}
-use Rattle.excerpt.specs.Place.{place_after}
 use Rattle.excerpt.specs.Excerpt.{excerpt_of}
 use Rattle.roll.specs.Steps.{Reads}
 use Rattle.index.specs.Tree.{block_events, blocks_of, top_level, size_of, from_of, to_of}
-use Rattle.index.specs.Index.{piece_of, events_in, place_of, node_summary, node_entry, node_bytes}
+use Rattle.index.specs.Index.{events_in, place_of, node_summary, node_entry, node_bytes}
 use Rattle.index.specs.Fill.{Filling, filled_of, both_of}
 use Rattle.index.proofs.Sizes.{size_some, size_next, size_block, size_top, size_mono}
 use Rattle.index.proofs.Puts.{put_three}
-use Rattle.index.proofs.Nodes.{node_pair, node_alone, blocks_hold, length_node, length_node_full, length_node_entry}
+use Rattle.index.proofs.Nodes.{node_pair, blocks_hold, length_node, length_node_full, length_node_entry}
 use Rattle.index.proofs.Levels as levels
 use Rattle.index.proofs.Whole.{whole_formed, few_whole, part_whole, place_on}
 

@@ -1,4 +1,6 @@
 // The index of a record: summaries of its events, one for each block of 256 and one for each pair above, kept in bytes beside it.
+#![tactic(auto)]
+
 ghost use Rattle.std.specs.Prelude.{◌≡◌, ◌+◌, ◌*◌, ◌≤◌, length};
 ghost use Rattle.shaper.specs.Limits.{most_events};
 ghost use Rattle.wire.specs.Wire.{put};
@@ -33,7 +35,7 @@ const SHORT_ROOM: u64 = 12;
 const TOO_MANY: u64 = 9;
 
 // Part of an index that is written: the summary of what it covers, and the place behind its last event.
-#[derive(Drop)]
+#[derive(Clone, Copy)]
 struct Filled {
     sum: Summary,
     next: Place,

@@ -3,13 +3,12 @@
 use Prim.Native.Nat.{ℕ, ◌+◌, ◌*◌, ◌≤◌, ◌<◌}
 use mathlib.Core.Bool.{true}
 use mathlib.Core.List.{List}
-use mathlib.Core.Path.{◌≡◌, refl, sym, ap, ◌∙◌}
+use mathlib.Core.Path.{◌≡◌, refl, sym, ap}
 use native.Mathlib.Omega.{arith}
 use borrow.Author.Tests.{ne_eqb}
 use lib.ListN.{length}
 use Rattle.shaper.specs.declared.Limits.{Limits}
 use Rattle.shaper.specs.declared.Event.{Event}
-use Rattle.shaper.specs.Limits.{most_events}
 use Rattle.summary.specs.declared.Answer.{Answer}
 use Rattle.record.specs.Read.{whole, read_in}
 use Rattle.account.specs.Account.{summarize_in}
@@ -19,8 +18,8 @@ use Rattle.roll.specs.declared.Moved.TheVariants.{Refused}
 use Rattle.roll.specs.Moved.{bytes, moved_of, left_of}
 use Rattle.roll.specs.Steps.{Reads}
 use Rattle.roll.proofs.Rooms.{row_refused}
-use Rattle.index.specs.Tree.{blocks_of, top_level, size_of, index_length}
-use Rattle.index.specs.Index.{events_in, place_of, index_bytes, index_read, index_of}
+use Rattle.index.specs.Tree.{blocks_of, top_level, index_length}
+use Rattle.index.specs.Index.{place_of, index_bytes, index_read, index_of}
 use Rattle.index.specs.Fill.{Filling}
 use Rattle.index.proofs.Sizes.{size_top}
 use Rattle.index.proofs.Nodes.{blocks_hold}
