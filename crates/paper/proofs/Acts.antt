@@ -43,7 +43,7 @@ use Rattle.station.specs.Offers.{given_frame, offer_of, over_for, way_for}
 use Rattle.station.specs.History.{Answer}
 use Rattle.settings.specs.Range.{settings_ok, SettingsOk}
 use Rattle.settings.proofs.Range as settings
-use Rattle.station.proofs.Range.{in_range_facts, facts_in_range}
+use Rattle.station.proofs.Range.{facts_in_range}
 use Rattle.station.proofs.Calls.{start_refused_lem, start_done, tick_done, select_done}
 use Rattle.station.proofs.Interval.{age_ages}
 use Rattle.station.proofs.Offers.{offer_taken, client_occupied, client_denied, client_passing, client_entered}
