@@ -9,7 +9,9 @@ use Rattle.paper.proofs.OfTally as OfTally
 use Rattle.paper.proofs.OfSummary as OfSummary
 use Rattle.paper.proofs.OfRecord as OfRecord
 use Rattle.paper.proofs.OfAccount as OfAccount
+use Rattle.paper.proofs.OfExcerpt as OfExcerpt
 use Rattle.paper.proofs.OfRoll as OfRoll
+use Rattle.paper.proofs.OfIndex as OfIndex
 use Rattle.paper.proofs.OfReport as OfReport
 use Rattle.paper.proofs.OfWindow as OfWindow
 use Rattle.paper.proofs.OfApart as OfApart
@@ -47,7 +49,9 @@ answers_determined =
       of_summary = OfSummary.functions;
       of_record = OfRecord.functions;
       of_account = OfAccount.functions;
+      of_excerpt = OfExcerpt.functions;
       of_roll = OfRoll.functions;
+      of_index = OfIndex.functions;
       of_report = OfReport.functions;
       of_window = OfWindow.functions;
       of_apart = OfApart.functions;

@@ -28,7 +28,9 @@ pub mod OfTally
 pub mod OfSummary
 pub mod OfRecord
 pub mod OfAccount
+pub mod OfExcerpt
 pub mod OfRoll
+pub mod OfIndex
 pub mod OfReport
 pub mod OfWindow
 pub mod OfApart

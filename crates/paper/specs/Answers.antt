@@ -9,7 +9,9 @@ use Rattle.paper.specs.OfTally as OfTally
 use Rattle.paper.specs.OfSummary as OfSummary
 use Rattle.paper.specs.OfRecord as OfRecord
 use Rattle.paper.specs.OfAccount as OfAccount
+use Rattle.paper.specs.OfExcerpt as OfExcerpt
 use Rattle.paper.specs.OfRoll as OfRoll
+use Rattle.paper.specs.OfIndex as OfIndex
 use Rattle.paper.specs.OfReport as OfReport
 use Rattle.paper.specs.OfWindow as OfWindow
 use Rattle.paper.specs.OfApart as OfApart
@@ -45,7 +47,9 @@ pub record AnswersDetermined : Type 0 where
   pub of_summary : OfSummary.Functions
   pub of_record : OfRecord.Functions
   pub of_account : OfAccount.Functions
+  pub of_excerpt : OfExcerpt.Functions
   pub of_roll : OfRoll.Functions
+  pub of_index : OfIndex.Functions
   pub of_report : OfReport.Functions
   pub of_window : OfWindow.Functions
   pub of_apart : OfApart.Functions
