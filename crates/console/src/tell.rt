@@ -57,7 +57,7 @@ pub fn say_word(rt: &impl Host, word: &[u8], words: &[u8]) {
 // Says a refusal of a file, with its number and what that means there.
 pub fn refused(rt: &impl Host, name: &[u8], number: u64, words: &[u8]) {
     let mut digits = [0u8; 20];
-    let n = decimal(number, &mut digits);
+    let n = report::put_numeral(&mut digits, 0, number);
     let mut room = room();
     let at = put_name(&mut room, name);
     let at = put(&mut room, at, b": refused ");
@@ -123,28 +123,6 @@ pub fn refused_summary(rt: &impl Host, name: &[u8], number: u64) {
     }
 }
 
-// Puts a number in decimal at the front of a room, and answers how many digits it has.
-fn decimal(number: u64, room: &mut [u8; 20]) -> usize
-    ensures { result ≤ length room.new }
-{
-    let mut to = Cursor::new(&mut room[..]);
-    let _ = write!(to, "{number}");
-    within(to.position(), 20)
-}
-
-// Puts the system's reason for an error at the front of a room, without the error's number behind it, and answers its length.
-fn reason(why: io::Error, room: &mut [u8; 320]) -> usize
-    ensures { result ≤ length room.new }
-{
-    let mut to = Cursor::new(&mut room[..]);
-    let _ = write!(to, "{why}");
-    let end = within(to.position(), 320);
-    if why.raw_os_error().is_none() {
-        return end;
-    }
-    unnumbered(&room[..end])
-}
-
 // A place that a room of this length has, at most its end.
 fn within(place: u64, length: usize) -> usize
     ensures { result ≤ length }
@@ -155,11 +133,14 @@ fn within(place: u64, length: usize) -> usize
     place as usize
 }
 
-// The length of a reason before the last bracket that opens in it, and the blank before that.
-fn unnumbered(text: &[u8]) -> usize
+// The length of a reason: where the system's number stands behind it, in brackets, the length before the last blank that a bracket follows.
+fn reason_length(text: &[u8], numbered: bool) -> usize
     ensures { result ≤ length text.now }
 {
     let mut end = text.len();
+    if !numbered {
+        return end;
+    }
     let mut i = 1;
     while i < text.len() {
         if (text[i] == b'(') & (text[i - 1] == b' ') {
@@ -174,8 +155,11 @@ fn unnumbered(text: &[u8]) -> usize
 fn end_trouble(rt: &impl Host, room: &mut [u8], at: usize, why: io::Error)
     requires { at ≤ length room.old }
 {
-    let mut words = [0u8; 320];
-    let n = reason(why, &mut words);
+    let mut to = Cursor::new([0u8; 320]);
+    let _ = write!(to, "{why}");
+    let end = within(to.position(), 320);
+    let words = to.into_inner();
+    let n = reason_length(&words[..end], why.raw_os_error().is_some());
     let at = put(room, at, b": ");
     end_line(rt, room, at, &words[..n]);
 }
