@@ -15,7 +15,7 @@ use summary::{Answer, Summary};
 const BLOCK: u64 = index::BLOCK;
 
 // Where two blocks part: m is a block so that the earlier one is among the h blocks before it, and the later one among the h from it on.
-#[derive(Drop)]
+#[derive(Clone, Copy)]
 pub struct Middle {
     pub m: u64,
     pub h: u64,

@@ -1,4 +1,6 @@
 // The summary of a stretch of a record's events, put together from its index: whole blocks and pairs by their entries, at most two blocks by reading part of them.
+#![tactic(auto)]
+
 ghost use Rattle.std.specs.Prelude.{◌≡◌, ◌+◌, ◌-◌, ◌*◌, ◌≤◌, ◌<◌, length, true};
 ghost use Rattle.decide.specs.Test.{Holds};
 ghost use Rattle.shaper.specs.Limits.{limits_ok, most_events};
@@ -22,7 +24,7 @@ const BLOCK: u64 = index::BLOCK;
 const OUTSIDE: u64 = 3;
 
 // What a part of a stretch comes to: nothing where it is empty; the number of the earliest fault of a partly read block; an entry that is out of range; or its summary.
-#[derive(Drop)]
+#[derive(Clone, Copy)]
 pub enum Found {
     Nothing,
     Faulty(u64),
@@ -31,7 +33,7 @@ pub enum Found {
 }
 
 // How many events a record has, told from its index: so many, more than there may be, or the index is another record's.
-#[derive(Drop)]
+#[derive(Clone, Copy)]
 pub enum Counted {
     Events(u64),
     TooMany,

@@ -1,6 +1,6 @@
 -- A question (document 02, A1): the summary of just the stretch from event `first` to just before event `last`, from a record and its index, or the number of a refusal.
 -- Assumes nothing.
-use Rattle.std.specs.Prelude.{ℕ, zero, suc, ◌+◌, ◌*◌, ◌/◌, ◌%◌, Bool, true, false, not, ◌&&◌, ◌||◌, cond, List, [], ◌∷◌, ◌++◌, leb, ltb, eqb, length}
+use Rattle.std.specs.Prelude.{ℕ, ◌+◌, ◌*◌, ◌/◌, ◌%◌, Bool, true, false, not, ◌&&◌, ◌||◌, cond, List, [], ◌∷◌, ◌++◌, leb, ltb, eqb, length}
 use Rattle.decide.specs.Refusal.{Fault, fault, rank_of, first_of}
 use Rattle.wire.specs.Wire.{le}
 use Rattle.shaper.specs.declared.Limits.{Limits}

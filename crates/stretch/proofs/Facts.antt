@@ -7,7 +7,7 @@ use mathlib.Core.Path.{◌≡◌, refl}
 use borrow.Author.Tests.{leb-true, le-leb, lt-leb}
 use lib.Dec.{leb}
 use Rattle.decide.specs.Test.{both, either, and_i, or_r}
-use Rattle.decide.proofs.Cases.{by_cases, le_or, true_or_false}
+use Rattle.decide.proofs.Cases.{by_cases, le_or}
 use Rattle.index.specs.Tree.{from_of, to_of}
 use Rattle.stretch.specs.Found.{whole, apart}
 

@@ -1,0 +1,18 @@
+-- By what the first part comes to.
+-- Assumes nothing.
+use Rattle.stretch.specs.Found.{and_found}
+use Rattle.stretch.proofs.parts.and_found.Goals as goal
+
+pub returns-in-Nothing : goal.returns-in-Nothing
+unfolding and_found
+returns-in-Nothing c = rw c.in-Nothing.is
+
+pub returns-in-Faulty : goal.returns-in-Faulty
+unfolding and_found
+returns-in-Faulty c = rw c.in-Faulty.is
+
+pub returns-in-Outside : goal.returns-in-Outside
+returns-in-Outside c = rw c.in-Outside.is c.outside_and.ensures
+
+pub returns-in-Sum : goal.returns-in-Sum
+returns-in-Sum c = rw c.in-Sum.is c.sum_and.ensures
