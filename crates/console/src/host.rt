@@ -2,6 +2,7 @@
 use crate::place::place_of;
 use std::fs::File;
 use std::io::{Read, Seek, SeekFrom};
+use std::os::unix::fs::FileTypeExt;
 use std::rt::{Env, Stdin};
 use std::{fs, io};
 
@@ -66,6 +67,11 @@ impl Host for HostRuntime {
     }
 
     fn input_again(&self) -> io::Result<Source> {
+        // A pipe is not opened again: where nobody writes to it any more, that would wait for ever.
+        let about = fs::metadata(self, "/dev/stdin")?;
+        if about.file_type().is_fifo() {
+            return Err(io::Error::from(io::ErrorKind::NotSeekable));
+        }
         let mut file = fs::open(self, "/dev/stdin")?;
         let mut told = fs::open(self, "/proc/self/fdinfo/0")?;
         let mut text = [0u8; 64];
