@@ -62,7 +62,7 @@ InTurn l m n xs g ys h (equal is us vs ∷ ps) =
 -- ---- the whole
 
 -- What is printed of two files, by what each comes to: the refusal of the first before that of the second; else the settings that differ, the pages and both
--- summaries, each a write of its own (`compare-printed`, proofs/Windows.antt, says that this is `compare_of`).
+-- summaries, each a write of its own (`compare_printed`, proofs/Windows.antt, says that this is `compare_of`).
 abbrev pub printed_by : Answer → Answer → List Page → List ℕ
 printed_by (Answer.Refused n) b ps = printed_of (Answer.Refused n)
 printed_by (Answer.Summed s) (Answer.Refused n) ps = printed_of (Answer.Refused n)

@@ -1,5 +1,5 @@
 // The commands of `rpr`: reading, printing, and what is said on standard error. What is printed is what `report`, `sheet`, `apart` and `roll` put into their rooms; what a
-// record comes to is what `hex`, `feed`, `window` and `heartbeat` say of it. Each command answers its exit status.
+// record comes to is what `hex_text`, `feed`, `window` and `heartbeat` say of it. Each command answers its exit status.
 #![tactic(auto)]
 
 mod beats;

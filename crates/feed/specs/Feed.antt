@@ -31,7 +31,7 @@ abbrev pub opened_by : Header → Stage
 opened_by (Settings l) = stage_of (empty_answer l)
 opened_by (Unreadable n) = Stopped n
 
--- behind an item: its events are joined in one step, however many they are (`counted-one-by-one` of summary: as one by one), or its fault
+-- behind an item: its events are joined in one step, however many they are (`counted_one_by_one` of summary: as one by one), or its fault
 abbrev pub passed_by : Summary → Step → Stage
 passed_by s (Stands k v c next) = stage_of (join_next s (counted_answer s.limits (event_of k v) c))
 passed_by s End = Summing s

@@ -26,7 +26,7 @@ unfoldable pub doubling : ℕ → Summary → ℕ → Repeats
 doubling zero s r = none_of s
 doubling (suc k) s r = twice_of (eqb (r % 2) 1) s (doubling k s (r / 2))
 
--- the binary digits of a number of 64 bits: ⌈log2(r + 1)⌉, the least k with r < 2 ^ k (`digits-enough`, `digits-least`)
+-- the binary digits of a number of 64 bits: ⌈log2(r + 1)⌉, the least k with r < 2 ^ k (`digits_enough`, `digits_least`)
 unfoldable pub digits_in : ℕ → ℕ
 digits_in r = 64 - count_leading_zeros 64 r
 

@@ -1,4 +1,4 @@
--- The laws of `plain_joined`. Each of plainDepth, plainNeed and plainEnd is known by the law that stands first of it, and is opened nowhere else.
+-- The laws of `plain_joined`. Each of `plain_depth`, `plain_need` and `plain_end_of` is known by the law that stands first of it, and is opened nowhere else.
 -- Assumes nothing.
 use Prim.Native.Nat.{ℕ, ◌+◌, ◌-◌, ◌≤◌, ◌<◌, min, max}
 use mathlib.Core.Logic.{◌⊎◌, inl, inr}

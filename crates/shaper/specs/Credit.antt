@@ -14,7 +14,7 @@ event_ok l (Waiting x) = x ≤? most_amount
 event_ok l (Idle x) = x ≤? most_amount
 event_ok l (Send z) = size_ok z l.mtu
 
--- the same as facts (`valid-exactly`, proofs/Ranges.antt)
+-- the same as facts (`valid_exactly`, proofs/Ranges.antt)
 abbrev pub Valid : Limits → Event → Type 0
 Valid l (Waiting x) = x ≤ most_amount
 Valid l (Idle x) = x ≤ most_amount

@@ -23,7 +23,7 @@ limits_ok l =
     ∧? l.mtu ≤? l.lo ∧? l.lo ≤? 65536
     ∧? l.lo <? l.hi ∧? l.hi ≤? 1048576
 
--- the same as facts with names (`limits-exactly`, proofs/Ranges.antt)
+-- the same as facts with names (`limits_exactly`, proofs/Ranges.antt)
 pub record LimitsOk (l : Limits) : Type 0 where
   pub mtu_least : 64 ≤ l.mtu
   pub mtu_most : l.mtu ≤ most_size
