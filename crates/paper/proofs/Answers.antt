@@ -12,6 +12,7 @@ use Rattle.paper.proofs.OfAccount as OfAccount
 use Rattle.paper.proofs.OfExcerpt as OfExcerpt
 use Rattle.paper.proofs.OfRoll as OfRoll
 use Rattle.paper.proofs.OfIndex as OfIndex
+use Rattle.paper.proofs.OfStretch as OfStretch
 use Rattle.paper.proofs.OfReport as OfReport
 use Rattle.paper.proofs.OfWindow as OfWindow
 use Rattle.paper.proofs.OfApart as OfApart
@@ -52,6 +53,7 @@ answers_determined =
       of_excerpt = OfExcerpt.functions;
       of_roll = OfRoll.functions;
       of_index = OfIndex.functions;
+      of_stretch = OfStretch.functions;
       of_report = OfReport.functions;
       of_window = OfWindow.functions;
       of_apart = OfApart.functions;

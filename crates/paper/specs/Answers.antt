@@ -12,6 +12,7 @@ use Rattle.paper.specs.OfAccount as OfAccount
 use Rattle.paper.specs.OfExcerpt as OfExcerpt
 use Rattle.paper.specs.OfRoll as OfRoll
 use Rattle.paper.specs.OfIndex as OfIndex
+use Rattle.paper.specs.OfStretch as OfStretch
 use Rattle.paper.specs.OfReport as OfReport
 use Rattle.paper.specs.OfWindow as OfWindow
 use Rattle.paper.specs.OfApart as OfApart
@@ -50,6 +51,7 @@ pub record AnswersDetermined : Type 0 where
   pub of_excerpt : OfExcerpt.Functions
   pub of_roll : OfRoll.Functions
   pub of_index : OfIndex.Functions
+  pub of_stretch : OfStretch.Functions
   pub of_report : OfReport.Functions
   pub of_window : OfWindow.Functions
   pub of_apart : OfApart.Functions

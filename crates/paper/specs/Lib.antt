@@ -27,6 +27,7 @@ pub mod OfAccount
 pub mod OfExcerpt
 pub mod OfRoll
 pub mod OfIndex
+pub mod OfStretch
 pub mod OfReport
 pub mod OfWindow
 pub mod OfApart

@@ -22,7 +22,7 @@ pub struct Middle {
 }
 
 // Where two blocks part, by halving both until they are a pair.
-pub fn parted_at(x: u64, y: u64) -> Middle
+pub(crate) fn parted_at(x: u64, y: u64) -> Middle
     requires { (x < y) × (y < 4096) }
     ensures { Parted x y result.m result.h }
 {
@@ -38,7 +38,7 @@ pub fn parted_at(x: u64, y: u64) -> Middle
 }
 
 // Whether a stretch of n events is just what the entry covers that parts before block m, h blocks on each side.
-pub fn covers(n: u64, m: u64, h: u64, first: u64, last: u64) -> bool
+pub(crate) fn covers(n: u64, m: u64, h: u64, first: u64, last: u64) -> bool
     requires { (h ≤ m) × (m ≤ 4096) × (n ≤ most_events) }
     ensures { result ≡ covers_of n m h first last }
 {
@@ -46,7 +46,7 @@ pub fn covers(n: u64, m: u64, h: u64, first: u64, last: u64) -> bool
 }
 
 // A stretch of one block x: its entry, where all of the block is asked for, and else what is read of it.
-pub fn block_found(
+pub(crate) fn block_found(
     s: &[u8],
     index: &[u8],
     limits: Limits,
@@ -66,7 +66,7 @@ pub fn block_found(
 }
 
 // The summary of an entry that covers so many events, where it is in range.
-pub fn entry_found(index: &[u8], limits: Limits, entry: u64, events: u64) -> Found
+pub(crate) fn entry_found(index: &[u8], limits: Limits, entry: u64, events: u64) -> Found
     requires { (40 * entry + 40 ≤ length index.now) × (entry ≤ most_events) }
     ensures { result ≡ entry_found (source_of limits [] index.now 0) entry events }
 {
@@ -96,7 +96,7 @@ fn part_found(s: &[u8], index: &[u8], limits: Limits, x: u64, skipped: u64, coun
 }
 
 // One part and then the next: a fault of either, the first's before the second's; then an entry out of range; else both, joined.
-pub fn and_found(left: Found, right: Found) -> Found
+pub(crate) fn and_found(left: Found, right: Found) -> Found
     ensures { result ≡ and_found left right }
 {
     match left {
