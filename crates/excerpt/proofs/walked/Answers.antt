@@ -1,6 +1,7 @@
 -- What is left keeps its answer with each item that the decoder finds, or some of its events; an end, a fault or a place within no item is that answer.
 -- Assumes nothing.
 use Prim.Native.Nat.{ℕ, ◌+◌, ◌-◌, ◌*◌, ◌≤◌, ◌<◌, min}
+use mathlib.Core.List.{List}
 use mathlib.Core.Path.{◌≡◌, refl, sym, ◌∙◌}
 use native.Mathlib.Omega.{arith}
 use native.Mathlib.Nat.{mul-le-mul_left}
@@ -18,6 +19,14 @@ use Rattle.account.proofs.Passed.{rise_max}
 use Rattle.tally.proofs.Laws.{within_more, start_ready}
 use Rattle.excerpt.proofs.Parts.{placed, passed_late}
 use Rattle.excerpt.proofs.Walk.{rest_part, part_start, part_stops, part_end, part_step, step_ready}
+use Rattle.wire.specs.Wire.{Bytes}
+use Rattle.tally.specs.declared.Tally.{Tally}
+use Rattle.tally.specs.Tally.{start_of}
+use Rattle.record.specs.declared.Step.TheVariants.{Stands}
+use Rattle.record.specs.Step.{item_at}
+use Rattle.excerpt.specs.declared.Place.{Place}
+use Rattle.excerpt.specs.declared.Excerpt.{Excerpt}
+use Rattle.excerpt.specs.Excerpt.{excerpt_of}
 use Rattle.excerpt.proofs.walked.Goals as goal
 
 low_high : (l : Limits) → Holds (limits_ok l) → l.lo ≤ l.hi
@@ -37,6 +46,18 @@ taking gone many left number taken e there some most small =
     let b = mul-le-mul_left taken small in
     record { some = omega arith; few = omega arith; enough = enough; small = small; brings = omega arith }
 
+-- what is left has the answer of the whole
+answer : (l : Limits) → Holds (limits_ok l) → (xs : List ℕ) → Bytes xs → (count : ℕ) (p : Place) (t : Tally) (e : Excerpt) → t ≡ start_of l.lo → e ≡ rest_part l 0 t count xs p →
+    e ≡ excerpt_of l count xs p
+answer l ok xs b count p t e s h = h ∙ rw s (sym (part_start l ok xs b count p))
+
+-- the item that was found stands at its place, and so many of its events are taken
+took : (mtu : ℕ) (xs : List ℕ) → Bytes xs → (at k v m next : ℕ) → item_at true mtu xs at ≡ Stands k v m next →
+    (gone left taken : ℕ) → taken ≡ min (m - gone) left → gone < m → 0 < left → left ≤ most_events → Taken gone m left v taken
+took mtu xs b at k v m next f gone left taken e there some most =
+    let s = standing mtu xs at k v m next f in
+    taking gone m left v taken e there some most (stood_bound true mtu xs at k v m next b s.stood)
+
 pub overflow_sub-rise : goal.overflow_sub-rise
 overflow_sub-rise c = low_high c.args.limits c.requires.0
 
@@ -54,22 +75,13 @@ returns-then-many-gone c =
     let s = standing a.limits.mtu a.s.now L.at _ _ _ _ (sym c.event_at.ensures ∙ c.in-Stands.is) in
     sym (part_stops a.limits _ L.t L.left a.s.now (placed L.at L.gone) 2 c.loop-left-test.true (omega arith)
     (fault_gone a.limits.mtu a.s.now (placed L.at L.gone) (rw s.told.count c.if-many-gone.true)))
-    ∙ (
-    let a = c.args in
-    let bytes = λ (j : ℕ). c.type_inv.s j in
-    c.loop-left.invariant.4 ∙ rw c.start-t.ensures (sym (part_start a.limits c.requires.0 a.s.now (λ j. (bytes j).fits) a.count a.place)))
+    ∙ answer a.limits c.requires.0 a.s.now (λ j. (c.type_inv.s j).fits) a.count a.place _ _ c.start-t.ensures c.loop-left.invariant.4
 
 pub overflow_mul-taken : goal.overflow_mul-taken
 overflow_mul-taken c = record {
   fits = omega (
     arith,
-    ((let L = c.loop-left in
-        let a = c.args in
-        let f = c.in-Stands in
-        let bytes = λ (j : ℕ). c.type_inv.s j in
-        let s = standing a.limits.mtu a.s.now L.at _ _ _ _ (sym c.event_at.ensures ∙ c.in-Stands.is) in
-        taking L.gone f.stands L.left f.number c.lesser-taken.result c.lesser-taken.ensures c.if-many-gone.false c.loop-left-test.true (omega (arith, L.invariant.1, L.invariant.2))
-        (stood_bound true a.limits.mtu a.s.now L.at f.kind f.number f.stands f.next (λ j. (bytes j).fits) s.stood))).brings,
+    (took c.args.limits.mtu c.args.s.now (λ j. (c.type_inv.s j).fits) c.loop-left.at c.in-Stands.kind c.in-Stands.number c.in-Stands.stands c.in-Stands.next (sym c.event_at.ensures ∙ c.in-Stands.is) c.loop-left.gone c.loop-left.left _ c.lesser-taken.ensures c.if-many-gone.false c.loop-left-test.true (omega (arith, c.loop-left.invariant.1, c.loop-left.invariant.2))).brings,
   );
 }
 
@@ -80,23 +92,11 @@ step-t-requires c =
     let n = a.count - L.left in (
       within_more n most_events L.t L.invariant.0.few L.invariant.0.within,
       rise_max a.limits n L.t L.invariant.0,
-      ((let L = c.loop-left in
-          let a = c.args in
-          let f = c.in-Stands in
-          let bytes = λ (j : ℕ). c.type_inv.s j in
-          let s = standing a.limits.mtu a.s.now L.at _ _ _ _ (sym c.event_at.ensures ∙ c.in-Stands.is) in
-          taking L.gone f.stands L.left f.number c.lesser-taken.result c.lesser-taken.ensures c.if-many-gone.false c.loop-left-test.true (omega (arith, L.invariant.1, L.invariant.2))
-          (stood_bound true a.limits.mtu a.s.now L.at f.kind f.number f.stands f.next (λ j. (bytes j).fits) s.stood))).brings,
+      (took c.args.limits.mtu c.args.s.now (λ j. (c.type_inv.s j).fits) c.loop-left.at c.in-Stands.kind c.in-Stands.number c.in-Stands.stands c.in-Stands.next (sym c.event_at.ensures ∙ c.in-Stands.is) c.loop-left.gone c.loop-left.left _ c.lesser-taken.ensures c.if-many-gone.false c.loop-left-test.true (omega (arith, c.loop-left.invariant.1, c.loop-left.invariant.2))).brings,
     )
 
 pub overflow_sub-left : goal.overflow_sub-left
-overflow_sub-left c = ((let L = c.loop-left in
-    let a = c.args in
-    let f = c.in-Stands in
-    let bytes = λ (j : ℕ). c.type_inv.s j in
-    let s = standing a.limits.mtu a.s.now L.at _ _ _ _ (sym c.event_at.ensures ∙ c.in-Stands.is) in
-    taking L.gone f.stands L.left f.number c.lesser-taken.result c.lesser-taken.ensures c.if-many-gone.false c.loop-left-test.true (omega (arith, L.invariant.1, L.invariant.2))
-    (stood_bound true a.limits.mtu a.s.now L.at f.kind f.number f.stands f.next (λ j. (bytes j).fits) s.stood))).enough
+overflow_sub-left c = (took c.args.limits.mtu c.args.s.now (λ j. (c.type_inv.s j).fits) c.loop-left.at c.in-Stands.kind c.in-Stands.number c.in-Stands.stands c.in-Stands.next (sym c.event_at.ensures ∙ c.in-Stands.is) c.loop-left.gone c.loop-left.left _ c.lesser-taken.ensures c.if-many-gone.false c.loop-left-test.true (omega (arith, c.loop-left.invariant.1, c.loop-left.invariant.2))).enough
 
 pub loop-left-preserved : goal.loop-left-preserved
 loop-left-preserved c =
@@ -105,13 +105,7 @@ loop-left-preserved c =
     let bytes = λ (j : ℕ). c.type_inv.s j in
     let f = c.in-Stands in
     let s = standing a.limits.mtu a.s.now L.at _ _ _ _ (sym c.event_at.ensures ∙ c.in-Stands.is) in
-    let w = (let L = c.loop-left in
-    let a = c.args in
-    let f = c.in-Stands in
-    let bytes = λ (j : ℕ). c.type_inv.s j in
-    let s = standing a.limits.mtu a.s.now L.at _ _ _ _ (sym c.event_at.ensures ∙ c.in-Stands.is) in
-    taking L.gone f.stands L.left f.number c.lesser-taken.result c.lesser-taken.ensures c.if-many-gone.false c.loop-left-test.true (omega (arith, L.invariant.1, L.invariant.2))
-    (stood_bound true a.limits.mtu a.s.now L.at f.kind f.number f.stands f.next (λ j. (bytes j).fits) s.stood)) in
+    let w = (took c.args.limits.mtu c.args.s.now (λ j. (c.type_inv.s j).fits) c.loop-left.at c.in-Stands.kind c.in-Stands.number c.in-Stands.stands c.in-Stands.next (sym c.event_at.ensures ∙ c.in-Stands.is) c.loop-left.gone c.loop-left.left _ c.lesser-taken.ensures c.if-many-gone.false c.loop-left-test.true (omega (arith, c.loop-left.invariant.1, c.loop-left.invariant.2))) in
     let taken = c.lesser-taken.result in
     let i = L.invariant in
     let n = a.count - L.left in
@@ -133,10 +127,7 @@ returns-in-End c =
     let none = item_none a.limits.mtu a.s.now L.at (step_end true a.limits.mtu a.s.now L.at e) in
     sym (part_stops a.limits _ L.t L.left a.s.now (placed L.at L.gone) 2 c.loop-left-test.true (omega arith)
     (fault_there a.limits.mtu a.s.now L.at L.gone 2 L.invariant.3 none (omega arith) ∙ two (eqb L.gone 0)))
-    ∙ (
-    let a = c.args in
-    let bytes = λ (j : ℕ). c.type_inv.s j in
-    c.loop-left.invariant.4 ∙ rw c.start-t.ensures (sym (part_start a.limits c.requires.0 a.s.now (λ j. (bytes j).fits) a.count a.place)))
+    ∙ answer a.limits c.requires.0 a.s.now (λ j. (c.type_inv.s j).fits) a.count a.place _ _ c.start-t.ensures c.loop-left.invariant.4
   where
     two : (b : Bool) → ◌≡◌ {A = ℕ} (cond b 2 2) 2
     two true = refl
@@ -152,10 +143,7 @@ returns-in-Faulty c =
     let there = fault_there a.limits.mtu a.s.now L.at L.gone f L.invariant.3 (faulty_there a.limits.mtu a.s.now L.at f e) some in
     c.refused.ensures
     ∙ sym (part_stops a.limits _ L.t L.left a.s.now (placed L.at L.gone) (cond (eqb L.gone 0) f 2) c.loop-left-test.true (positive (eqb L.gone 0) f some) there)
-    ∙ (
-    let a = c.args in
-    let bytes = λ (j : ℕ). c.type_inv.s j in
-    c.loop-left.invariant.4 ∙ rw c.start-t.ensures (sym (part_start a.limits c.requires.0 a.s.now (λ j. (bytes j).fits) a.count a.place)))
+    ∙ answer a.limits c.requires.0 a.s.now (λ j. (c.type_inv.s j).fits) a.count a.place _ _ c.start-t.ensures c.loop-left.invariant.4
   where
     positive : (b : Bool) (f : ℕ) → 0 < f → 0 < cond b f 2
     positive true f h = h
@@ -176,7 +164,4 @@ returns c =
     let none : a.count - L.left ≡ a.count = omega (arith, done) in
     let same : Summed (signed_from (plain_at a.limits a.count L.t)) (placed L.at L.gone) ≡ rest_part a.limits (a.count - L.left) L.t L.left a.s.now (placed L.at L.gone) =
     rw (none, done) (sym (part_end a.limits a.count L.t (rw none at L.invariant.0) a.s.now (placed L.at L.gone))) in
-    c.ended.ensures ∙ same ∙ (
-    let a = c.args in
-    let bytes = λ (j : ℕ). c.type_inv.s j in
-    c.loop-left.invariant.4 ∙ rw c.start-t.ensures (sym (part_start a.limits c.requires.0 a.s.now (λ j. (bytes j).fits) a.count a.place)))
+    c.ended.ensures ∙ same ∙ answer a.limits c.requires.0 a.s.now (λ j. (c.type_inv.s j).fits) a.count a.place _ _ c.start-t.ensures c.loop-left.invariant.4

@@ -15,6 +15,7 @@ use Rattle.index.proofs.Fills.{events_in_lem}
 use Rattle.index.proofs.Told.{index_output, index_refused, fills_whole}
 use Rattle.index.proofs.fill.Goals as goal
 
+-- below, `k`: the record that was summed; `size`: its index is so long
 pub bytes_of-need-requires : goal.bytes_of-need-requires
 bytes_of-need-requires c =
     let k = summed true c.args.s.now _ (λ j. (c.type_inv.s j).fits) (sym c.summarize.ensures ∙ c.in-Summed.is) in

@@ -1,30 +1,43 @@
 -- The header, the length of the index, the count of events and the settings, in that order; then what is asked.
 -- Assumes nothing.
-use mathlib.Core.Path.{sym, ap, ◌∙◌}
+use Prim.Native.Nat.{ℕ}
+use mathlib.Core.Bool.{Bool, true}
+use mathlib.Core.List.{List}
+use lib.ListN.{length}
+use mathlib.Core.Path.{◌≡◌, sym, ap, ◌∙◌}
 use borrow.Author.Tests.{ltb-false}
 use Rattle.shaper.specs.Limits.{most_events}
+use Rattle.record.specs.declared.Header.{Header}
+use Rattle.record.specs.Step.{header_of_of}
 use Rattle.record.proofs.Steps.{header_stands}
 use Rattle.index.specs.Tree.{index_length}
-use Rattle.stretch.specs.Stretch.{is_header, asked_of}
+use Rattle.stretch.specs.Stretch.{is_header, length_ok, asked_of}
 use Rattle.stretch.proofs.Counts.{counted_says, counted_too_many, counted_other, length_right}
 use Rattle.stretch.proofs.Answers.{header_long, stretch_headless, stretch_length, stretch_other, stretch_settings, stretch_many, stretch_asked}
 use Rattle.stretch.proofs.stretch.Goals as goal
+
+-- it is a header, and the index has a right length
+head : (xs : List ℕ) (h : Header) (b : Bool) → h ≡ header_of_of xs → b ≡ is_header h → b ≡ true → is_header (header_of_of xs) ≡ true
+head xs h b e f g = sym (ap is_header e) ∙ sym f ∙ g
+
+long : (m : ℕ) (b : Bool) → b ≡ length_ok m → b ≡ true → length_ok m ≡ true
+long m b e f = sym e ∙ f
 
 pub returns-then-not-is_header : goal.returns-then-not-is_header
 returns-then-not-is_header c = let a = c.args in sym (stretch_headless a.s.now a.index.now a.first a.last (sym (ap is_header c.header_of-header.ensures) ∙ sym c.is_header.ensures ∙ c.if-not-is_header.true))
 
 pub returns-then-not-is_length : goal.returns-then-not-is_length
-returns-then-not-is_length c = let a = c.args in sym (stretch_length a.s.now a.index.now a.first a.last ((sym (ap is_header c.header_of-header.ensures) ∙ sym c.is_header.ensures ∙ c.if-not-is_header.false)) (sym c.is_length.ensures ∙ c.if-not-is_length.true))
+returns-then-not-is_length c = let a = c.args in sym (stretch_length a.s.now a.index.now a.first a.last (head c.args.s.now _ _ c.header_of-header.ensures c.is_header.ensures c.if-not-is_header.false) (sym c.is_length.ensures ∙ c.if-not-is_length.true))
 
 pub count_events-requires : goal.count_events-requires
-count_events-requires c = (header_long c.args.s.now ((sym (ap is_header c.header_of-header.ensures) ∙ sym c.is_header.ensures ∙ c.if-not-is_header.false)), (sym c.is_length.ensures ∙ c.if-not-is_length.false))
+count_events-requires c = (header_long c.args.s.now (head c.args.s.now _ _ c.header_of-header.ensures c.is_header.ensures c.if-not-is_header.false), (long (length c.args.index.now) _ c.is_length.ensures c.if-not-is_length.false))
 
 pub asked-requires : goal.asked-requires
 asked-requires c =
     let a = c.args in
     let says = counted_says a.s.now a.index.now _ (sym c.count_events.ensures ∙ c.in-Events.is) in
     let set = sym c.header_of-header.ensures ∙ c.in-Settings.is in
-    ((header_stands a.s.now _ set).in_range_lem, length_right a.s.now a.index.now ((sym c.is_length.ensures ∙ c.if-not-is_length.false)) says.0 ∙ ap index_length (sym says.1), rw says.1 (ltb-false most_events _ says.2))
+    ((header_stands a.s.now _ set).in_range_lem, length_right a.s.now a.index.now (long (length c.args.index.now) _ c.is_length.ensures c.if-not-is_length.false) says.0 ∙ ap index_length (sym says.1), rw says.1 (ltb-false most_events _ says.2))
 
 pub returns-in-Settings : goal.returns-in-Settings
 returns-in-Settings c =
@@ -33,27 +46,27 @@ returns-in-Settings c =
     let set = sym c.header_of-header.ensures ∙ c.in-Settings.is in
     c.asked.ensures
     ∙ ap (λ n. asked_of c.in-Settings.limits a.s.now a.index.now n a.first a.last) says.1
-    ∙ sym (stretch_asked a.s.now a.index.now a.first a.last ((sym (ap is_header c.header_of-header.ensures) ∙ sym c.is_header.ensures ∙ c.if-not-is_header.false)) ((sym c.is_length.ensures ∙ c.if-not-is_length.false)) says.0 _ set says.2)
+    ∙ sym (stretch_asked a.s.now a.index.now a.first a.last (head c.args.s.now _ _ c.header_of-header.ensures c.is_header.ensures c.if-not-is_header.false) (long (length c.args.index.now) _ c.is_length.ensures c.if-not-is_length.false) says.0 _ set says.2)
 
 pub returns-in-Unreadable : goal.returns-in-Unreadable
 returns-in-Unreadable c =
     let a = c.args in
     let says = counted_says a.s.now a.index.now _ (sym c.count_events.ensures ∙ c.in-Events.is) in
-    sym (stretch_settings a.s.now a.index.now a.first a.last ((sym (ap is_header c.header_of-header.ensures) ∙ sym c.is_header.ensures ∙ c.if-not-is_header.false)) ((sym c.is_length.ensures ∙ c.if-not-is_length.false)) says.0 _ (sym c.header_of-header.ensures ∙ c.in-Unreadable.is))
+    sym (stretch_settings a.s.now a.index.now a.first a.last (head c.args.s.now _ _ c.header_of-header.ensures c.is_header.ensures c.if-not-is_header.false) (long (length c.args.index.now) _ c.is_length.ensures c.if-not-is_length.false) says.0 _ (sym c.header_of-header.ensures ∙ c.in-Unreadable.is))
 
 pub returns-in-Settings-header : goal.returns-in-Settings-header
 returns-in-Settings-header c =
     let a = c.args in
     let says = counted_too_many a.s.now a.index.now (sym c.count_events.ensures ∙ c.in-TooMany.is) in
-    sym (stretch_many a.s.now a.index.now a.first a.last ((sym (ap is_header c.header_of-header.ensures) ∙ sym c.is_header.ensures ∙ c.if-not-is_header.false)) ((sym c.is_length.ensures ∙ c.if-not-is_length.false)) says.0 _ (sym c.header_of-header.ensures ∙ c.in-Settings-header.is) says.1)
+    sym (stretch_many a.s.now a.index.now a.first a.last (head c.args.s.now _ _ c.header_of-header.ensures c.is_header.ensures c.if-not-is_header.false) (long (length c.args.index.now) _ c.is_length.ensures c.if-not-is_length.false) says.0 _ (sym c.header_of-header.ensures ∙ c.in-Settings-header.is) says.1)
 
 pub returns-in-Unreadable-header : goal.returns-in-Unreadable-header
 returns-in-Unreadable-header c =
     let a = c.args in
     let says = counted_too_many a.s.now a.index.now (sym c.count_events.ensures ∙ c.in-TooMany.is) in
-    sym (stretch_settings a.s.now a.index.now a.first a.last ((sym (ap is_header c.header_of-header.ensures) ∙ sym c.is_header.ensures ∙ c.if-not-is_header.false)) ((sym c.is_length.ensures ∙ c.if-not-is_length.false)) says.0 _ (sym c.header_of-header.ensures ∙ c.in-Unreadable-header.is))
+    sym (stretch_settings a.s.now a.index.now a.first a.last (head c.args.s.now _ _ c.header_of-header.ensures c.is_header.ensures c.if-not-is_header.false) (long (length c.args.index.now) _ c.is_length.ensures c.if-not-is_length.false) says.0 _ (sym c.header_of-header.ensures ∙ c.in-Unreadable-header.is))
 
 pub returns-in-Other : goal.returns-in-Other
 returns-in-Other c =
     let a = c.args in
-    sym (stretch_other a.s.now a.index.now a.first a.last ((sym (ap is_header c.header_of-header.ensures) ∙ sym c.is_header.ensures ∙ c.if-not-is_header.false)) ((sym c.is_length.ensures ∙ c.if-not-is_length.false)) (counted_other a.s.now a.index.now (sym c.count_events.ensures ∙ c.in-Other.is)))
+    sym (stretch_other a.s.now a.index.now a.first a.last (head c.args.s.now _ _ c.header_of-header.ensures c.is_header.ensures c.if-not-is_header.false) (long (length c.args.index.now) _ c.is_length.ensures c.if-not-is_length.false) (counted_other a.s.now a.index.now (sym c.count_events.ensures ∙ c.in-Other.is)))

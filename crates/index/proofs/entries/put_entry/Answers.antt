@@ -19,6 +19,7 @@ overflow_add-at-6 c =
 pub put64-requires-3 : goal.put64-requires-3
 put64-requires-3 c = omega (arith, c.requires)
 
+-- `turned`: the ceiling in two's complement
 pub returns : goal.returns
 unfolding entry_bytes
 returns c =
