@@ -1,11 +1,11 @@
 -- Joining the pieces of a cut record gives the summary of the whole, in any grouping.
 -- Assumes nothing.
+use Rattle.std.specs.Prelude.{Ok}
 use Rattle.std.proofs.Common.{◌≡◌, ℕ, zero, suc, ◌+◌, ◌≤◌, true, List, [], ◌∷◌, ◌++◌, replicate, sym, refl, ap, ◌∙◌, append_assoc, append-nil, suc-add, zero-add, arith, length-append}
 use Rattle.shaper.specs.declared.Limits.{Limits}
 use Rattle.shaper.specs.declared.Event.{Event}
 use Rattle.shaper.specs.Credit.{AllValid}
 use Rattle.wire.specs.Wire.{Bytes}
-use Rattle.summary.specs.declared.Answer.{Answer}
 use Rattle.summary.specs.Summary.{summary_of}
 use Rattle.summary.proofs.Promises.{join_append}
 use Rattle.record.specs.Record.{WellFormed}
@@ -36,7 +36,7 @@ part_right l xs ys w =
     record { settings = w.settings; valid = valid_right l xs ys w.valid; few = omega (arith, w.few, length-append xs ys) }
 
 -- the pieces of a well-formed record's events, joined along the tree, come to the summary of all of them
-pub cut_joins : (l : Limits) (es : List Event) (t : Tree) → Cuts l es t → WellFormed l es → joined_along t ≡ Answer.Summed (summary_of l es)
+pub cut_joins : (l : Limits) (es : List Event) (t : Tree) → Cuts l es t → WellFormed l es → joined_along t ≡ Ok (summary_of l es)
 cut_joins l es (piece bytes) (P.Cuts.whole is bs ok e) w =
     ap summarize_of e ∙ summarize_items true l is (record { settings = w.settings; items = ok; few = w.few })
 cut_joins l es (both t u) (P.Cuts.parted xs ys a b c d) w =
@@ -104,5 +104,5 @@ module _ (l : Limits) (is : List Item) (e : Event) (m n : ℕ) (js : List Item) 
       (P.Cuts.parted (unrolled front) (unrolled behind) (piece (written_items l front)) (piece (written_items l behind))
       (P.Cuts.whole front (written_items l front) c.left_ok refl) (P.Cuts.whole behind (written_items l behind) c.right_ok refl))
       (rw c.events at (formed_events true l (is ++ (run e (m + n) ∷ js)) w))
-      ∙ ap (λ (q : List Event). Answer.Summed (summary_of l q)) (sym c.events)
+      ∙ ap (λ (q : List Event). Ok (summary_of l q)) (sym c.events)
       ∙ sym (summarize_items true l (is ++ (run e (m + n) ∷ js)) w)

@@ -1,16 +1,17 @@
 -- What a record comes to: the summary of its events, event by event, or the number of its earliest fault.
 -- Assumes nothing.
-use Rattle.std.specs.Prelude.{◌≡◌, ℕ, Bool, true, List}
+use Rattle.std.specs.Prelude.{◌≡◌, ℕ, Bool, true, List, Ok, Err}
 use Rattle.shaper.specs.declared.Limits.{Limits}
 use Rattle.summary.specs.declared.Summary.{Summary}
-use Rattle.summary.specs.declared.Answer.{Answer}
 use Rattle.summary.specs.Summary.{summary_of}
 use Rattle.record.specs.Items.{Item, written_items, unrolled, Formed}
 use Rattle.record.specs.Read.{Read, unreadable, whole, under, read_items, read_in}
+use Rattle.summary.specs.Answer.{Answer}
+use Rattle.decide.specs.Number.{refusal_of}
 
 abbrev pub summarized : Read → Answer
-summarized (unreadable n) = Answer.Refused n
-summarized (whole l es) = Answer.Summed (summary_of l es)
+summarized (unreadable n) = Err (refusal_of n)
+summarized (whole l es) = Ok (summary_of l es)
 
 -- `runs` says whether runs may stand
 unfoldable pub summarize_in : Bool → List ℕ → Answer

@@ -3,8 +3,7 @@
 use Rattle.std.specs.Prelude.{◌≡◌, ℕ, true, List, ◌++◌}
 use Rattle.shaper.specs.declared.Limits.{Limits}
 use Rattle.shaper.specs.declared.Event.{Event}
-use Rattle.summary.specs.declared.Answer.{Answer}
-use Rattle.summary.specs.Answer.{join_of, and_then}
+use Rattle.summary.specs.Answer.{join_of, and_then, Answer}
 use Rattle.record.specs.Items.{Item, written_items, unrolled, ItemsOk}
 use Rattle.account.specs.Account.{summarize_of}
 

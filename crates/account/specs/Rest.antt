@@ -1,23 +1,23 @@
 -- The answer to a record of which n events stand in a tally, some bytes are left and so many more events may come: what a reader's loop keeps.
 -- Assumes nothing.
-use Rattle.std.specs.Prelude.{◌≡◌, ℕ, ◌+◌, ◌-◌, ◌<◌, ◌≤◌, Bool, List, length, drop}
+use Rattle.std.specs.Prelude.{◌≡◌, ℕ, ◌+◌, ◌-◌, ◌<◌, ◌≤◌, Bool, List, length, drop, Result, Ok, Err}
+use Rattle.decide.specs.declared.refusal.Refusal.{Refusal}
 use Rattle.shaper.specs.declared.Limits.{Limits}
 use Rattle.plain.specs.declared.Plain.{Plain}
 use Rattle.plain.specs.Plain.{plain_joined, plain_of}
 use Rattle.tally.specs.declared.Tally.{Tally}
 use Rattle.tally.specs.Tally.{plain_at, Ready}
 use Rattle.tally.specs.Part.{Steady}
-use Rattle.summary.specs.declared.Answer.{Answer}
 use Rattle.summary.specs.Plain.{signed_from}
 use Rattle.account.specs.declared.Reach.{Reach}
-use Rattle.account.specs.declared.Walked.{Walked}
-use Rattle.account.specs.declared.Walked.TheVariants.{Ended, On}
 use Rattle.record.specs.Read.{Events, faulty, events, read_items}
+use Rattle.summary.specs.Answer.{Answer}
+use Rattle.decide.specs.Number.{refusal_of}
 
 -- the summary so far, joined with what is left
 abbrev pub rested : Limits → Plain → Events → Answer
-rested l p (faulty n) = Answer.Refused n
-rested l p (events es) = Answer.Summed (signed_from (plain_joined p (plain_of l es)))
+rested l p (faulty n) = Err (refusal_of n)
+rested l p (events es) = Ok (signed_from (plain_joined p (plain_of l es)))
 
 -- `left` more events may come, and any byte after the last of them gives `late`; `runs` says whether runs may stand
 unfoldable pub rest_of : Bool → ℕ → Limits → ℕ → ℕ → Tally → List ℕ → Answer
@@ -47,7 +47,7 @@ pub record Onward (runs : Bool) (late : ℕ) (l : Limits) (xs : List ℕ) (from 
   pub steady : Steady (l.hi - l.lo) r.tally
   pub same : rest_of runs late l (n + left - r.n) r.n r.tally (drop r.at xs) ≡ rest_of runs late l left n t (drop from xs)
 
--- or that answer, at its end
-abbrev pub Goes : Bool → ℕ → Limits → List ℕ → ℕ → ℕ → Tally → ℕ → Walked → Type 0
-Goes runs late l xs from n t left (Ended a) = a ≡ rest_of runs late l left n t (drop from xs)
-Goes runs late l xs from n t left (On r) = Onward runs late l xs from n t left r
+-- or the fault that is that answer
+abbrev pub Goes : Bool → ℕ → Limits → List ℕ → ℕ → ℕ → Tally → ℕ → Result Reach Refusal → Type 0
+Goes runs late l xs from n t left (Err r) = Err r ≡ rest_of runs late l left n t (drop from xs)
+Goes runs late l xs from n t left (Ok r) = Onward runs late l xs from n t left r

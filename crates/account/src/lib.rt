@@ -1,7 +1,7 @@
 // The account of a shaper record: its summary, read from lent bytes.
 #![tactic(auto)]
 
-ghost use Rattle.std.specs.Prelude.{◌≡◌, ◌+◌, ◌-◌, ◌*◌, ◌/◌, ◌≤◌, Bool, true, length};
+ghost use Rattle.std.specs.Prelude.{◌≡◌, ◌+◌, ◌-◌, ◌*◌, ◌/◌, ◌<◌, ◌≤◌, Bool, true, length};
 ghost use Rattle.std.specs.Int.{w32};
 ghost use Rattle.std.proofs.Common.{to_z};
 ghost use Rattle.decide.specs.Test.{Holds, test};
@@ -14,9 +14,9 @@ ghost use Rattle.account.specs.Account.{summarize_in, events_of};
 ghost use Rattle.account.specs.Rest.{Passed, Blocked, Goes};
 ghost use Rattle.account.specs.Lanes.{part_after, part_of};
 
-use record::{Header, Step};
+use decide::Refusal;
 use shaper::Limits;
-use summary::{Answer, Summary};
+use summary::Summary;
 use tally::{Part, Parts, Tally};
 
 // The most events that a record may have.
@@ -61,26 +61,17 @@ struct Reach {
     tally: Tally,
 }
 
-// What a walk comes to: the answer, or how far it went.
-#[derive(Clone, Copy)]
-enum Walked {
-    Ended(Answer),
-    On(Reach),
-}
-
-// The summary of a record, or the number of its earliest fault. `runs` says whether runs may stand: in a record of the old form none may.
-pub fn summarize(s: &[u8], runs: bool) -> Answer
+// The summary of a record, or its earliest fault. `runs` says whether runs may stand: in a record of the old form none may.
+pub fn summarize(s: &[u8], runs: bool) -> Result<Summary, Refusal>
     ensures { result ≡ summarize_in runs s.now }
 {
-    match record::header_of(s) {
-        Header::Settings(limits) => events(&s[14..], limits, MAX_EVENTS, runs),
-        Header::Unreadable(fault) => Answer::Refused(fault),
-    }
+    let limits = record::header_of(s)?;
+    events(&s[14..], limits, MAX_EVENTS, runs)
 }
 
-// The summary of all events that stand behind a header with these settings, or the number of their earliest fault, where so many may come: block by block, and item by item
+// The summary of all events that stand behind a header with these settings, or their earliest fault, where so many may come: block by block, and item by item
 // from a block with a fault or a run on, until 64 items are passed, or behind the last whole block.
-pub fn events(s: &[u8], limits: Limits, most: u64, runs: bool) -> Answer
+pub fn events(s: &[u8], limits: Limits, most: u64, runs: bool) -> Result<Summary, Refusal>
     requires { Holds (limits_ok limits) × (most ≤ most_events) }
     ensures { result ≡ events_of runs limits most s.now }
 {
@@ -90,18 +81,12 @@ pub fn events(s: &[u8], limits: Limits, most: u64, runs: bool) -> Answer
     loop {
         let far = blocks(s, at, limits, n, t, most);
         if s.len() <= far.at {
-            return summed(limits, far.n, far.tally);
+            return Ok(summed(limits, far.n, far.tally));
         }
-        match walk(s, far, limits, most - far.n, 9, runs) {
-            Walked::Ended(answer) => {
-                return answer;
-            }
-            Walked::On(next) => {
-                at = next.at;
-                n = next.n;
-                t = next.tally;
-            }
-        }
+        let next = walk(s, far, limits, most - far.n, runs)?;
+        at = next.at;
+        n = next.n;
+        t = next.tally;
     }
 }
 
@@ -111,30 +96,20 @@ fn blocks(s: &[u8], from: usize, limits: Limits, done: u64, start: Tally, most: 
     ensures { Blocked limits s.now from done start most result }
 {
     let count = decide::lesser((s.len() - from) as u64 / 384, (most - done) / 64);
-    let mut b: u64 = 0;
     let mut at = from;
     let mut n = done;
     let mut t = start;
-    while b < count {
+    for _ in 0..count {
         let next = block(s, at, limits, n, t);
         let good = next.good;
         if !good {
-            return Reach {
-                at: at,
-                n: n,
-                tally: t,
-            };
+            return Reach { at, n, tally: t };
         }
         t = next.tally;
         at += 384;
         n += 64;
-        b += 1;
     }
-    Reach {
-        at: at,
-        n: n,
-        tally: t,
-    }
+    Reach { at, n, tally: t }
 }
 
 // The tally of the 64 events from a place on, with no branch on what they hold: eight parts of eight events each, made side by side, and then the tally over them.
@@ -147,10 +122,7 @@ fn block(s: &[u8], from: usize, limits: Limits, n: u64, start: Tally) -> Tallied
     let made = parts(s, from, rise, limits.mtu - MIN_SIZE);
     let good = made.good;
     let t = start.over(rise, made);
-    Tallied {
-        tally: t,
-        good: good,
-    }
+    Tallied { tally: t, good }
 }
 
 // The eight parts of the 64 events from a place on; span is mtu less the smallest size.
@@ -163,22 +135,20 @@ fn parts(s: &[u8], from: usize, rise: u32, span: u32) -> Parts
     let mut lows: [u32; 8] = [0; 8];
     let mut total: u32 = 0;
     let mut good = true;
-    let mut i: usize = 0;
-    while i < 8 {
+    for i in 0..8 {
         let p = eight(s, from + 48 * i, rise, span);
         levels[i] = p.level;
         tops[i] = p.top;
         lows[i] = p.low;
         total += p.total;
         good = good & p.good;
-        i += 1;
     }
     Parts {
-        levels: levels,
-        tops: tops,
-        lows: lows,
-        total: total,
-        good: good,
+        levels,
+        tops,
+        lows,
+        total,
+        good,
     }
 }
 
@@ -188,10 +158,8 @@ fn eight(s: &[u8], from: usize, rise: u32, span: u32) -> Part
     ensures { result ≡ part_of rise (span + 16) s.now from 8 }
 {
     let mut p = Part::none(rise);
-    let mut i: usize = 0;
-    while i < 8 {
+    for i in 0..8 {
         p = event(p, s, from + 6 * i, rise, span);
-        i += 1;
     }
     p
 }
@@ -237,53 +205,41 @@ fn signed(x: u32) -> i32
     }
 }
 
-// The answer to a record that is tallied so far: one item at a time, to the end or the first fault, or how far 64 items go. So many
-// more events may come, and any byte after the last of them gives `late`; an item stands for as many events as it says, in one step.
-fn walk(s: &[u8], far: Reach, limits: Limits, budget: u64, late: u64, runs: bool) -> Walked
-    requires { (far.at ≤ length s.now) × Ready limits far.n far.tally × Steady (limits.hi - limits.lo) far.tally × (far.n + budget ≤ most_events) }
-    ensures { Goes runs late limits s.now far.at far.n far.tally budget result }
+// How far 64 items go from where a record is tallied so far, or all that are left, one item at a time; or the first fault. So many more events may come, and any
+// byte after the last of them is one too many; an item stands for as many events as it says, in one step.
+fn walk(s: &[u8], far: Reach, limits: Limits, budget: u64, runs: bool) -> Result<Reach, Refusal>
+    requires { (far.at < length s.now) × Ready limits far.n far.tally × Steady (limits.hi - limits.lo) far.tally × (far.n + budget ≤ most_events) }
+    ensures { Goes runs 9 limits s.now far.at far.n far.tally budget result }
 {
     let mtu = limits.mtu;
     let rise = limits.hi as u64 - limits.lo as u64;
-    let mut k: u64 = 0;
     let mut at = far.at;
     let mut left = budget;
     let mut t = far.tally;
-    while k < ITEMS {
-        match record::event_within(s, at, mtu, left, late, runs) {
-            Step::Stands {
-                kind,
-                number,
-                count,
-                next,
-            } => {
-                let many = count as u64;
-                t = stepped(t, rise, wide(kind), brought(wide(number), many));
+    for _ in 0..ITEMS {
+        match record::event_within(s, at, mtu, left, Refusal::TooMany, runs)? {
+            Some(item) => {
+                let many = item.count as u64;
+                t = stepped(t, rise, item.kind as u64, brought(item.number as u64, many));
                 left -= many;
-                at = next;
-                k += 1;
+                at = item.next;
             }
-            Step::End => {
-                return Walked::Ended(summed(limits, far.n + (budget - left), t));
-            }
-            Step::Faulty(fault) => {
-                return Walked::Ended(Answer::Refused(fault));
-            }
+            None => break,
         }
     }
-    Walked::On(Reach {
-        at: at,
+    Ok(Reach {
+        at,
         n: far.n + (budget - left),
         tally: t,
     })
 }
 
 // The summary of the n events that stand in a tally.
-fn summed(limits: Limits, n: u64, t: Tally) -> Answer
+fn summed(limits: Limits, n: u64, t: Tally) -> Summary
     requires { Ready limits n t }
-    ensures { result ≡ Answer.Summed (signed_from (plain_at limits n t)) }
+    ensures { result ≡ signed_from (plain_at limits n t) }
 {
-    Answer::Summed(summary::signed(tally::finish(limits, n, t)))
+    summary::signed(tally::finish(limits, n, t))
 }
 
 // The tally after an item. A send is stepped on its own: where it was read it was told from a tick already, and so neither pays for the other.
@@ -303,11 +259,4 @@ fn brought(number: u64, count: u64) -> u64
     ensures { (result ≡ count * number) × (result ≤ most_amount * most_events) }
 {
     count * number
-}
-
-// The same number in a wider type.
-fn wide(x: u16) -> u64
-    ensures { (result ≡ x) × (result ≤ 65535) }
-{
-    x as u64
 }

@@ -6,15 +6,16 @@ use Prim.Native.Nat.{ℕ}
 use Rattle.decide.specs.Test.{test}
 use Rattle.decide.specs.Refusal.{first, first_of, RefusedExactly}
 use Rattle.decide.proofs.Cases.{by_cases, true_or_false}
-use Rattle.decide.proofs.Refusal.{refused_exactly}
-use Rattle.advert.specs.declared.Parsed.TheVariants.{Frame, Refused}
+use Rattle.decide.proofs.Given.{refused_exactly}
+use Rattle.std.specs.Prelude.{Ok, Err}
+use Rattle.decide.specs.Number.{refusal_of}
 use Rattle.advert.specs.Frame.{whole, advert_in, parsed_of, parsed_number, parse_faults}
 
-pub parsed_whole : (xs : List ℕ) → test (whole xs) ≡ true → parsed_of xs ≡ Frame (advert_in xs)
+pub parsed_whole : (xs : List ℕ) → test (whole xs) ≡ true → parsed_of xs ≡ Ok (advert_in xs)
 unfolding parsed_of
 parsed_whole xs e = rw e
 
-pub parsed_not : (xs : List ℕ) → test (whole xs) ≡ false → parsed_of xs ≡ Refused 2
+pub parsed_not : (xs : List ℕ) → test (whole xs) ≡ false → parsed_of xs ≡ Err (refusal_of 2)
 unfolding parsed_of
 parsed_not xs e = rw e
 

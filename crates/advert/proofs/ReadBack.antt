@@ -11,7 +11,7 @@ use Rattle.wire.proofs.Places.{Stands, stands_whole}
 use Rattle.wire.proofs.Numbers.{be_bound}
 use Rattle.wire.proofs.Laid.{be_part}
 use Rattle.advert.specs.declared.Advert.{Advert}
-use Rattle.advert.specs.declared.Parsed.TheVariants.{Frame}
+use Rattle.std.specs.Prelude.{Ok}
 use Rattle.advert.specs.Frame.{advert_length, base_of, address_of, parts_of, advert_bytes, AdvertFits}
 use Rattle.advert.specs.Frame.{ttl_in, base_in, address_in, header_in, rate_in, ringlet_in, whole, advert_in, parsed_of}
 use Rattle.advert.proofs.Parsing.{parsed_whole}
@@ -41,7 +41,7 @@ pub written_bare : (a : Advert) →
     (base_in (advert_bytes a) / 64 % 2 ≡ 0) × (base_in (advert_bytes a) % 16 ≡ 0) × (header_in (advert_bytes a) % 8192 ≡ 0)
 written_bare a = let b = written_base a in let h = written_header a in (omega arith, omega arith, omega arith)
 
-pub written_whole : (a : Advert) → parsed_of (advert_bytes a) ≡ Frame (advert_in (advert_bytes a))
+pub written_whole : (a : Advert) → parsed_of (advert_bytes a) ≡ Ok (advert_in (advert_bytes a))
 written_whole a =
     let b = written_base a in
     let h = written_header a in
@@ -63,8 +63,8 @@ module _ (a : Advert) (f : AdvertFits a) where
       rw (ringlet, ttl, high, low, rate)
 
   -- Reading a written frame gives back its ringlet bit, ttl, address and rate.
-  pub parse_written : parsed_of (advert_bytes a) ≡ Frame a
-  parse_written = written_whole a ∙ ap Frame said
+  pub parse_written : parsed_of (advert_bytes a) ≡ Ok a
+  parse_written = written_whole a ∙ ap Ok said
 
 -- what bytes say fits a frame
 pub parsed_fits : (xs : List ℕ) → Bytes xs → AdvertFits (advert_in xs)

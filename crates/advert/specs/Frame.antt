@@ -1,13 +1,13 @@
 -- The fairness frame of document 01: "ttl; base (bit 7 ringlet, bits 5 to 4 frame type, 2 = fairness); address 6; header 2, top three bits 0 for
 -- single choke; rate 2. Big-endian." Assumes nothing.
-use Rattle.std.specs.Prelude.{cond, not, List, [], ◌∷◌, ℕ, ◌+◌, ◌*◌, ◌/◌, ◌%◌, ◌<◌, length}
+use Rattle.std.specs.Prelude.{cond, not, List, [], ◌∷◌, ℕ, ◌+◌, ◌*◌, ◌/◌, ◌%◌, ◌<◌, length, Result, Ok, Err}
 use Rattle.decide.specs.Test.{Test, test, ◌≡?◌, ◌∧?◌}
+use Rattle.decide.specs.declared.refusal.Refusal.{Refusal}
 use Rattle.decide.specs.Refusal.{Fault, fault}
+use Rattle.decide.specs.Number.{number_in, refusal_of}
 use Rattle.wire.specs.Wire.{be}
 use Rattle.wire.specs.Parts.{Part, number_be, laid_out}
 use Rattle.advert.specs.declared.Advert.{Advert}
-use Rattle.advert.specs.declared.Parsed.{Parsed}
-use Rattle.advert.specs.declared.Parsed.TheVariants.{Frame, Refused}
 
 -- how many bytes a frame has
 abbrev pub advert_length : ℕ
@@ -86,14 +86,18 @@ advert_in xs = record {
   rate = rate_in xs;
 }
 
+-- what bytes are found to be: a fairness frame that says this, or a refusal
+abbrev pub Parsed : Type 0
+Parsed = Result Advert Refusal
+
 -- the bytes as they are found, whatever ttl and rate are
 unfoldable pub parsed_of : List ℕ → Parsed
-parsed_of xs = cond (test (whole xs)) (Frame (advert_in xs)) (Refused 2)
+parsed_of xs = cond (test (whole xs)) (Ok (advert_in xs)) (Err (refusal_of 2))
 
 -- the number of what was found: 0 for a frame
 abbrev pub parsed_number : Parsed → ℕ
-parsed_number (Frame a) = 0
-parsed_number (Refused n) = n
+parsed_number (Ok a) = 0
+parsed_number (Err r) = number_in r
 
 -- 2: bytes are not a whole frame
 abbrev pub parse_faults : List ℕ → List Fault

@@ -6,6 +6,8 @@ ghost use Rattle.decide.specs.Test.{test};
 ghost use Rattle.wire.specs.Wire.{be, digits_be, put};
 ghost use Rattle.advert.specs.Frame.{advert_length, advert_bytes, whole, advert_in, parsed_of};
 
+use decide::Refusal;
+
 // How many bytes a fairness frame has.
 pub const LENGTH: usize = 12;
 
@@ -24,13 +26,6 @@ pub struct Advert {
     pub rate: u16,
 }
 
-// What bytes are found to be: a fairness frame that says this, or the number of the refusal.
-#[derive(Clone, Copy)]
-pub enum Parsed {
-    Frame(Advert),
-    Refused(u64),
-}
-
 // Writes the frame to `room`. Of the ringlet the lowest bit is written, and of the high part of the address the low 16 bits.
 pub fn write(advert: Advert, room: &mut [u8])
     requires { length room.old ≡ advert_length }
@@ -44,14 +39,14 @@ pub fn write(advert: Advert, room: &mut [u8])
     wire::put16be(room, 10, advert.rate);
 }
 
-// What the bytes say, or 2 if they are not a whole fairness frame. Any bytes may be given.
-pub fn parse(frame: &[u8]) -> Parsed
+// What the bytes say, or `NotWhole` if they are not a whole fairness frame. Any bytes may be given.
+pub fn parse(frame: &[u8]) -> Result<Advert, Refusal>
     ensures { result ≡ parsed_of frame.now }
 {
     if !is_whole(frame) {
-        return Parsed::Refused(2);
+        return Err(Refusal::NotWhole);
     }
-    Parsed::Frame(read(frame))
+    Ok(read(frame))
 }
 
 // Whether the bytes have the length, the frame type and the header kind of a fairness frame.
@@ -81,10 +76,10 @@ fn read(frame: &[u8]) -> Advert
     let rate = wire::get16be(frame, 10);
     Advert {
         ringlet: base / 128,
-        ttl: ttl,
+        ttl,
         high: (address / 4294967296) as u32,
         low: (address % 4294967296) as u32,
-        rate: rate,
+        rate,
     }
 }
 

@@ -85,8 +85,9 @@ fn four(one: u64, two: u64, three: u64, four: u64) -> u64
 }
 
 // 1 for yes, 0 for no.
+#[tactic(auto, unfolding(crate::specs::Bytes::bit_of))]
 fn bit(yes: bool) -> u64
     ensures { result ≡ bit_of yes }
 {
-    if yes { 1 } else { 0 }
+    yes as u64
 }

@@ -1,5 +1,7 @@
 -- A turn lists what it passes: its line, and the list of what stands behind it, is the list of what stood before it. And so for any number of turns.
 -- Assumes nothing.
+use Rattle.std.specs.Prelude.{Ok, Some}
+use Rattle.record.specs.Step.{placed}
 use Prim.Native.Nat.{ℕ, zero, suc, ◌+◌, ◌-◌, ◌≤◌, ◌<◌, min}
 use mathlib.Core.Bool.{true, false}
 use mathlib.Core.List.{List, [], ◌∷◌, ◌++◌, append_assoc, append-nil}
@@ -11,7 +13,6 @@ use lib.ListN.{drop, replicate, drop_of_length-le}
 use Rattle.decide.proofs.Cases.{by_cases, le_or}
 use Rattle.shaper.specs.declared.Event.{Event}
 use Rattle.shaper.specs.Kind.{event_of}
-use Rattle.record.specs.declared.Step.TheVariants.{Stands}
 use Rattle.record.specs.Read.{Events, faulty, events, read_items}
 use Rattle.record.specs.Step.{item_at}
 use Rattle.record.proofs.Steps.{step_end}
@@ -41,7 +42,7 @@ record After (late mtu : ℕ) (xs : List ℕ) (p : Place) (es : List Event) (j :
   same : es ≡ replicate j e ++ rest
   stands : From late mtu xs p rest
 
-module _ (late mtu : ℕ) (w q : List ℕ) (p : Place) (k v c next : ℕ) (e : item_at true mtu w p.at ≡ Stands k v c next) (some : p.gone < c) where
+module _ (late mtu : ℕ) (w q : List ℕ) (p : Place) (k v c next : ℕ) (e : item_at true mtu w p.at ≡ Ok (Some (placed k v c next))) (some : p.gone < c) where
   stays : Stays mtu (w ++ q) p.at k v c next
   stays = window_item mtu w q p.at k v c next e
 

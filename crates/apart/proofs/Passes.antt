@@ -1,5 +1,8 @@
 -- An item that stands whole in a window is the file's, whatever stands behind the window; and events of it that go by are the next of the file's.
 -- Assumes nothing.
+use Rattle.std.specs.Prelude.{Ok, Some}
+use Rattle.record.specs.declared.Placed.{Placed}
+use Rattle.record.specs.Step.{placed}
 use Prim.Native.Nat.{ℕ, zero, suc, ◌+◌, ◌-◌, ◌≤◌, ◌<◌}
 use mathlib.Core.Bool.{true, false}
 use mathlib.Core.List.{List, ◌++◌}
@@ -16,8 +19,7 @@ use Rattle.wire.specs.Wire.{le}
 use Rattle.wire.proofs.Numbers.{le_append_left, le_drop}
 use Rattle.shaper.specs.declared.Event.{Event}
 use Rattle.shaper.specs.Kind.{event_of}
-use Rattle.record.specs.declared.Step.TheVariants.{Stands}
-use Rattle.record.specs.Read.{length_at, is_run, item_faults, Events, faulty, ahead, read_items}
+use Rattle.record.specs.Read.{length_at, item_kind, item_number, item_count, is_run, item_faults, Events, faulty, ahead, read_items}
 use Rattle.record.specs.Step.{item_at}
 use Rattle.record.proofs.Rows.{Told, run_nowhere, run_at, faults_event, faults_run, told_event, told_run, free_stands}
 use Rattle.record.proofs.Steps.{step_stands, read_run, read_past}
@@ -85,15 +87,16 @@ pub record Stays (mtu : ℕ) (xs : List ℕ) (at k v c next : ℕ) : Type 0 wher
   pub behind : drop (length_at (drop at xs)) (drop at xs) ≡ drop next xs
 
 -- an item that stands whole in a window is the file's
-pub window_item : (mtu : ℕ) (w q : List ℕ) (at k v c next : ℕ) → item_at true mtu w at ≡ Stands k v c next → Stays mtu (w ++ q) at k v c next
+pub window_item : (mtu : ℕ) (w q : List ℕ) (at k v c next : ℕ) → item_at true mtu w at ≡ Ok (Some (placed k v c next)) → Stays mtu (w ++ q) at k v c next
 window_item mtu w q at k v c next e =
     let s = step_stands true mtu w at k v c next e in
     let n = length-drop at w in
     let ys = drop at w in
     let same : drop at (w ++ q) ≡ ys ++ q = drop-append-le at w q (omega (arith, s.fits, s.further)) in
     let f = free_stands true mtu w at (omega (arith, s.fits, s.further)) s.free in
-    let t : Told ys k v c = record { kind = cc; number = cc; count = s.counts } in
-    let place : at + le 2 w at ≡ next = cc in
+    let i : placed k v c next ≡ placed (item_kind ys) (item_number ys) (item_count ys) (at + le 2 w at) = cc (sym e ∙ f) in
+    let t : Told ys k v c = record { kind = sym (ap (λ (p : Placed). p.kind) i); number = sym (ap (λ (p : Placed). p.number) i); count = s.counts } in
+    let place : at + le 2 w at ≡ next = sym (ap (λ (p : Placed). p.next) i) in
     let whole : Whole ys = (
       omega (arith, s.fits, s.further),
       ⊎_elim

@@ -1,5 +1,8 @@
 -- The rows of what is printed of a setting, of what stands at a place, and of a turn.
 -- Assumes nothing.
+use Rattle.std.specs.Prelude.{Ok, Err, Some, None}
+use Rattle.record.specs.Step.{placed}
+use Rattle.decide.specs.declared.refusal.Refusal.{Refusal}
 use mathlib.Core.Bool.{true, false}
 use mathlib.Core.Path.{◌≡◌}
 use mathlib.Core.List.{List, [], ◌++◌}
@@ -7,7 +10,6 @@ use Prim.Native.Nat.{ℕ, ◌+◌, ◌-◌, ◌/◌, ◌≤◌, ◌<◌, min}
 use lib.ListN.{length}
 use borrow.Author.Tests.{eq-eqb, ne_eqb, lt-ltb, le-ltb}
 use Rattle.shaper.specs.declared.Event.{Event}
-use Rattle.record.specs.declared.Step.TheVariants.{Stands, End, Faulty}
 use Rattle.record.specs.Step.{item_at}
 use Rattle.report.specs.Text.{ascii, numeral, line}
 use Rattle.apart.specs.declared.Side.{Side}
@@ -33,23 +35,23 @@ module _ (words : List ℕ) (a b : ℕ) where
 -- ---- what stands at a place
 
 module _ (side : Side) (w : List ℕ) (p : Place) where
-  pub stand_events : (k v c next : ℕ) → item_at true side.mtu w p.at ≡ Stands k v c next → p.gone < c → stand_of side w p ≡ Events k v c next
+  pub stand_events : (k v c next : ℕ) → item_at true side.mtu w p.at ≡ Ok (Some (placed k v c next)) → p.gone < c → stand_of side w p ≡ Events k v c next
   unfolding stand_of
   stand_events k v c next e h = rw (e, lt-ltb p.gone c h)
 
-  pub stand_gone : (k v c next : ℕ) → item_at true side.mtu w p.at ≡ Stands k v c next → c ≤ p.gone → stand_of side w p ≡ Unread
+  pub stand_gone : (k v c next : ℕ) → item_at true side.mtu w p.at ≡ Ok (Some (placed k v c next)) → c ≤ p.gone → stand_of side w p ≡ Unread
   unfolding stand_of
   stand_gone k v c next e h = rw (e, le-ltb p.gone c h)
 
-  pub stand_ended : item_at true side.mtu w p.at ≡ End → side.last ≡ true → stand_of side w p ≡ Ended
+  pub stand_ended : item_at true side.mtu w p.at ≡ Ok None → side.last ≡ true → stand_of side w p ≡ Ended
   unfolding stand_of
   stand_ended e h = rw (e, h)
 
-  pub stand_more : item_at true side.mtu w p.at ≡ End → side.last ≡ false → stand_of side w p ≡ Unread
+  pub stand_more : item_at true side.mtu w p.at ≡ Ok None → side.last ≡ false → stand_of side w p ≡ Unread
   unfolding stand_of
   stand_more e h = rw (e, h)
 
-  pub stand_faulty : (n : ℕ) → item_at true side.mtu w p.at ≡ Faulty n → stand_of side w p ≡ Unread
+  pub stand_faulty : (r : Refusal) → item_at true side.mtu w p.at ≡ Err r → stand_of side w p ≡ Unread
   unfolding stand_of
   stand_faulty n e = rw e
 

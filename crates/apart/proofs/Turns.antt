@@ -1,5 +1,7 @@
 -- What a turn may be, by what stands at both places. No line is longer than 88 bytes and no turn passes more than 65,535 events, whatever bytes the windows hold.
 -- Assumes nothing.
+use Rattle.std.specs.Prelude.{Ok, Err, Some, None}
+use Rattle.record.specs.Step.{placed}
 use Prim.Native.Nat.{ℕ, ◌+◌, ◌-◌, ◌≤◌, ◌<◌, min}
 use mathlib.Core.Bool.{true, false, false≢true}
 use mathlib.Core.List.{List}
@@ -10,8 +12,7 @@ use lib.ListN.{length}
 use Rattle.decide.proofs.Cases.{by_cases, of_each, le_or, true_or_false}
 use Rattle.wire.specs.Wire.{Bytes}
 use Rattle.shaper.specs.Kind.{number_of, event_of}
-use Rattle.record.specs.declared.Step.{Step}
-use Rattle.record.specs.declared.Step.TheVariants.{Stands, End, Faulty}
+use Rattle.record.specs.Step.{Step}
 use Rattle.record.specs.Items.{most_of_run}
 use Rattle.record.specs.Step.{item_at}
 use Rattle.record.proofs.Steps.{step_stands, stood_bound, count_bound}
@@ -32,39 +33,42 @@ use Rattle.apart.proofs.Rows.{stand_events, stand_gone, stand_ended, stand_more,
 
 module _ (side : Side) (w : List ℕ) (p : Place) where
   -- an item, of which some events are left
-  pub stand_item : (k v c next : ℕ) → stand_of side w p ≡ Events k v c next → (item_at true side.mtu w p.at ≡ Stands k v c next) × (p.gone < c)
+  pub stand_item : (k v c next : ℕ) → stand_of side w p ≡ Events k v c next → (item_at true side.mtu w p.at ≡ Ok (Some (placed k v c next))) × (p.gone < c)
   stand_item k v c next e = by (item_at true side.mtu w p.at) refl
     where
       never : stand_of side w p ≡ Unread → ⊥
       never u = let z : ◌≡◌ {A = ℕ} 0 1 = cc in omega arith
 
-      by : (s : Step) → item_at true side.mtu w p.at ≡ s → (item_at true side.mtu w p.at ≡ Stands k v c next) × (p.gone < c)
-      by (Stands j u d behind) q =
-          by_cases (le_or d p.gone)
-          (λ gone. absurd (never (stand_gone side w p j u d behind q gone)))
-          (λ left. let s = stand_events side w p j u d behind q left in
-          let same : d ≡ c = cc in
-          (cc, omega arith))
-      by End q =
+      by : (s : Step) → item_at true side.mtu w p.at ≡ s → (item_at true side.mtu w p.at ≡ Ok (Some (placed k v c next))) × (p.gone < c)
+      by (Ok (Some i)) q =
+          by_cases (le_or i.count p.gone)
+          (λ gone. absurd (never (stand_gone side w p i.kind i.number i.count i.next q gone)))
+          (λ left. let s = stand_events side w p i.kind i.number i.count i.next q left in
+          let kind : i.kind ≡ k = cc in
+          let number : i.number ≡ v = cc in
+          let same : i.count ≡ c = cc in
+          let behind : i.next ≡ next = cc in
+          (rw (← kind, ← number, ← same, ← behind) q, omega arith))
+      by (Ok None) q =
           by_cases (true_or_false side.last)
           (λ last. let s = stand_ended side w p q last in let z : ◌≡◌ {A = ℕ} 0 1 = cc in absurd (omega arith))
           (λ more. absurd (never (stand_more side w p q more)))
-      by (Faulty n) q = absurd (never (stand_faulty side w p n q))
+      by (Err r) q = absurd (never (stand_faulty side w p r q))
 
   -- the file's end
-  pub stand_end : stand_of side w p ≡ Ended → (item_at true side.mtu w p.at ≡ End) × (side.last ≡ true)
+  pub stand_end : stand_of side w p ≡ Ended → (item_at true side.mtu w p.at ≡ Ok None) × (side.last ≡ true)
   stand_end e = by (item_at true side.mtu w p.at) refl
     where
       never : stand_of side w p ≡ Unread → ⊥
       never u = let z : ◌≡◌ {A = ℕ} 0 1 = cc in omega arith
 
-      by : (s : Step) → item_at true side.mtu w p.at ≡ s → (item_at true side.mtu w p.at ≡ End) × (side.last ≡ true)
-      by (Stands j u d behind) q =
-          by_cases (le_or d p.gone)
-          (λ gone. absurd (never (stand_gone side w p j u d behind q gone)))
-          (λ left. let s = stand_events side w p j u d behind q left in let z : ◌≡◌ {A = ℕ} 0 1 = cc in absurd (omega arith))
-      by End q = by_cases (true_or_false side.last) (λ last. (q, last)) (λ more. absurd (never (stand_more side w p q more)))
-      by (Faulty n) q = absurd (never (stand_faulty side w p n q))
+      by : (s : Step) → item_at true side.mtu w p.at ≡ s → (item_at true side.mtu w p.at ≡ Ok None) × (side.last ≡ true)
+      by (Ok (Some i)) q =
+          by_cases (le_or i.count p.gone)
+          (λ gone. absurd (never (stand_gone side w p i.kind i.number i.count i.next q gone)))
+          (λ left. let s = stand_events side w p i.kind i.number i.count i.next q left in let z : ◌≡◌ {A = ℕ} 0 1 = cc in absurd (omega arith))
+      by (Ok None) q = by_cases (true_or_false side.last) (λ last. (q, last)) (λ more. absurd (never (stand_more side w p q more)))
+      by (Err r) q = absurd (never (stand_faulty side w p r q))
 
   module _ (b : Bytes w) (k v c next : ℕ) (e : stand_of side w p ≡ Events k v c next) where
     -- its numbers are of 2 bytes

@@ -1,5 +1,7 @@
 -- The pages of two files, however they are cut, are the list of the whole records, and what is printed by them is what the two files are to print.
 -- Assumes nothing.
+use Rattle.decide.proofs.Number.{number_told}
+use Rattle.std.specs.Prelude.{Ok, Err}
 use Prim.Native.Nat.{ℕ, zero, suc, ◌+◌}
 use mathlib.Core.Bool.{true}
 use mathlib.Core.List.{List, [], ◌∷◌, ◌++◌}
@@ -15,11 +17,9 @@ use Rattle.shaper.specs.declared.Event.{Event}
 use Rattle.shaper.specs.Limits.{limits_ok, most_events}
 use Rattle.shaper.specs.Kind.{event_of}
 use Rattle.summary.specs.declared.Summary.{Summary}
-use Rattle.summary.specs.declared.Answer.{Answer}
 use Rattle.summary.specs.Summary.{summary_of}
 use Rattle.summary.proofs.Promises.{summary_limits}
-use Rattle.record.specs.declared.Header.{Header}
-use Rattle.record.specs.declared.Header.TheVariants.{Settings, Unreadable}
+use Rattle.record.specs.Step.{Header}
 use Rattle.record.specs.Items.{Item, items_bytes, unrolled, written_items, ItemsOk, Formed}
 use Rattle.record.specs.Record.{written}
 use Rattle.record.specs.Read.{item_faults, item_kind, item_number, Events, faulty, events, onward, gone_behind, bytes_behind, read_items, Read, unreadable, whole, under, read_record}
@@ -27,7 +27,7 @@ use Rattle.record.specs.Step.{header_of_of}
 use Rattle.record.proofs.Steps.{read_by, read_header, header_stands}
 use Rattle.record.proofs.Written.{behind, behind_faulty, behind_events, items_then, items_read, written_read}
 use Rattle.record.proofs.Wrote.{formed_events}
-use Rattle.report.specs.Report.{printed_of}
+use Rattle.report.specs.Report.{refused_text, printed_of}
 use Rattle.account.specs.Account.{summarized, summarize_in, summarize_of}
 use Rattle.apart.specs.Told.{list_from, list_of}
 use Rattle.apart.specs.Text.{list_text, compared_text, compare_of}
@@ -149,10 +149,10 @@ opened xs l es e = by (header_of_of xs) refl (sym (read_header true xs) ∙ e)
     under_whole k (faulty n) q = let z : ◌≡◌ {A = ℕ} 0 1 = cc in absurd (omega arith)
 
     by : (h : Header) → header_of_of xs ≡ h → read_by true xs h ≡ whole l es → Opened xs l es
-    by (Settings k) h q =
+    by (Ok k) h q =
         let u = under_whole k (read_items true 9 k.mtu most_events 0 (drop 14 xs)) q in
         record { in_range_lem = rw u.0 at (header_stands xs k h).in_range_lem; reads = rw u.0 at u.1 }
-    by (Unreadable n) h q = let z : ◌≡◌ {A = ℕ} 0 1 = cc in absurd (omega arith)
+    by (Err r) h q = let z : ◌≡◌ {A = ℕ} 0 1 = cc in absurd (omega arith)
 
 -- Files read in windows: the pages, one behind the other, are the list of the whole records, however the windows are cut.
 pub windows : (xs ys : List ℕ) (l m : Limits) (es fs : List Event) (ps : List Page) → read_record xs ≡ whole l es → read_record ys ≡ whole m fs →
@@ -164,15 +164,15 @@ windows xs ys l m es fs ps r q t =
 
 -- What is printed by what two files come to and by their pages is what the two files are to print: refusals first, then each line, byte by byte.
 module _ (xs ys : List ℕ) (ps : List Page)
-    (pages : (s t : Summary) → summarize_of xs ≡ Answer.Summed s → summarize_of ys ≡ Answer.Summed t → InTurn s.limits t.limits 0 (drop 14 xs) 0 (drop 14 ys) 0 ps) where
-  summed : (zs : List ℕ) (l : Limits) (es : List Event) → read_record zs ≡ whole l es → (summarize_of zs ≡ Answer.Summed (summary_of l es)) × ((summary_of l es).limits ≡ l)
+    (pages : (s t : Summary) → summarize_of xs ≡ Ok s → summarize_of ys ≡ Ok t → InTurn s.limits t.limits 0 (drop 14 xs) 0 (drop 14 ys) 0 ps) where
+  summed : (zs : List ℕ) (l : Limits) (es : List Event) → read_record zs ≡ whole l es → (summarize_of zs ≡ Ok (summary_of l es)) × ((summary_of l es).limits ≡ l)
   unfolding summarize_in
   summed zs l es r = (ap summarized r, summary_limits l (opened zs l es r).in_range_lem es)
 
   printed_as : (r q : Read) → read_record xs ≡ r → read_record ys ≡ q → printed_by (summarized r) (summarized q) ps ≡ compared_text r q
   unfolding printed_of
-  printed_as (unreadable n) q e f = refl
-  printed_as (whole l es) (unreadable n) e f = refl
+  printed_as (unreadable n) q e f = ap refused_text (number_told n)
+  printed_as (whole l es) (unreadable n) e f = ap refused_text (number_told n)
   printed_as (whole l es) (whole m fs) e f =
       let x = summed xs l es e in
       let y = summed ys m fs f in

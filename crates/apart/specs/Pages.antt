@@ -1,8 +1,9 @@
 -- Two files that are read in step: what is printed of them, page after page, however their bytes are cut into windows.
 -- Assumes nothing.
+use Rattle.std.specs.Prelude.{Ok, Err}
 use Rattle.std.specs.Prelude.{ℕ, ◌+◌, true, List, [], ◌∷◌, ◌++◌, ◌≡◌, length, drop}
 use Rattle.shaper.specs.declared.Limits.{Limits}
-use Rattle.summary.specs.declared.Answer.{Answer}
+use Rattle.summary.specs.Answer.{Answer}
 use Rattle.report.specs.Report.{printed_of}
 use Rattle.record.specs.Items.{Item, items_bytes, unrolled, ItemsOk}
 use Rattle.apart.specs.declared.Side.{Side}
@@ -64,6 +65,6 @@ InTurn l m n xs g ys h (equal is us vs ∷ ps) =
 -- What is printed of two files, by what each comes to: the refusal of the first before that of the second; else the settings that differ, the pages and both
 -- summaries, each a write of its own (`compare_printed`, proofs/Windows.antt, says that this is `compare_of`).
 abbrev pub printed_by : Answer → Answer → List Page → List ℕ
-printed_by (Answer.Refused n) b ps = printed_of (Answer.Refused n)
-printed_by (Answer.Summed s) (Answer.Refused n) ps = printed_of (Answer.Refused n)
-printed_by (Answer.Summed s) (Answer.Summed t) ps = opening_text s.limits t.limits ++ pages_text ps ++ closing_text (Answer.Summed s) (Answer.Summed t)
+printed_by (Err r) b ps = printed_of (Err r)
+printed_by (Ok s) (Err r) ps = printed_of (Err r)
+printed_by (Ok s) (Ok t) ps = opening_text s.limits t.limits ++ pages_text ps ++ closing_text (Ok s) (Ok t)

@@ -1,10 +1,11 @@
 -- What is printed of two records, as bytes.
 -- Assumes nothing.
+use Rattle.std.specs.Prelude.{Ok}
 use Rattle.std.specs.Prelude.{ℕ, cond, List, [], ◌∷◌, ◌++◌, eqb}
 use Rattle.shaper.specs.declared.Limits.{Limits}
 use Rattle.shaper.specs.declared.Event.{Event}
 use Rattle.shaper.specs.declared.Event.TheVariants.{Waiting, Idle, Send}
-use Rattle.summary.specs.declared.Answer.{Answer}
+use Rattle.summary.specs.Answer.{Answer}
 use Rattle.summary.specs.Summary.{summary_of}
 use Rattle.record.specs.Read.{Read, unreadable, whole, read_record}
 use Rattle.report.specs.Text.{ascii, numeral, line}
@@ -74,7 +75,7 @@ closing_text a b = ascii "first\n" ++ printed_of a ++ ascii "second\n" ++ printe
 
 -- "Settings that differ are printed first; the events are compared all the same, each summary under its own settings."
 abbrev pub parting_text : Limits → List Event → Limits → List Event → List ℕ
-parting_text l es m fs = opening_text l m ++ list_text (list_of es fs) ++ closing_text (Answer.Summed (summary_of l es)) (Answer.Summed (summary_of m fs))
+parting_text l es m fs = opening_text l m ++ list_text (list_of es fs) ++ closing_text (Ok (summary_of l es)) (Ok (summary_of m fs))
 
 -- "Refusals: as for one record, the first file's before the second's."
 abbrev pub compared_text : Read → Read → List ℕ

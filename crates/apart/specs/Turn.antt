@@ -1,10 +1,9 @@
 -- A turn of two windows that are walked together: what stands at both places, what is listed of it, and the places behind it.
 -- Assumes nothing.
-use Rattle.std.specs.Prelude.{ℕ, ◌+◌, ◌-◌, min, Bool, true, false, cond, List, [], ltb}
+use Rattle.std.specs.Prelude.{Ok, Err, Some, None, ℕ, ◌+◌, ◌-◌, min, Bool, true, false, cond, List, [], ltb}
 use Rattle.shaper.specs.declared.Event.{Event}
 use Rattle.shaper.specs.Kind.{event_of}
-use Rattle.record.specs.declared.Step.{Step}
-use Rattle.record.specs.declared.Step.TheVariants.{Stands, End, Faulty}
+use Rattle.record.specs.Step.{Step}
 use Rattle.record.specs.Step.{item_at}
 use Rattle.apart.specs.declared.Side.{Side}
 use Rattle.apart.specs.declared.Place.{Place}
@@ -21,9 +20,9 @@ use Rattle.apart.specs.Text.{both_text, only_text, first_words, second_words}
 
 -- An item that stands for more events than have gone by; behind the last byte the file's end, where no more bytes come. Else the window has no whole item there.
 abbrev pub stand_by : Bool → ℕ → Step → Stand
-stand_by last gone (Stands k v c next) = cond (ltb gone c) (Events k v c next) Unread
-stand_by last gone End = cond last Ended Unread
-stand_by last gone (Faulty n) = Unread
+stand_by last gone (Ok (Some p)) = cond (ltb gone p.count) (Events p.kind p.number p.count p.next) Unread
+stand_by last gone (Ok None) = cond last Ended Unread
+stand_by last gone (Err r) = Unread
 
 unfoldable pub stand_of : Side → List ℕ → Place → Stand
 stand_of side w p = stand_by side.last p.gone (item_at true side.mtu w p.at)

@@ -12,11 +12,12 @@ ghost use Rattle.record.specs.Items.{most_of_run};
 ghost use Rattle.apart.specs.Text.{opening_text, closing_text};
 ghost use Rattle.apart.specs.Page.{most_turns, walk_text, reached_of, page_of, Begins};
 
+use decide::Refusal;
 use line::{put_line, put_setting};
 use shaper::{Event, Limits};
 use std::io;
 use step::{event_in, is_event, level, passed, put_if};
-use summary::Answer;
+use summary::Summary;
 use together::turn;
 
 // The most turns of a page.
@@ -116,7 +117,7 @@ pub fn print_page(
     room: &mut [u8],
 ) -> Printed {
     let unprinted = Printed {
-        walk: walk,
+        walk,
         empty: true,
         written: Err(io::Error::from(io::ErrorKind::InvalidInput)),
     };
@@ -133,12 +134,16 @@ pub fn print_page(
     Printed {
         walk: next,
         empty: end == 0,
-        written: written,
+        written,
     }
 }
 
 // Prints both summaries, by one write; answers whether all of it was written, or why not.
-pub fn print_closing(rt: &impl Print, first: Answer, second: Answer) -> io::Result<()> {
+pub fn print_closing(
+    rt: &impl Print,
+    first: Result<Summary, Refusal>,
+    second: Result<Summary, Refusal>,
+) -> io::Result<()> {
     let mut room = [0u8; 528];
     let end = closing(first, second, &mut room);
     rt.write_all(&room[..end])
@@ -186,25 +191,15 @@ fn walk_on(
 {
     let mut now = walk;
     let mut end = at;
-    let mut k: u64 = 0;
-    while k < most {
+    for _k in 0..most {
         let turn = turn(first, second, a, b, now);
-        let stops = turn.stops;
-        if stops {
-            return Reached {
-                walk: now,
-                end: end,
-            };
+        if turn.stops {
+            return Reached { walk: now, end };
         }
-        let line = turn.line;
-        end = put_line(room, end, now.position, line);
+        end = put_line(room, end, now.position, turn.line);
         now = turn.walk;
-        k += 1;
     }
-    Reached {
-        walk: now,
-        end: end,
-    }
+    Reached { walk: now, end }
 }
 
 // Fills a room's first bytes with what the first turns list where events stand at both places, one behind another, up to the first run: the quick way, which old records go
@@ -220,8 +215,7 @@ fn events(first: &[u8], second: &[u8], a: Side, b: Side, walk: Walk, room: &mut 
     let at = p.at;
     let other = q.at;
     let mut end = 0;
-    let mut k: usize = 0;
-    while k < most {
+    for k in 0..most {
         let i = at + 6 * k;
         let j = other + 6 * k;
         if !(is_event(first, i, a.mtu) & is_event(second, j, b.mtu)) {
@@ -230,13 +224,16 @@ fn events(first: &[u8], second: &[u8], a: Side, b: Side, walk: Walk, room: &mut 
         let e = event_in(first, i);
         let f = event_in(second, j);
         end = put_if(room, end, walk.position + k as u64, e, f);
-        k += 1;
     }
-    passed(walk, k, end)
+    passed(walk, most, end)
 }
 
 // Fills a room's first bytes with both summaries, and answers how many they are.
-pub fn closing(first: Answer, second: Answer, room: &mut [u8; 528]) -> usize
+pub fn closing(
+    first: Result<Summary, Refusal>,
+    second: Result<Summary, Refusal>,
+    room: &mut [u8; 528],
+) -> usize
     ensures value { result ≡ length (closing_text first second) }
     ensures room_after { room.new ≡ put room.old 0 (closing_text first second) }
 {

@@ -75,13 +75,13 @@ pub fn passed(walk: Walk, k: usize, end: usize) -> Begun
         gone: q.gone,
     };
     let next = Walk {
-        first: first,
-        second: second,
+        first,
+        second,
         position: walk.position + k as u64,
     };
     Begun {
         walk: next,
         turns: k as u64,
-        end: end,
+        end,
     }
 }

@@ -5,7 +5,6 @@ ghost use Rattle.apart.specs.Told.{differ};
 ghost use Rattle.apart.specs.Turn.{stand_of, moved_of, on_of, stopped_of, pair_of, beside_of, behind_end, met_of, turn_of};
 
 use crate::{Finding, Place, Side, Stand, Turn, Walk};
-use record::Step;
 use shaper::Event;
 
 // The next turn of a walk. Equal events are passed as many at once as both items have left; of events that differ, or that only one record has, a turn passes one.
@@ -27,29 +26,24 @@ pub fn stand(window: &[u8], place: Place, side: Side) -> Stand
     let last = side.last;
     let gone = place.gone;
     match record::event_at(window, place.at, side.mtu, true) {
-        Step::Stands {
-            kind,
-            number,
-            count,
-            next,
-        } => {
-            if gone < count {
+        Ok(Some(item)) => {
+            if gone < item.count {
                 return Stand::Events {
-                    kind: kind,
-                    number: number,
-                    count: count,
-                    next: next,
+                    kind: item.kind,
+                    number: item.number,
+                    count: item.count,
+                    next: item.next,
                 };
             }
             Stand::Unread
         }
-        Step::End => {
+        Ok(None) => {
             if last {
                 return Stand::Ended;
             }
             Stand::Unread
         }
-        Step::Faulty(_) => Stand::Unread,
+        Err(_) => Stand::Unread,
     }
 }
 
@@ -160,13 +154,13 @@ fn on(first: Place, second: Place, position: u64, line: Finding) -> Turn
     ensures { result ≡ on_of first second position line }
 {
     let walk = Walk {
-        first: first,
-        second: second,
-        position: position,
+        first,
+        second,
+        position,
     };
     Turn {
-        walk: walk,
-        line: line,
+        walk,
+        line,
         stops: false,
     }
 }
@@ -176,7 +170,7 @@ fn stopped(walk: Walk) -> Turn
     ensures { result ≡ stopped_of walk }
 {
     Turn {
-        walk: walk,
+        walk,
         line: Finding::Nothing,
         stops: true,
     }

@@ -1,106 +1,64 @@
 // `rpr heartbeat PATTERN REPEATS`: whether a pattern of events, a record file as bytes, in either form, is permitted throughout from loLimit where it is repeated so many times.
 // What is printed, where it is not refused, is what `rpr summarize` prints of the written-out record.
-use console::status::{TROUBLE, heartbeat_status};
-use console::{Host, files, tell, words};
-use summary::Answer;
+use crate::named::{NAME, bytes, name};
+use console::status::{Status, heartbeat_status};
+use console::tell::Said;
+use console::words::{Asked, Files};
+use console::{Host, tell, words};
+
+// The bytes to read a pattern into. One without a fault has at most 1,550, as an event takes at most 6. Behind 255 events the next item begins at byte 1,544 at the latest, and takes
+// at most 10: so the fault of a longer file lies within 1,554.
+const PATTERN: usize = 1554;
 
 // Reads the number of repeats first, and then the pattern.
-pub fn run(rt: &impl Host) -> u64 {
-    let asked = words::all(rt);
-    if asked.unknown | asked.bytes | asked.sheet | (asked.files != 2) {
-        tell::usage(rt, b"heartbeat PATTERN REPEATS");
-        return TROUBLE;
-    }
-    let mut word = [0u8; 4096];
-    let Ok(k) = words::word_into(rt, asked.second, &mut word) else {
-        return no_number(rt, &word);
+pub fn run(rt: &impl Host) -> Result<Status, Said> {
+    let Some(
+        Asked {
+            bytes: false,
+            sheet: false,
+            files: Files::Two(pattern, repeats),
+        },
+    ) = words::all(rt)
+    else {
+        return Err(tell::usage(rt, b"heartbeat PATTERN REPEATS"));
     };
-    if !is_number(&word[..k]) {
-        return no_number(rt, &word[..k]);
-    }
-    let repeats = number(&word[..k]);
-    let mut name = [0u8; 4096];
-    let n = match words::word_into(rt, asked.first, &mut name) {
-        Ok(n) => n,
-        Err(why) => {
-            tell::trouble(rt, &name, why);
-            return TROUBLE;
-        }
-    };
-    of_file(rt, &name[..n], repeats)
+    let mut word = [0u8; NAME];
+    let n = words::word_into(rt, repeats, &mut word).map_err(|_| no_number(rt, &word))?;
+    let repeats = number(&word[..n]).ok_or_else(|| no_number(rt, &word[..n]))?;
+    let mut room = [0u8; NAME];
+    of_file(rt, name(rt, pattern, &mut room)?, repeats)
 }
 
 // Says that a word is no number of repeats.
-fn no_number(rt: &impl Host, word: &[u8]) -> u64 {
-    tell::say_word(rt, word, b"not a number of repeats");
-    TROUBLE
+fn no_number(rt: &impl Host, word: &[u8]) -> Said {
+    tell::say_word(rt, word, b"not a number of repeats")
 }
 
-// Reads a file to its end, or to where the rest can change nothing, and tells what its pattern comes to. A pattern without a fault has at most 1,550 bytes, as an event takes at
-// most 6. Behind 255 events the next item begins at byte 1,544 at the latest, and takes at most 10: so the fault of a longer file lies within 1,554.
-fn of_file<R: Host>(rt: &R, name: &[u8], repeats: u64) -> u64 {
-    let Some(mut file) = files::opened(rt, name) else {
-        return TROUBLE;
-    };
-    let mut pattern = [0u8; 1554];
-    let got = files::fill(&mut file, &mut pattern, 0);
-    if let Some(why) = got.failed {
-        tell::trouble(rt, name, why);
-        return TROUBLE;
-    }
-    files::close(file);
-    let end = got.end;
-    finish(rt, name, heartbeat::heartbeats(&pattern[..end], repeats))
-}
-
-// Prints what the repeats come to, and says why where they are refused.
-fn finish(rt: &impl Host, name: &[u8], all: Answer) -> u64 {
+// Reads a file to its end, or to where the rest can change nothing, prints what the repeats of its pattern come to, and says why where they are refused.
+fn of_file(rt: &impl Host, name: &[u8], repeats: u64) -> Result<Status, Said> {
+    let mut pattern = [0u8; PATTERN];
+    let all = heartbeat::heartbeats(bytes(rt, name, &mut pattern)?, repeats);
     let written = report::print(rt, all);
-    match written {
-        Ok(()) => say_why(rt, name, all),
-        Err(why) => tell::unwritten(rt, why),
-    }
-    heartbeat_status(written.is_ok(), heartbeat::from_low(all))
-}
-
-// Says why a heartbeat is refused, where it is.
-fn say_why(rt: &impl Host, name: &[u8], all: Answer) {
-    match all {
-        Answer::Summed(_) => {}
-        Answer::Refused(number) => {
-            tell::refused_pattern(rt, name, number);
+    match (written, all) {
+        (Err(why), _) => {
+            tell::unwritten(rt, why);
         }
+        (Ok(()), Err(refusal)) => {
+            tell::refused_pattern(rt, name, refusal);
+        }
+        (Ok(()), Ok(_)) => {}
     }
+    Ok(heartbeat_status(written.is_ok(), heartbeat::from_low(all)))
 }
 
-// Whether a word is a number: digits, and at least one.
-fn is_number(word: &[u8]) -> bool {
-    let mut digits = true;
-    let mut i = 0;
-    while i < word.len() {
-        let c = word[i];
-        digits = digits & (b'0' <= c) & (c <= b'9');
-        i += 1;
+// The number that a word is: digits, and at least one. It is the largest of 64 bits where it is larger: then the repeats of any event are too many in either case, and those of none
+// are none.
+fn number(word: &[u8]) -> Option<u64> {
+    let mut number = None;
+    for c in word {
+        let digit = char::from(*c).to_digit(10)?;
+        let before = number.unwrap_or(0u64);
+        number = Some(before.saturating_mul(10).saturating_add(u64::from(digit)));
     }
-    digits & (0 < i)
-}
-
-// The number that digits say, or the largest of 64 bits where it is larger: then the repeats of any event are too many in either case, and those of none are none.
-fn number(digits: &[u8]) -> u64 {
-    let mut n: u64 = 0;
-    let mut i = 0;
-    while i < digits.len() {
-        n = with_digit(n, digits[i]);
-        i += 1;
-    }
-    n
-}
-
-// A number with a digit more behind it, or the largest of 64 bits where that is larger.
-fn with_digit(n: u64, c: u8) -> u64 {
-    let digit = decide::less(c as u64, b'0' as u64);
-    if (u64::MAX - digit) / 10 < n {
-        return u64::MAX;
-    }
-    10 * n + digit
+    number
 }

@@ -1,184 +1,119 @@
 // `rpr compare FIRST SECOND`: where two records part, two record files as bytes, in either form. Both are read twice, window by window: first to test them, then to list.
 // What is printed is what `apart` puts into its room; what a file comes to is what `feed` says of its bytes.
-use crate::listing::list;
-use crate::pairs;
-use crate::pairs::{Reach, Want, further, unread};
-use console::status::TROUBLE;
+use crate::listing::{Sums, list};
+use crate::named::{NAME, name};
+use crate::pairs::{Both, Lost, Reading, WINDOW};
+use console::status::Status;
+use console::tell::Said;
+use console::words::{Asked, Files};
 use console::{Host, files, tell, words};
+use feed::Feed;
 use std::io;
-use std::io::{Read, Seek, SeekFrom};
-use summary::Answer;
+use std::io::{Read, Seek};
+use summary::Summary;
 
 // The most windows of a record: 200 that are full, and a last one that is not.
 const WINDOWS: u32 = 201;
 
-pub fn run(rt: &impl Host) -> u64 {
-    let asked = words::all(rt);
-    if asked.unknown | asked.bytes | asked.sheet | (asked.files != 2) {
-        tell::usage(rt, b"compare FIRST SECOND");
-        return TROUBLE;
-    }
-    let mut first = [0u8; 4096];
-    let n = match words::word_into(rt, asked.first, &mut first) {
-        Ok(n) => n,
-        Err(why) => {
-            tell::trouble(rt, &first, why);
-            return TROUBLE;
-        }
+pub fn run(rt: &impl Host) -> Result<Status, Said> {
+    let Some(
+        Asked {
+            bytes: false,
+            sheet: false,
+            files: Files::Two(first, second),
+        },
+    ) = words::all(rt)
+    else {
+        return Err(tell::usage(rt, b"compare FIRST SECOND"));
     };
-    let mut second = [0u8; 4096];
-    let m = match words::word_into(rt, asked.second, &mut second) {
-        Ok(n) => n,
-        Err(why) => {
-            tell::trouble(rt, &second, why);
-            return TROUBLE;
-        }
-    };
-    compare(rt, &first[..n], &second[..m])
+    let mut one = [0u8; NAME];
+    let mut two = [0u8; NAME];
+    let first = name(rt, first, &mut one)?;
+    let second = name(rt, second, &mut two)?;
+    compare(rt, first, second)
 }
 
 // Opens both files, tests them, and lists where they part. Standard input has one place to read from, and so is one file.
-fn compare<R: Host>(rt: &R, first: &[u8], second: &[u8]) -> u64 {
-    if tell::is_input(first) & tell::is_input(second) {
-        tell::say(rt, first, b"cannot be two files");
-        return TROUBLE;
+fn compare<R: Host>(rt: &R, first: &[u8], second: &[u8]) -> Result<Status, Said> {
+    if tell::is_input(first) && tell::is_input(second) {
+        return Err(tell::say(rt, first, b"cannot be two files"));
     }
-    let Some(mut a) = opened(rt, first) else {
-        return TROUBLE;
-    };
-    let Some(mut b) = opened(rt, second) else {
-        return TROUBLE;
-    };
-    let reach = tested(&mut a, &mut b);
-    judged(rt, reach, &mut a, &mut b, first, second)
+    let a = Reading::new(first, opened(rt, first)?);
+    let b = Reading::new(second, opened(rt, second)?);
+    let mut both = Both::new(a, b);
+    let tested = test(&mut both);
+    let sums = sums(rt, &both, tested)?;
+    list(rt, &mut both, sums)
 }
 
-// Lists where they part, or says what is wrong with one of them: with the first before the second, as far as it was read.
-fn judged<F: Read + Seek>(
-    rt: &impl Host,
-    reach: Reach,
-    a: &mut F,
-    b: &mut F,
-    first: &[u8],
-    second: &[u8],
-) -> u64 {
-    let fed = reach.fed;
-    let x = reach.first;
-    let y = reach.second;
-    if let Some(why) = x.lost {
-        tell::trouble(rt, first, why);
-        return TROUBLE;
-    }
-    let one = fed.first;
-    let two = fed.second;
-    // Where the second cannot be read the first is read no further.
-    if !x.last & !one.ends() {
-        if let Some(why) = y.lost {
-            tell::trouble(rt, second, why);
-            return TROUBLE;
-        }
-    }
-    match one.finish() {
-        Answer::Summed(s) => {
-            if let Some(why) = y.lost {
-                tell::trouble(rt, second, why);
-                return TROUBLE;
-            }
-            match two.finish() {
-                Answer::Summed(t) => list(rt, a, b, first, second, s, t),
-                Answer::Refused(n) => refuse(rt, n, second),
-            }
-        }
-        Answer::Refused(n) => refuse(rt, n, first),
-    }
-}
-
-// Opens a file for two readings. Where that cannot be it says why, and answers none.
-fn opened<R: Host>(rt: &R, name: &[u8]) -> Option<R::File> {
-    if tell::is_input(name) {
-        return at_first(rt, name, rt.input_again());
-    }
-    let file = files::opened(rt, name)?;
-    at_first(rt, name, Ok(file))
-}
-
-// A file, if it stands at its beginning and can be taken back there.
-fn at_first<F: Seek + Drop>(rt: &impl Host, name: &[u8], opened: io::Result<F>) -> Option<F> {
-    let Ok(mut file) = opened else {
-        return once(rt, name);
+// Opens a file for two readings; or says why that cannot be.
+fn opened<R: Host>(rt: &R, name: &[u8]) -> Result<R::File, Said> {
+    let file = if tell::is_input(name) {
+        rt.input_again()
+    } else {
+        Ok(files::opened(rt, name)?)
     };
-    let Ok(at) = file.seek(SeekFrom::Current(0)) else {
-        return once(rt, name);
-    };
-    if at != 0 {
-        tell::say(
+    match placed(file) {
+        Ok((file, 0)) => Ok(file),
+        Ok(_) => Err(tell::say(
             rt,
             name,
             b"does not stand at its beginning, and is read twice",
-        );
-        return None;
+        )),
+        Err(_) => Err(tell::say(
+            rt,
+            name,
+            b"cannot be read twice, as a pipe's bytes are gone once read",
+        )),
     }
-    Some(file)
 }
 
-// Says that a file can be read but once.
-fn once<F>(rt: &impl Host, name: &[u8]) -> Option<F> {
-    tell::say(
-        rt,
-        name,
-        b"cannot be read twice, as a pipe's bytes are gone once read",
-    );
-    None
+// A file, and the place at which it stands.
+fn placed<F: Seek + Drop>(file: io::Result<F>) -> io::Result<(F, u64)> {
+    let mut file = file?;
+    let at = file.stream_position()?;
+    Ok((file, at))
 }
 
-// The first reading: both files, to their ends or to the first fault that counts.
-fn tested<F: Read>(a: &mut F, b: &mut F) -> Reach {
-    let mut w = [0u8; 30000];
-    let mut v = [0u8; 30000];
-    let mut reach = unread();
-    let mut k: u32 = 0;
-    while k < WINDOWS {
-        let one = tests_first(reach);
-        let two = tests_second(reach);
-        if !one.more & !two.more {
-            return reach;
+// The first reading: both files, to their ends or to the first fault that counts. No more of the first file is read behind its end or a fault, and of the second nor behind a fault of
+// the first; none of its bytes is kept.
+fn test<F: Read + Seek>(both: &mut Both<'_, F>) -> Result<(), Lost> {
+    for _ in 0..WINDOWS {
+        let faulty = both.fed.first.ends();
+        let first = !both.first.has_ended() && !faulty;
+        let second = !both.second.has_ended() && !faulty && !both.fed.second.ends();
+        if !first && !second {
+            break;
         }
-        reach = further(a, b, &mut w, &mut v, reach, one, two);
-        k += 1;
+        both.further(first.then_some(WINDOW), second.then_some(WINDOW))?;
     }
-    reach
+    Ok(())
 }
 
-// Whether more of the first file has to be read: not behind its end or a fault. None of its bytes is kept.
-fn tests_first(reach: Reach) -> Want {
-    let fed = reach.fed;
-    let x = reach.first;
-    let y = reach.second;
-    let one = fed.first;
-    Want {
-        more: !x.last & !x.lost.is_some() & !y.lost.is_some() & !one.ends(),
-        keep: pairs::WINDOW,
+// What both files come to; or says what is wrong with one of them: with the first before the second, as far as it was read.
+fn sums<F: Read + Seek>(
+    rt: &impl Host,
+    both: &Both<'_, F>,
+    tested: Result<(), Lost>,
+) -> Result<Sums, Said> {
+    let one = both.fed.first;
+    if let Err(lost) = tested {
+        // Where the second cannot be read the first is read no further.
+        if matches!(lost, Lost::Second(_)) && (both.first.has_ended() || one.ends()) {
+            sum(rt, one, both.first.name)?;
+        }
+        return Err(both.say(rt, lost));
     }
+    Ok(Sums {
+        first: sum(rt, one, both.first.name)?,
+        second: sum(rt, both.fed.second, both.second.name)?,
+    })
 }
 
-// Whether more of the second has to be: nor behind a fault of the first.
-fn tests_second(reach: Reach) -> Want {
-    let fed = reach.fed;
-    let x = reach.first;
-    let y = reach.second;
-    let one = fed.first;
-    let two = fed.second;
-    Want {
-        more: !y.last & !x.lost.is_some() & !y.lost.is_some() & !one.ends() & !two.ends(),
-        keep: pairs::WINDOW,
-    }
-}
-
-// Prints a refusal's number, and says which file is refused.
-fn refuse(rt: &impl Host, n: u64, name: &[u8]) -> u64 {
-    match report::print(rt, Answer::Refused(n)) {
-        Ok(()) => tell::refused_record(rt, name, n),
+// What a file comes to; or prints the number by which it is refused, and says which it is.
+fn sum(rt: &impl Host, fed: Feed, name: &[u8]) -> Result<Summary, Said> {
+    fed.finish().map_err(|refusal| match report::print(rt, Err(refusal)) {
+        Ok(()) => tell::refused_record(rt, name, refusal),
         Err(why) => tell::unwritten(rt, why),
-    }
-    TROUBLE
+    })
 }

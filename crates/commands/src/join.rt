@@ -1,132 +1,80 @@
 // `rpr join [--sheet] SUMMARY..`: summaries, each a file of 48 bytes, joined in the order given.
-use console::status::{TROUBLE, status_of};
+use crate::named::{NAME, bytes, name};
+use console::status::{Status, status_of};
+use console::words::{Files, Word, Words};
 use console::{Host, files, tell, words};
-use summary::Answer;
+use decide::Refusal;
+use summary::Summary;
 
-// The files so far: their summaries joined; whether there was any, and whether standard input was among them; and whether one could not be read or was refused, which is
-// then said, and the status by that.
+// The files so far: their summaries joined, where there was any, and whether standard input was among them.
 #[derive(Clone, Copy)]
 struct Joined {
-    sum: Answer,
-    any: bool,
+    sum: Option<Summary>,
     input: bool,
-    over: bool,
-    status: u64,
 }
 
-pub fn run(rt: &impl Host) -> u64 {
-    let asked = words::all(rt);
-    if asked.unknown | asked.bytes | (asked.files == 0) {
-        tell::usage(rt, b"join [--sheet] SUMMARY..");
-        return TROUBLE;
+// Reads the files in turn, to the last or to the first that cannot be read or is refused, and prints what they come to.
+pub fn run(rt: &impl Host) -> Result<Status, Status> {
+    match words::all(rt) {
+        Some(asked) if !asked.bytes && asked.files != Files::None => all_joined(rt, asked.sheet),
+        _ => Err(tell::usage(rt, b"join [--sheet] SUMMARY..").into()),
     }
-    let count = words::count(rt);
+}
+
+fn all_joined(rt: &impl Host, sheet: bool) -> Result<Status, Status> {
     let mut joined = Joined {
-        sum: Answer::Refused(2),
-        any: false,
+        sum: None,
         input: false,
-        over: false,
-        status: TROUBLE,
     };
-    let mut ended = false;
-    let mut i = 1;
-    while i < count {
-        let word = words::word_at(rt, i, ended);
-        ended = ended | words::ends(word);
-        if words::is_file(word) {
-            joined = with_word(rt, joined, i, asked.sheet);
-            if joined.over {
-                return joined.status;
-            }
+    for word in Words::new(rt) {
+        if let Word::File(at) = word {
+            joined = joined.and(rt, at, sheet)?;
         }
-        i += 1;
     }
-    let sum = joined.sum;
-    let written = files::print(rt, sum, asked.sheet);
+    let sum = joined.sum.ok_or(Refusal::NotWhole);
+    let written = files::print(rt, sum, sheet);
     if let Err(why) = written {
         tell::unwritten(rt, why);
     }
+    Ok(status_of(written.is_ok(), sum))
+}
+
+impl Joined {
+    // The files so far and the one that the word at a place names; or the status, where what is wrong with it is said.
+    fn and(self, rt: &impl Host, at: usize, sheet: bool) -> Result<Joined, Status> {
+        let mut room = [0u8; NAME];
+        let name = name(rt, at, &mut room)?;
+        let input = tell::is_input(name);
+        if self.input && input {
+            return Err(tell::say(rt, name, b"cannot be two files").into());
+        }
+        let mut room = [0u8; 49];
+        let sum = self.with(bytes(rt, name, &mut room)?);
+        match sum {
+            Ok(sum) => Ok(Joined {
+                sum: Some(sum),
+                input: self.input || input,
+            }),
+            Err(refusal) => Err(refuse(rt, name, refusal, sheet)),
+        }
+    }
+
+    // The summaries so far and the one that a file's bytes hold.
+    fn with(self, bytes: &[u8]) -> Result<Summary, Refusal> {
+        match self.sum {
+            Some(sum) => sheet::joined(Ok(sum), bytes),
+            None => sheet::opened(bytes),
+        }
+    }
+}
+
+// Prints the refusal of a file, and says which it is and why.
+fn refuse(rt: &impl Host, name: &[u8], refusal: Refusal, sheet: bool) -> Status {
+    let sum = Err(refusal);
+    let written = files::print(rt, sum, sheet);
+    match written {
+        Ok(()) => tell::refused_summary(rt, name, refusal),
+        Err(why) => tell::unwritten(rt, why),
+    };
     status_of(written.is_ok(), sum)
-}
-
-// The files so far and the one that a word names.
-fn with_word(rt: &impl Host, before: Joined, at: usize, sheet: bool) -> Joined {
-    let mut name = [0u8; 4096];
-    let n = match words::word_into(rt, at, &mut name) {
-        Ok(n) => n,
-        Err(why) => {
-            tell::trouble(rt, &name, why);
-            return troubled(before);
-        }
-    };
-    let input = tell::is_input(&name[..n]);
-    if before.input & input {
-        tell::say(rt, &name[..n], b"cannot be two files");
-        return troubled(before);
-    }
-    let mut joined = with_file(rt, before, &name[..n], sheet);
-    joined.input = before.input | input;
-    joined
-}
-
-// The files so far and one more.
-fn with_file<R: Host>(rt: &R, before: Joined, name: &[u8], sheet: bool) -> Joined {
-    let Some(mut file) = files::opened(rt, name) else {
-        return troubled(before);
-    };
-    let mut room = [0u8; 49];
-    let got = files::fill(&mut file, &mut room, 0);
-    let end = got.end;
-    if let Some(why) = got.failed {
-        tell::trouble(rt, name, why);
-        return troubled(before);
-    }
-    files::close(file);
-    let sum = with_bytes(before, &room[..end]);
-    checked(rt, before, sum, name, sheet)
-}
-
-// The summaries so far and the one that a file's bytes hold.
-fn with_bytes(before: Joined, bytes: &[u8]) -> Answer {
-    let sum = before.sum;
-    if before.any {
-        return sheet::joined(sum, bytes);
-    }
-    sheet::opened(bytes)
-}
-
-// The files with the last one: where it is refused that is printed, and said of it.
-fn checked(rt: &impl Host, before: Joined, sum: Answer, name: &[u8], sheet: bool) -> Joined {
-    match sum {
-        Answer::Summed(_) => Joined {
-            sum: sum,
-            any: true,
-            input: before.input,
-            over: false,
-            status: TROUBLE,
-        },
-        Answer::Refused(number) => {
-            let written = files::print(rt, sum, sheet);
-            match written {
-                Ok(()) => tell::refused_summary(rt, name, number),
-                Err(why) => tell::unwritten(rt, why),
-            }
-            let status = status_of(written.is_ok(), sum);
-            Joined {
-                sum: sum,
-                any: true,
-                input: before.input,
-                over: true,
-                status: status,
-            }
-        }
-    }
-}
-
-// The files so far, behind which there was trouble.
-fn troubled(before: Joined) -> Joined {
-    let mut joined = before;
-    joined.over = true;
-    joined.status = TROUBLE;
-    joined
 }

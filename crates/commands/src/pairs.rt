@@ -2,131 +2,136 @@
 ghost use Rattle.std.specs.Prelude.{◌≡◌, ◌≤◌, length};
 
 use console::files::fill;
+use console::tell::Said;
+use console::{Host, tell};
 use std::io;
-use std::io::Read;
+use std::io::{Read, Seek, SeekFrom};
 use window::Pair;
 
 // The bytes of a window.
 pub const WINDOW: usize = 30000;
 
-// What a window holds of a file: where its bytes end, and where those begin that were read last; whether no byte stands behind them, and why a read failed, if one did.
-#[derive(Clone, Copy)]
-pub struct Held {
-    pub from: usize,
-    pub end: usize,
-    pub last: bool,
-    pub lost: Option<io::Error>,
+// A file as far as it is read: its name, what its window holds, where those bytes end, and where those begin that were read last; and whether no byte stands behind them.
+#[derive(Drop)]
+pub struct Reading<'a, F> {
+    pub name: &'a [u8],
+    file: F,
+    window: [u8; WINDOW],
+    from: usize,
+    end: usize,
+    last: bool,
+    ghost in_window: { (from ≤ end) × (end ≤ 30000) },
 }
 
-// Both files as far as they are read: what their bytes come to so far, and their windows.
+impl<'a, F: Read + Seek> Reading<'a, F> {
+    // A file of which nothing is read.
+    pub fn new(name: &'a [u8], file: F) -> Reading<'a, F> {
+        Reading {
+            name,
+            file,
+            window: [0u8; WINDOW],
+            from: 0,
+            end: 0,
+            last: false,
+        }
+    }
+
+    // The bytes in the window.
+    pub fn bytes(&self) -> &[u8] {
+        &self.window[..self.end]
+    }
+
+    // Whether the file has ended.
+    pub fn has_ended(&self) -> bool {
+        self.last
+    }
+
+    // Those of the window's bytes that were read last.
+    fn fresh(&self) -> &[u8] {
+        &self.window[self.from..self.end]
+    }
+
+    // Takes the file back to its beginning.
+    fn rewind(&mut self) {
+        let _ = self.file.seek(SeekFrom::Start(0));
+        self.from = 0;
+        self.end = 0;
+        self.last = false;
+    }
+
+    // Refills the window behind the bytes from a place on, which move to its front, where more is wanted and the file has not ended.
+    fn refill(&mut self, keep: Option<usize>) -> io::Result<()> {
+        self.from = self.end;
+        match keep {
+            Some(at) if !self.last => {
+                let at = at.min(self.end);
+                self.window.copy_within(at..self.end, 0);
+                self.fill(self.end - at)
+            }
+            _ => Ok(()),
+        }
+    }
+
+    // Fills the window behind so many bytes.
+    fn fill(&mut self, kept: usize) -> io::Result<()>
+        requires { kept ≤ 30000 }
+    {
+        let (end, read) = match fill(&mut self.file, &mut self.window, kept) {
+            Ok(end) => (end, Ok(())),
+            Err(failed) => (failed.end, Err(failed.why)),
+        };
+        self.from = kept;
+        self.end = end;
+        self.last = end < WINDOW;
+        read
+    }
+}
+
+// Which of two files could not be read, and why.
 #[derive(Clone, Copy)]
-pub struct Reach {
+pub enum Lost {
+    First(io::Error),
+    Second(io::Error),
+}
+
+// Both files as far as they are read, and what their bytes come to so far.
+#[derive(Drop)]
+pub struct Both<'a, F> {
+    pub first: Reading<'a, F>,
+    pub second: Reading<'a, F>,
     pub fed: Pair,
-    pub first: Held,
-    pub second: Held,
 }
 
-// Whether more of a file is wanted, and from where on its window's bytes are kept.
-#[derive(Clone, Copy)]
-pub struct Want {
-    pub more: bool,
-    pub keep: usize,
-}
+impl<'a, F: Read + Seek> Both<'a, F> {
+    // Two files of which nothing is read.
+    pub fn new(first: Reading<'a, F>, second: Reading<'a, F>) -> Both<'a, F> {
+        Both {
+            first,
+            second,
+            fed: window::both(),
+        }
+    }
 
-// Two files of which nothing is read.
-pub fn unread() -> Reach
-    ensures { (result.first.end ≤ 30000) × (result.second.end ≤ 30000) }
-{
-    let none = Held {
-        from: 0,
-        end: 0,
-        last: false,
-        lost: None,
-    };
-    let fed = window::both();
-    Reach {
-        fed: fed,
-        first: none,
-        second: none,
+    // Takes both files back to their beginnings.
+    pub fn rewind(&mut self) {
+        self.first.rewind();
+        self.second.rewind();
+        self.fed = window::both();
     }
-}
 
-// Both files with the next bytes of those of which more is wanted. Where the first cannot be read the second is left, so that the reason stands.
-pub fn further<F: Read>(
-    a: &mut F,
-    b: &mut F,
-    first: &mut [u8],
-    second: &mut [u8],
-    before: Reach,
-    one: Want,
-    two: Want,
-) -> Reach
-    requires { (length first.old ≡ 30000) × (length second.old ≡ 30000) × (before.first.end ≤ 30000) × (before.second.end ≤ 30000) }
-    ensures { (result.first.end ≤ 30000) × (result.second.end ≤ 30000) }
-{
-    let fed = before.fed;
-    let x = before.first;
-    let y = before.second;
-    let x = next(a, first, x, one);
-    if x.lost.is_some() {
-        return Reach {
-            fed: fed,
-            first: x,
-            second: y,
-        };
+    // Reads on in each file of which more is wanted, and keeps its bytes from a place on. Where the first cannot be read the second is left.
+    pub fn further(&mut self, one: Option<usize>, two: Option<usize>) -> Result<(), Lost> {
+        self.first.refill(one).map_err(Lost::First)?;
+        let second = self.second.refill(two);
+        self.fed = window::fed(self.fed, self.first.fresh(), self.second.fresh());
+        second.map_err(Lost::Second)
     }
-    let y = next(b, second, y, two);
-    let i = x.from;
-    let n = x.end;
-    let j = y.from;
-    let m = y.end;
-    let fed = window::fed(fed, &first[i..n], &second[j..m]);
-    Reach {
-        fed: fed,
-        first: x,
-        second: y,
-    }
-}
 
-// What a window holds once it is refilled, where more is wanted and the file has not ended.
-fn next<F: Read>(file: &mut F, window: &mut [u8], held: Held, want: Want) -> Held
-    requires { (length window.old ≡ 30000) × (held.end ≤ 30000) }
-    ensures { (result.from ≤ result.end) × (result.end ≤ 30000) }
-{
-    let end = held.end;
-    if held.last | !want.more {
-        return Held {
-            from: end,
-            end: end,
-            last: held.last,
-            lost: None,
-        };
+    // Says which of them could not be read, and why.
+    pub fn say(&self, rt: &impl Host, lost: Lost) -> Said {
+        match lost {
+            Lost::First(why) => tell::trouble(rt, self.first.name, why),
+            Lost::Second(why) => tell::trouble(rt, self.second.name, why),
+        }
     }
-    let kept = keep(window, want.keep, end);
-    let got = fill(file, window, kept);
-    let end = got.end;
-    Held {
-        from: decide::lesser(kept as u64, end as u64) as usize,
-        end: end,
-        last: end < WINDOW,
-        lost: got.failed,
-    }
-}
-
-// Moves the bytes from a place on to a window's front, and answers how many they are.
-fn keep(window: &mut [u8], at: usize, end: usize) -> usize
-    requires { end ≤ length window.old }
-    ensures { result ≤ end }
-{
-    if end <= at {
-        return 0;
-    }
-    let n = end - at;
-    let mut k = 0;
-    while k < n {
-        let byte = window[at + k];
-        window[k] = byte;
-        k += 1;
-    }
-    n
 }

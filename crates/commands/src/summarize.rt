@@ -1,139 +1,124 @@
 // `rpr summarize [--bytes] [--sheet] [FILE]`: the summary of a shaper record, given as hex text or as bytes.
-use console::status::{TROUBLE, status_of};
-use console::words::Asked;
+use crate::named::{NAME, name};
+use console::status::{Status, status_of};
+use console::tell::Said;
+use console::words::{Asked, Files};
 use console::{Host, files, tell, words};
+use decide::Refusal;
+use feed::Feed;
 use hex_text::{Hex, Place};
-use std::io;
 use std::io::Read;
-use summary::Answer;
+use summary::Summary;
 
-// What one read brought: the record so far, whether there may be more, and why the read failed, if it did. A record that is given as bytes is a text's bytes alone.
+// A record as far as it is read: as bytes, or as the text that gives them.
 #[derive(Clone, Copy)]
-struct Turn {
-    text: Hex,
-    more: bool,
-    failed: Option<io::Error>,
+enum Record {
+    Bytes(Feed),
+    Text(Hex),
 }
 
-pub fn run(rt: &impl Host) -> u64 {
-    let asked = words::all(rt);
-    if asked.unknown | (1 < asked.files) {
-        tell::usage(rt, b"summarize [--bytes] [--sheet] [FILE]");
-        return TROUBLE;
-    }
-    if asked.files == 0 {
-        return of_file(rt, b"-", asked);
-    }
-    let mut name = [0u8; 4096];
-    let n = match words::word_into(rt, asked.first, &mut name) {
-        Ok(n) => n,
-        Err(why) => {
-            tell::trouble(rt, &name, why);
-            return TROUBLE;
+impl Record {
+    // The record with a chunk more.
+    fn and(self, chunk: &[u8]) -> Record {
+        match self {
+            Record::Bytes(feed) => Record::Bytes(feed.feed(chunk)),
+            Record::Text(text) => Record::Text(text.text(chunk)),
         }
-    };
-    of_file(rt, &name[..n], asked)
+    }
+
+    // Whether the rest of the input can change nothing: behind a fault of bytes, or where a text can only be refused with 2.
+    fn ends(self) -> bool {
+        match self {
+            Record::Bytes(feed) => feed.ends(),
+            Record::Text(text) => text.ends(),
+        }
+    }
+
+    // What the record comes to.
+    fn finish(self) -> Result<Summary, Refusal> {
+        match self {
+            Record::Bytes(feed) => feed.finish(),
+            Record::Text(text) => text.finish(),
+        }
+    }
+
+    // Whether it is refused as it is no hex: by a character, or by an odd digit at the end of what was read whole.
+    fn is_other(self, whole: bool) -> bool {
+        match self {
+            Record::Bytes(_) => false,
+            Record::Text(text) => match text.place {
+                Place::Between => false,
+                Place::Behind(_) => whole,
+                Place::Lost => true,
+            },
+        }
+    }
+}
+
+pub fn run(rt: &impl Host) -> Result<Status, Said> {
+    let mut room = [0u8; NAME];
+    match words::all(rt) {
+        Some(asked) => match asked.files {
+            Files::None => of_file(rt, b"-", asked),
+            Files::One(at) => of_file(rt, name(rt, at, &mut room)?, asked),
+            _ => Err(usage(rt)),
+        },
+        None => Err(usage(rt)),
+    }
+}
+
+fn usage(rt: &impl Host) -> Said {
+    tell::usage(rt, b"summarize [--bytes] [--sheet] [FILE]")
 }
 
 // Reads a file to its end, or to where the rest can change nothing, and tells what it comes to. A read that fails is no end of the input: then nothing is summarized. A proved
-// loop has to end, and nothing says that an input does: the turns are counted down, from a number that no run uses up.
-fn of_file<R: Host>(rt: &R, name: &[u8], asked: Asked) -> u64 {
-    let Some(mut file) = files::opened(rt, name) else {
-        return TROUBLE;
+// loop has to end, and nothing says that an input does: no run uses up so many turns.
+fn of_file<R: Host>(rt: &R, name: &[u8], asked: Asked) -> Result<Status, Said> {
+    let mut file = files::opened(rt, name)?;
+    let mut record = if asked.bytes {
+        Record::Bytes(Feed::new())
+    } else {
+        Record::Text(Hex::new())
     };
-    let mut text = Hex::new();
-    let mut turns = u64::MAX;
-    while 0 < turns {
-        let next = read_more(&mut file, text, asked.bytes);
-        text = next.text;
-        if let Some(why) = next.failed {
-            tell::trouble(rt, name, why);
-            return TROUBLE;
-        }
-        let more = next.more;
-        if !more | ends(text, asked.bytes) {
-            return finish(rt, name, text, asked, !more);
-        }
-        turns -= 1;
-    }
-    TROUBLE
-}
-
-// The record after one read.
-fn read_more<F: Read>(file: &mut F, text: Hex, bytes: bool) -> Turn {
     let mut chunk = [0u8; 65536];
-    match file.read(&mut chunk) {
-        Ok(n) => Turn {
-            text: with(text, &chunk[..n], bytes),
-            more: 0 < n,
-            failed: None,
-        },
-        Err(why) => Turn {
-            text: text,
-            more: false,
-            failed: Some(why),
-        },
+    for _ in 0..u64::MAX {
+        let n = file
+            .read(&mut chunk)
+            .map_err(|why| tell::trouble(rt, name, why))?;
+        record = record.and(&chunk[..n]);
+        if n == 0 || record.ends() {
+            return Ok(finish(rt, name, record, asked.sheet, n == 0));
+        }
     }
-}
-
-// The record with a chunk more, of bytes or of text.
-fn with(text: Hex, chunk: &[u8], bytes: bool) -> Hex {
-    if !bytes {
-        return text.text(chunk);
-    }
-    let feed = text.feed;
-    let next = feed.feed(chunk);
-    Hex {
-        feed: next,
-        place: Place::Between,
-    }
-}
-
-// Whether the rest of the input can change nothing: behind a fault of bytes, or where a text can only be refused with 2.
-fn ends(text: Hex, bytes: bool) -> bool {
-    if !bytes {
-        return text.ends();
-    }
-    let feed = text.feed;
-    feed.ends()
+    Ok(Status::Trouble)
 }
 
 // Prints what the record comes to, and says why where it is refused. `whole` tells whether the input was read to its end.
-fn finish(rt: &impl Host, name: &[u8], text: Hex, asked: Asked, whole: bool) -> u64 {
-    let place = text.place;
-    let answer = text.finish();
-    let written = files::print(rt, answer, asked.sheet);
-    match written {
-        Ok(()) => say_why(rt, name, answer, is_other(place, whole)),
-        Err(why) => tell::unwritten(rt, why),
+fn finish(rt: &impl Host, name: &[u8], record: Record, sheet: bool, whole: bool) -> Status {
+    let answer = record.finish();
+    let written = files::print(rt, answer, sheet);
+    match (written, answer) {
+        (Err(why), _) => {
+            tell::unwritten(rt, why);
+        }
+        (Ok(()), Err(refusal)) => {
+            say_why(rt, name, refusal, record.is_other(whole));
+        }
+        (Ok(()), Ok(_)) => {}
     }
     status_of(written.is_ok(), answer)
 }
 
-// Says why a record is refused, where it is: as other text than hex, or by its number.
-fn say_why(rt: &impl Host, name: &[u8], answer: Answer, other: bool) {
-    match answer {
-        Answer::Summed(_) => {}
-        Answer::Refused(number) => {
-            if other {
-                tell::refused(
-                    rt,
-                    name,
-                    number,
-                    b"hex is expected, and this is other text; --bytes reads bytes",
-                );
-            } else {
-                tell::refused_record(rt, name, number);
-            }
-        }
-    }
-}
-
-// Whether a text is refused as it is no hex: by a character, or by an odd digit at its end.
-fn is_other(place: Place, whole: bool) -> bool {
-    match place {
-        Place::Between => false,
-        Place::Behind(_) => whole,
-        Place::Lost => true,
+// Says why a record is refused: as other text than hex, or what the refusal means.
+fn say_why(rt: &impl Host, name: &[u8], refusal: Refusal, other: bool) -> Said {
+    if other {
+        tell::refused(
+            rt,
+            name,
+            refusal,
+            b"hex is expected, and this is other text; --bytes reads bytes",
+        )
+    } else {
+        tell::refused_record(rt, name, refusal)
     }
 }

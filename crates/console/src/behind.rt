@@ -1,5 +1,5 @@
 // A host whose words are those behind another's first: what a command reaches that is called by the first word of a program.
-ghost use Rattle.std.specs.Prelude.{◌≤◌, length, IfOk};
+ghost use Rattle.std.specs.Prelude.{◌≡◌, ◌≤◌, length, IfOk};
 ghost use Rattle.std.specs.Io.{WritesAtMost};
 
 use crate::host::Host;
@@ -15,8 +15,10 @@ pub struct Behind<'a, R> {
 
 impl<'a, R> Behind<'a, R> {
     // The host behind the first word of another.
-    pub fn new(host: &'a R) -> Behind<'a, R> {
-        Behind { host: host }
+    pub fn new(host: &'a R) -> Behind<'a, R>
+        ensures { result.host.now ≡ host.now }
+    {
+        Behind { host }
     }
 }
 
@@ -60,10 +62,8 @@ impl<R: Print> Print for Behind<'_, R> {
 
 impl<R: Env> Env for Behind<'_, R> {
     fn arg(&self, i: usize, buf: &mut [u8]) -> Result<usize, FillError> {
-        if i == usize::MAX {
-            return Err(FillError::NotPresent);
-        }
-        self.host.arg(i + 1, buf)
+        let behind = i.checked_add(1).ok_or(FillError::NotPresent)?;
+        self.host.arg(behind, buf)
     }
 
     fn var(&self, name: &str, buf: &mut [u8]) -> Result<usize, FillError> {

@@ -37,8 +37,7 @@ impl Read for Source {
             Source::Named(file) => file.read(buf),
             Source::Input(stdin) => stdin.read(buf),
             Source::Again(stdin, file) => {
-                let mut nothing = [0u8; 0];
-                stdin.read(&mut nothing)?;
+                stdin.read(&mut [])?;
                 file.read(buf)
             }
         }

@@ -1,27 +1,21 @@
 // Where a file stands, by what the system tells of it: `pos:`, blanks, and the place in decimal, on its first line.
+ghost use Rattle.std.specs.Prelude.{◌≡◌};
+ghost use Rattle.console.specs.Place.{with_digit, place_of};
 
 // The place that is told: the first number of a text, or 0 where it has none.
-pub fn place_of(text: &[u8]) -> u64 {
-    let mut place: u64 = 0;
-    let mut begun = false;
-    for c in text {
-        let digit = is_digit(*c);
-        if begun & !digit {
-            return place;
-        }
-        if digit {
-            place = place.saturating_mul(10).saturating_add(worth(*c));
-            begun = true;
-        }
-    }
-    place
+pub fn place_of(text: &[u8]) -> u64
+    ensures { result ≡ place_of text.now }
+{
+    text.iter()
+        .skip_while(|c| !c.is_ascii_digit())
+        .take_while(|c| c.is_ascii_digit())
+        .fold(0, |place, c| with_digit(place, *c))
 }
 
-fn is_digit(c: u8) -> bool {
-    (b'0' <= c) & (c <= b'9')
-}
-
-// What a digit is worth.
-fn worth(c: u8) -> u64 {
-    decide::less(c as u64, b'0' as u64)
+// A number with a digit more behind it, or the largest of 64 bits where that is larger.
+fn with_digit(number: u64, digit: u8) -> u64
+    ensures { result ≡ with_digit number digit }
+{
+    let worth = digit.saturating_sub(b'0');
+    number.saturating_mul(10).saturating_add(u64::from(worth))
 }

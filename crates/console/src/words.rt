@@ -1,103 +1,122 @@
 // The words behind a command's name: its options, wherever they stand, and the files.
-ghost use Rattle.std.specs.Prelude.{◌≤◌, length, IfOk};
+ghost use Rattle.std.specs.Prelude.{◌≡◌, ◌-◌, ◌≤◌, length, IfOk, false};
+ghost use Rattle.std.specs.Iterator.{at_most};
 
 use std::env::FillError;
 use std::io;
 use std::rt::Env;
 
-// What a word is.
-#[derive(Clone, Copy)]
+// What a word is. A file has its place.
+#[derive(Clone, Copy, Debug, PartialEq, Eq)]
 pub enum Word {
     Bytes,
     Sheet,
+    Help,
     End,
-    File,
+    File(usize),
     Unknown,
 }
 
-// What the words ask for: options, one that no command has, how many files, and where the first two stand.
-#[derive(Clone, Copy)]
+// The words behind the command's own name, in turn. Behind `--` every word is a file.
+#[derive(Drop)]
+pub struct Words<'a, R> {
+    rt: &'a R,
+    at: usize,
+    ended: bool,
+}
+
+impl<'a, R: Env> Words<'a, R> {
+    pub fn new(rt: &'a R) -> Words<'a, R>
+        ensures begins { result.at ≡ 1 }
+        ensures takes_options { result.ended ≡ false }
+    {
+        Words {
+            rt,
+            at: 1,
+            ended: false,
+        }
+    }
+}
+
+impl<R: Env> Iterator for Words<'_, R> {
+    type Item = Word;
+
+    ghost remaining = { λ words. at_most (18446744073709551615 - words.at) };
+
+    fn next(&mut self) -> Option<Word> {
+        let at = self.at;
+        if at == usize::MAX {
+            return None;
+        }
+        let mut text = [0u8; 4096];
+        let word = match self.rt.arg(at, &mut text) {
+            Ok(n) if !self.ended => word_of(&text[..n], at),
+            Ok(_) | Err(FillError::TooLong) => Word::File(at),
+            Err(FillError::NotPresent) => return None,
+        };
+        self.at = at + 1;
+        self.ended |= matches!(word, Word::End);
+        Some(word)
+    }
+}
+
+// What a word is, by its text. `-` alone is a file: standard input.
+fn word_of(text: &[u8], at: usize) -> Word {
+    match text {
+        b"--" => Word::End,
+        b"--bytes" => Word::Bytes,
+        b"--sheet" => Word::Sheet,
+        b"--help" => Word::Help,
+        [b'-', _, ..] => Word::Unknown,
+        _ => Word::File(at),
+    }
+}
+
+// Which files the words name, by their places. The command that takes any number of them reads the words itself.
+#[derive(Clone, Copy, Debug, PartialEq, Eq)]
+pub enum Files {
+    None,
+    One(usize),
+    Two(usize, usize),
+    More,
+}
+
+impl Files {
+    // The files with one more, at this place.
+    fn and(self, at: usize) -> Files {
+        match self {
+            Files::None => Files::One(at),
+            Files::One(first) => Files::Two(first, at),
+            Files::Two(_, _) | Files::More => Files::More,
+        }
+    }
+}
+
+// What the words ask for.
+#[derive(Clone, Copy, Debug, PartialEq, Eq)]
 pub struct Asked {
     pub bytes: bool,
     pub sheet: bool,
-    pub unknown: bool,
-    pub files: usize,
-    pub first: usize,
-    pub second: usize,
+    pub files: Files,
 }
 
-// All words of the command.
-pub fn all(rt: &impl Env) -> Asked {
-    let count = count(rt);
+// What all words of the command ask for, or none where one of them is an option that no command has.
+pub fn all(rt: &impl Env) -> Option<Asked> {
     let mut asked = Asked {
         bytes: false,
         sheet: false,
-        unknown: false,
-        files: 0,
-        first: 0,
-        second: 0,
+        files: Files::None,
     };
-    let mut ended = false;
-    let mut i = 1;
-    while i < count {
-        let word = word_at(rt, i, ended);
-        ended = ended | ends(word);
-        asked = with(asked, word, i);
-        i += 1;
-    }
-    asked
-}
-
-// What the words ask for with one more, which stands at this place.
-fn with(before: Asked, word: Word, at: usize) -> Asked {
-    let mut asked = before;
-    match word {
-        Word::Bytes => {
-            asked.bytes = true;
-        }
-        Word::Sheet => {
-            asked.sheet = true;
-        }
-        Word::End => {}
-        Word::File => {
-            asked = with_file(before, at);
-        }
-        Word::Unknown => {
-            asked.unknown = true;
+    for word in Words::new(rt) {
+        match word {
+            Word::Bytes => asked.bytes = true,
+            Word::Sheet => asked.sheet = true,
+            Word::End => {}
+            Word::File(at) => asked.files = asked.files.and(at),
+            Word::Help | Word::Unknown => return None,
         }
     }
-    asked
-}
-
-// The same with one file more. Behind the second the count stops at three: no command asks for just so many, and the one that takes any number reads the words itself.
-fn with_file(before: Asked, at: usize) -> Asked {
-    let mut asked = before;
-    if before.files == 0 {
-        asked.files = 1;
-        asked.first = at;
-        return asked;
-    }
-    if before.files == 1 {
-        asked.files = 2;
-        asked.second = at;
-        return asked;
-    }
-    asked.files = 3;
-    asked
-}
-
-// What the word at a place is; behind `--` every word is a file.
-pub fn word_at(rt: &impl Env, i: usize, ended: bool) -> Word {
-    let mut text = [0u8; 4096];
-    match rt.arg(i, &mut text) {
-        Ok(n) => {
-            if ended {
-                return Word::File;
-            }
-            word_of(&text[..n])
-        }
-        Err(_) => Word::File,
-    }
+    Some(asked)
 }
 
 // What the system says of a name that is too long, and of a word that is not there.
@@ -106,76 +125,13 @@ const TOO_LONG: i32 = 36;
 const NOT_THERE: i32 = 22;
 
 // Puts the word at a place at the front of a room, and answers its length, or why it is not there whole.
-pub fn word_into(rt: &impl Env, i: usize, room: &mut [u8]) -> io::Result<usize>
+pub fn word_into(rt: &impl Env, at: usize, room: &mut [u8]) -> io::Result<usize>
     ensures { IfOk result (λ n. n ≤ length room.new) }
 {
-    match rt.arg(i, room) {
-        Ok(n) => Ok(n),
-        Err(FillError::TooLong) => Err(io::Error::from_raw_os_error(TOO_LONG)),
-        Err(FillError::NotPresent) => Err(io::Error::from_raw_os_error(NOT_THERE)),
-    }
-}
-
-// How many words there are, the command's own name among them.
-pub fn count(rt: &impl Env) -> usize {
-    let mut i = 0;
-    while i < usize::MAX {
-        if !is_there(rt, i) {
-            return i;
-        }
-        i += 1;
-    }
-    i
-}
-
-// Whether a word stands at a place.
-fn is_there(rt: &impl Env, i: usize) -> bool {
-    let mut front = [0u8; 1];
-    match rt.arg(i, &mut front) {
-        Ok(_) => true,
-        Err(FillError::TooLong) => true,
-        Err(FillError::NotPresent) => false,
-    }
-}
-
-// Whether the words behind this one are files.
-pub fn ends(word: Word) -> bool {
-    match word {
-        Word::Bytes => false,
-        Word::Sheet => false,
-        Word::End => true,
-        Word::File => false,
-        Word::Unknown => false,
-    }
-}
-
-// Whether a word is a file.
-pub fn is_file(word: Word) -> bool {
-    match word {
-        Word::Bytes => false,
-        Word::Sheet => false,
-        Word::End => false,
-        Word::File => true,
-        Word::Unknown => false,
-    }
-}
-
-// What a word is, by its text. `-` alone is a file: standard input.
-fn word_of(text: &[u8]) -> Word {
-    if text.len() < 2 {
-        return Word::File;
-    }
-    if text[0] != b'-' {
-        return Word::File;
-    }
-    if window::alike(text, b"--") {
-        return Word::End;
-    }
-    if window::alike(text, b"--bytes") {
-        return Word::Bytes;
-    }
-    if window::alike(text, b"--sheet") {
-        return Word::Sheet;
-    }
-    Word::Unknown
+    rt.arg(at, room).map_err(|why| {
+        io::Error::from_raw_os_error(match why {
+            FillError::TooLong => TOO_LONG,
+            FillError::NotPresent => NOT_THERE,
+        })
+    })
 }

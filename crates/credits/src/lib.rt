@@ -79,8 +79,7 @@ impl Credits {
             limits: bucket.limits(settings.mtu),
             credit: self.credit(which),
         };
-        let charged = before.charge(size);
-        let after = charged.shaper;
+        let after = before.charge(size).unwrap();
         self.with_credit(which, after.credit)
     }
 
@@ -101,32 +100,16 @@ impl Credits {
     fn with_credit(self, which: Which, credit: u32) -> Credits
         ensures { result ≡ with_credit self which credit }
     {
-        let mut next = self;
         match which {
-            Which::M => {
-                next.m = credit;
-                next
-            }
-            Which::A => {
-                next.a = credit;
-                next
-            }
-            Which::B => {
-                next.b = credit;
-                next
-            }
-            Which::C => {
-                next.c = credit;
-                next
-            }
-            Which::D => {
-                next.d = credit;
-                next
-            }
+            Which::M => Credits { m: credit, ..self },
+            Which::A => Credits { a: credit, ..self },
+            Which::B => Credits { b: credit, ..self },
+            Which::C => Credits { c: credit, ..self },
+            Which::D => Credits { d: credit, ..self },
         }
     }
 
-    // How a client frame of this class goes in.
+    // How a client frame of this class goes in. The class is a number and no enum: `way_of` says of every number how it goes, and a host may give any.
     pub fn way(self, settings: Settings, class: u32) -> Way
         ensures { result ≡ way_of settings self class }
     {
@@ -154,7 +137,7 @@ impl Credits {
     fn short_of_two(self, settings: Settings, one: Which, other: Which) -> u64
         ensures { result ≡ short_all settings self (one ∷ other ∷ []) }
     {
-        decide::larger(self.short(settings, one), self.short(settings, other))
+        self.short(settings, one).max(self.short(settings, other))
     }
 
     // The credits after a frame of this size is charged to every shaper that its way needs, and that permits it.
@@ -198,8 +181,7 @@ impl Way {
         ensures { result ≡ mark_of self }
     {
         match self {
-            Way::ClassA => 0,
-            Way::ClassB => 0,
+            Way::ClassA | Way::ClassB => 0,
             Way::Excess => MARKED,
         }
     }

@@ -1,8 +1,9 @@
 pub mod Cases
 pub mod Tests
 pub mod Chain
-pub mod Refusal
+pub mod Given
 pub mod Order
 pub mod Refused
 pub mod Early
 pub mod Hops
+pub mod Number

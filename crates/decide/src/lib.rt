@@ -6,25 +6,29 @@ ghost use Rattle.std.specs.Prelude.{◌≡◌, ◌-◌, ◌<◌, min, max, ltb};
 ghost use Rattle.decide.specs.Test.{test};
 ghost use Rattle.decide.specs.Hops.{in_ring};
 
+mod refusal;
+
+pub use refusal::Refusal;
+
 // The smaller of two numbers.
 pub fn lesser(x: u64, y: u64) -> u64
     ensures { result ≡ min x y }
 {
-    if x < y { x } else { y }
+    x.min(y)
 }
 
 // The larger of two numbers.
 pub fn larger(x: u64, y: u64) -> u64
     ensures { result ≡ max x y }
 {
-    if x < y { y } else { x }
+    x.max(y)
 }
 
 // What is left of x when y is taken off, and 0 where y is larger.
 pub fn less(x: u64, y: u64) -> u64
     ensures { result ≡ x - y }
 {
-    if x < y { 0 } else { x - y }
+    x.saturating_sub(y)
 }
 
 // Whether a is below b, by a comparison of signed numbers: for several pairs of 32 bits side by side every processor has that one.

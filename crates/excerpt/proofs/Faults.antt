@@ -4,20 +4,24 @@ use Prim.Native.Nat.{ℕ, zero, suc, ◌+◌, ◌≤◌, ◌<◌}
 use mathlib.Core.Bool.{Bool, true, false, cond, ◌&&◌}
 use mathlib.Core.Logic.{◌⊎◌, inl, inr}
 use mathlib.Core.List.{List, ◌∷◌}
-use mathlib.Core.Path.{◌≡◌, refl, sym, ◌∙◌}
+use mathlib.Core.Path.{◌≡◌, refl, sym, ap, ◌∙◌}
 use native.Mathlib.Omega.{arith}
 use native.Mathlib.Nat.{add-zero}
 use borrow.Author.Tests.{le-leb, lt-leb, le-ltb, lt-ltb, eq-eqb, ne_eqb}
 use lib.Dec.{eqb}
 use lib.ListN.{length, drop}
+use Rattle.std.specs.Prelude.{Some, Ok, Err}
+use Rattle.decide.specs.declared.refusal.Refusal.{Refusal}
+use Rattle.decide.specs.Number.{number_in, refusal_of}
+use Rattle.decide.proofs.Number.{number_told}
 use Rattle.decide.specs.Test.{◌≡?◌, split}
 use Rattle.decide.specs.Refusal.{Fault, fault, First, nothing, row, first, first_of}
 use Rattle.decide.proofs.Cases.{by_cases, le_or, true_or_false}
 use Rattle.wire.specs.Wire.{le}
 use Rattle.wire.proofs.Numbers.{le_drop}
-use Rattle.record.specs.declared.Step.TheVariants.{Stands, Faulty}
 use Rattle.record.specs.Read.{length_at, field_fault, is_run, run_field_fault, item_faults, item_kind, item_number, item_count}
-use Rattle.record.specs.Step.{item_at}
+use Rattle.record.specs.declared.Placed.{Placed}
+use Rattle.record.specs.Step.{item_at, placed}
 use Rattle.record.proofs.Fields.{fields_length, fields_below, fields_above, fields_small, fields_large, fields_tick, fields_send, run_length, run_below, run_above, run_few, run_good}
 use Rattle.record.proofs.Rows.{Told, told_event, event_fields_at, event_cut, run_fields_at, run_cut, free_stands, item_faulty}
 use Rattle.record.proofs.Steps.{Stood, step_stands, step_faulty}
@@ -73,24 +77,26 @@ module _ (mtu : ℕ) (xs : List ℕ) (at : ℕ) where
   length_there : length_at (drop at xs) ≡ le 2 xs at
   length_there = simp (le_drop, add-zero)
 
-  pub standing : (k v c next : ℕ) → item_at true mtu xs at ≡ Stands k v c next → Standing mtu xs at k v c next
+  pub standing : (k v c next : ℕ) → item_at true mtu xs at ≡ Ok (Some (placed k v c next)) → Standing mtu xs at k v c next
   standing k v c next e =
       let s = step_stands true mtu xs at k v c next e in
       let f = free_stands true mtu xs at (omega (arith, s.further, s.fits)) s.free in
-      let same : Stands k v c next ≡ Stands (item_kind (drop at xs)) (item_number (drop at xs)) (item_count (drop at xs)) (at + le 2 xs at) = sym e ∙ f in
+      let same : placed k v c next ≡ placed (item_kind (drop at xs)) (item_number (drop at xs)) (item_count (drop at xs)) (at + le 2 xs at) = cc (sym e ∙ f) in
       record {
         stood = s;
-        told = record { kind = cc; number = cc; count = cc };
-        behind = rw length_there (cc);
+        told = record { kind = sym (ap (λ (i : Placed). i.kind) same); number = sym (ap (λ (i : Placed). i.number) same); count = sym (ap (λ (i : Placed). i.count) same) };
+        behind = rw length_there (sym (ap (λ (i : Placed). i.next) same));
       }
 
-  -- a fault there is the item's own
-  pub faulty_there : (n : ℕ) → item_at true mtu xs at ≡ Faulty n → first_of (item_faults true mtu (drop at xs)) ≡ n
-  faulty_there n e = by (first_of (item_faults true mtu (drop at xs))) refl
+  -- a fault there is the item's own, by its number
+  pub faulty_there : (r : Refusal) → item_at true mtu xs at ≡ Err r → first_of (item_faults true mtu (drop at xs)) ≡ number_in r
+  faulty_there r e = by (first_of (item_faults true mtu (drop at xs))) refl
     where
-      by : (m : ℕ) → first_of (item_faults true mtu (drop at xs)) ≡ m → first_of (item_faults true mtu (drop at xs)) ≡ n
-      by zero f = absurd (let z : ◌≡◌ {A = ℕ} 0 1 = cc (free_stands true mtu xs at (step_faulty true mtu xs at n e).some f) in omega arith)
-      by (suc m) f = let g = item_faulty true mtu xs at (suc m) (step_faulty true mtu xs at n e).some f (λ z. omega arith) in cc
+      by : (m : ℕ) → first_of (item_faults true mtu (drop at xs)) ≡ m → first_of (item_faults true mtu (drop at xs)) ≡ number_in r
+      by zero f = absurd (let z : ◌≡◌ {A = ℕ} 0 1 = cc (free_stands true mtu xs at (step_faulty true mtu xs at r e).some f) in omega arith)
+      by (suc m) f =
+          let g : refusal_of (suc m) ≡ r = cc (sym (item_faulty true mtu xs at (suc m) (step_faulty true mtu xs at r e).some f (λ z. omega arith)) ∙ e) in
+          f ∙ sym (number_told (suc m)) ∙ ap number_in g
 
 -- ---- which faults an item has
 

@@ -10,15 +10,15 @@ use borrow.Author.Tests.{le-ltb, lt-ltb}
 use lib.ListN.{drop}
 use Rattle.decide.specs.Refusal.{first_of}
 use Rattle.decide.proofs.Cases.{by_cases, le_or}
+use Rattle.std.specs.Prelude.{Some, None, Ok, Err}
+use Rattle.decide.specs.Number.{number_in}
 use Rattle.shaper.specs.declared.Limits.{Limits}
 use Rattle.shaper.specs.declared.Event.{Event}
 use Rattle.shaper.specs.Credit.{Valid}
 use Rattle.shaper.specs.Kind.{event_of}
 use Rattle.wire.specs.Wire.{Bytes}
-use Rattle.record.specs.declared.Step.{Step}
-use Rattle.record.specs.declared.Step.TheVariants.{Stands, End, Faulty}
 use Rattle.record.specs.Read.{Events, faulty, events, onward, ahead, length_at, item_faults, item_count}
-use Rattle.record.specs.Step.{item_at}
+use Rattle.record.specs.Step.{Step, item_at}
 use Rattle.record.proofs.Steps.{step_end, step_faulty, stood_bound}
 use Rattle.account.proofs.Rest.{ValidEvents}
 use Rattle.excerpt.specs.declared.Place.{Place}
@@ -137,9 +137,9 @@ module _ (l : Limits) (xs : List ℕ) (b : Bytes xs) where
       by : ValidEvents l (read_part l.mtu m xs (next_place xs p)) → (n : ℕ) → first_of (place_faults l.mtu xs p) ≡ n → (s : Step) → item_at true l.mtu xs p.at ≡ s →
           ValidEvents l (read_part l.mtu (suc m) xs p)
       by more (suc n) e s f = rw (part_fault_lem l.mtu xs p m (suc n) (omega arith) e) tt
-      by more zero e (Stands k v c next) f =
-          let s = standing l.mtu xs p.at k v c next f in
-          let ok = s.stood.valid l refl (stood_bound true l.mtu xs p.at k v c next b s.stood) in
-          rw (part_event l.mtu xs p m e, s.told.kind, s.told.number) (valid_onward l (event_of k v) ok (read_part l.mtu m xs (next_place xs p)) more)
-      by more zero e End f = absurd (no_fault l.mtu xs p e 2 (omega arith) (item_none l.mtu xs p.at (step_end true l.mtu xs p.at f)))
-      by more zero e (Faulty n) f = absurd (no_fault l.mtu xs p e n (step_faulty true l.mtu xs p.at n f).given (faulty_there l.mtu xs p.at n f))
+      by more zero e (Ok (Some i)) f =
+          let s = standing l.mtu xs p.at i.kind i.number i.count i.next f in
+          let ok = s.stood.valid l refl (stood_bound true l.mtu xs p.at i.kind i.number i.count i.next b s.stood) in
+          rw (part_event l.mtu xs p m e, s.told.kind, s.told.number) (valid_onward l (event_of i.kind i.number) ok (read_part l.mtu m xs (next_place xs p)) more)
+      by more zero e (Ok None) f = absurd (no_fault l.mtu xs p e 2 (omega arith) (item_none l.mtu xs p.at (step_end true l.mtu xs p.at f)))
+      by more zero e (Err r) f = absurd (no_fault l.mtu xs p e (number_in r) (step_faulty true l.mtu xs p.at r f).given (faulty_there l.mtu xs p.at r f))

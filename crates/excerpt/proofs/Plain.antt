@@ -9,25 +9,22 @@ use native.Mathlib.Omega.{arith}
 use native.Mathlib.Nat.{suc-add, zero-add, add-zero}
 use lib.ListN.{length, take, drop, length-drop, take-append-drop}
 use lib.Seq.{drop-drop, take-add, length-take-le, drop_at}
+use Rattle.std.specs.Prelude.{Some, None, Ok, Err}
 use Rattle.shaper.specs.declared.Event.{Event}
 use Rattle.shaper.specs.declared.Limits.{Limits}
 use Rattle.shaper.specs.Kind.{event_of}
 use Rattle.wire.specs.Wire.{le}
 use Rattle.wire.proofs.Numbers.{le_append_left, le_drop}
 use Rattle.summary.specs.declared.Summary.{Summary}
-use Rattle.summary.specs.declared.Answer.{Answer}
 use Rattle.summary.specs.Summary.{summary_of}
 use Rattle.account.specs.Account.{events_of}
-use Rattle.record.specs.declared.Step.{Step}
-use Rattle.record.specs.declared.Step.TheVariants.{Stands, End, Faulty}
 use Rattle.record.specs.Read.{Events, faulty, events, onward, read_items}
-use Rattle.record.specs.Step.{item_at}
+use Rattle.record.specs.Step.{Step, item_at}
 use Rattle.record.proofs.Fields.{facts_free}
 use Rattle.record.proofs.Rows.{event_stands}
 use Rattle.record.proofs.Steps.{GoodAt, EventThere, Stood, step_stands, step_end, step_faulty, read_end}
 use Rattle.excerpt.specs.Place.{passed_of, place_after}
-use Rattle.excerpt.specs.declared.Excerpt.{Excerpt}
-use Rattle.excerpt.specs.Excerpt.{read_part, excerpt_of}
+use Rattle.excerpt.specs.Excerpt.{summed, read_part, excerpt_of}
 use Rattle.excerpt.proofs.Faults.{Standing, standing}
 use Rattle.excerpt.proofs.Parts.{placed, after_none, after_more, after_item, passed_all, part_none, part_item}
 
@@ -94,13 +91,13 @@ module _ (late mtu : ℕ) (xs : List ℕ) (at c : ℕ) (h : at + (6 + 6 * c) ≤
 
   first_step : (s : Step) → item_at false mtu ys 0 ≡ s → (es : List Event) → read_items false late mtu (suc c) 0 ys ≡ events es →
       ((fs : List Event) → read_items false late mtu c 0 (take (6 * c) (drop (at + 6) xs)) ≡ events fs → PartIs mtu xs (at + 6) c fs) → PartIs mtu xs at (suc c) es
-  first_step End e es read more =
+  first_step (Ok None) e es read more =
       absurd (omega (arith, step_end false mtu ys 0 e, length-take-le (6 + 6 * c) (drop at xs) (simp length-drop (omega arith))))
-  first_step (Faulty n) e es read more =
-      absurd (let z : ◌≡◌ {A = ℕ} 0 1 = cc ((step_faulty false mtu ys 0 n e).stops late c) in omega arith)
-  first_step (Stands k v m next) e es read more =
-      let s = step_stands false mtu ys 0 k v m next e in
-      ⊎_elim (λ t. one_more k v m next s t es read more) (λ r. absurd (mathlib.Core.Bool.false≢true r.0)) s.there
+  first_step (Err r) e es read more =
+      absurd (let z : ◌≡◌ {A = ℕ} 0 1 = cc ((step_faulty false mtu ys 0 r e).stops late c) in omega arith)
+  first_step (Ok (Some i)) e es read more =
+      let s = step_stands false mtu ys 0 i.kind i.number i.count i.next e in
+      ⊎_elim (λ t. one_more i.kind i.number i.count i.next s t es read more) (λ r. absurd (mathlib.Core.Bool.false≢true r.0)) s.there
 
 -- as many events as six bytes each hold
 pub plain_part : (late mtu : ℕ) (xs : List ℕ) (c at : ℕ) (es : List Event) → at + 6 * c ≤ length xs → 14 ≤ at → read_items false late mtu c 0 (take (6 * c) (drop at xs)) ≡ events es →
@@ -116,12 +113,12 @@ plain_part late mtu xs (suc c) at es h behind read =
     (λ fs f. plain_part late mtu xs c (at + 6) fs (omega arith) (omega arith) f)
 
 -- their summary is that of a record of the old form
-pub plain_excerpt : (l : Limits) (xs : List ℕ) (c at : ℕ) (sum : Summary) → at + 6 * c ≤ length xs → 14 ≤ at → events_of false l c (take (6 * c) (drop at xs)) ≡ Answer.Summed sum →
-    excerpt_of l c xs (placed at 0) ≡ Excerpt.Summed sum (placed (at + 6 * c) 0)
+pub plain_excerpt : (l : Limits) (xs : List ℕ) (c at : ℕ) (sum : Summary) → at + 6 * c ≤ length xs → 14 ≤ at → events_of false l c (take (6 * c) (drop at xs)) ≡ Ok sum →
+    excerpt_of l c xs (placed at 0) ≡ summed sum (placed (at + 6 * c) 0)
 unfolding events_of excerpt_of
 plain_excerpt l xs c at sum h behind e = by (read_items false 9 l.mtu c 0 (take (6 * c) (drop at xs))) refl
   where
-    by : (r : Events) → read_items false 9 l.mtu c 0 (take (6 * c) (drop at xs)) ≡ r → excerpt_of l c xs (placed at 0) ≡ Excerpt.Summed sum (placed (at + 6 * c) 0)
+    by : (r : Events) → read_items false 9 l.mtu c 0 (take (6 * c) (drop at xs)) ≡ r → excerpt_of l c xs (placed at 0) ≡ summed sum (placed (at + 6 * c) 0)
     by (faulty n) f = absurd (let z : ◌≡◌ {A = ℕ} 0 1 = cc (rw f at e) in omega arith)
     by (events es) f =
         let p = plain_part 9 l.mtu xs c at es h behind f in

@@ -6,6 +6,8 @@ use mathlib.Core.List.{List}
 use mathlib.Core.Logic.{inl, inr, ⊎_elim}
 use mathlib.Core.Path.{◌≡◌, refl, ap, ◌∙◌}
 use native.Mathlib.Omega.{arith}
+use Rattle.std.specs.Prelude.{Ok, Err}
+use Rattle.decide.specs.Number.{refusal_of}
 use Rattle.decide.specs.Test.{Holds}
 use Rattle.decide.specs.Refusal.{first_of}
 use Rattle.shaper.specs.declared.Limits.{Limits}
@@ -18,7 +20,7 @@ use Rattle.tally.specs.declared.Tally.{Tally}
 use Rattle.tally.specs.Tally.{start_of, step_of, plain_at, Ready}
 use Rattle.tally.proofs.Laws.{end_rest}
 use Rattle.tally.proofs.Runs.{run_ready}
-use Rattle.summary.specs.declared.Answer.{Answer}
+use Rattle.summary.specs.Answer.{Answer}
 use Rattle.summary.specs.Plain.{signed_from}
 use Rattle.record.specs.Read.{Events, faulty, events, under}
 use Rattle.record.proofs.Fields.{event_good}
@@ -27,19 +29,18 @@ use Rattle.account.specs.Account.{summarized}
 use Rattle.account.specs.Rest.{rested}
 use Rattle.account.proofs.Rest.{start_by, step_by}
 use Rattle.excerpt.specs.declared.Place.{Place}
-use Rattle.excerpt.specs.declared.Excerpt.{Excerpt}
 use Rattle.excerpt.specs.Place.{passed_of, place_after, place_faults}
-use Rattle.excerpt.specs.Excerpt.{read_part, excerpted, excerpt_of}
+use Rattle.excerpt.specs.Excerpt.{Answered, summed, read_part, excerpted, excerpt_of}
 use Rattle.excerpt.proofs.Faults.{Standing}
 use Rattle.excerpt.proofs.Parts.{placed, after_none, after_more, after_item, part_none, part_fault_lem, part_item, part_valid}
 
 -- an answer beside the place behind it
-abbrev beside : Place → Answer → Excerpt
-beside next (Answer.Summed s) = Excerpt.Summed s next
-beside next (Answer.Refused n) = Excerpt.Refused n
+abbrev beside : Place → Answer → Answered
+beside next (Ok s) = summed s next
+beside next (Err r) = Err r
 
 -- n events are tallied, and so many more are wanted from a place on
-unfoldable pub rest_part : Limits → ℕ → Tally → ℕ → List ℕ → Place → Excerpt
+unfoldable pub rest_part : Limits → ℕ → Tally → ℕ → List ℕ → Place → Answered
 rest_part l n t left xs p = beside (place_after left xs p) (rested l (plain_at l n t) (read_part l.mtu left xs p))
 
 module _ (l : Limits) (ok : Holds (limits_ok l)) (xs : List ℕ) (b : Bytes xs) where
@@ -55,23 +56,23 @@ module _ (l : Limits) (ok : Holds (limits_ok l)) (xs : List ℕ) (b : Bytes xs) 
       beside_summed (place_after count xs p) r ∙ ap (beside (place_after count xs p)) (start_by l ok r (part_valid l xs b count p))
 
 -- a fault at the first place
-pub excerpt_stops : (l : Limits) (count : ℕ) (xs : List ℕ) (p : Place) (f : ℕ) → 0 < count → 0 < f → first_of (place_faults l.mtu xs p) ≡ f → excerpt_of l count xs p ≡ Excerpt.Refused f
+pub excerpt_stops : (l : Limits) (count : ℕ) (xs : List ℕ) (p : Place) (f : ℕ) → 0 < count → 0 < f → first_of (place_faults l.mtu xs p) ≡ f → excerpt_of l count xs p ≡ Err (refusal_of f)
 unfolding excerpt_of
 excerpt_stops l zero xs p f some h e = absurd (omega arith)
 excerpt_stops l (suc m) xs p f some h e = rw (part_fault_lem l.mtu xs p m f h e)
 
 -- a fault at the place of the next event that is wanted
 pub part_stops : (l : Limits) (n : ℕ) (t : Tally) (left : ℕ) (xs : List ℕ) (p : Place) (f : ℕ) → 0 < left → 0 < f → first_of (place_faults l.mtu xs p) ≡ f →
-    rest_part l n t left xs p ≡ Excerpt.Refused f
+    rest_part l n t left xs p ≡ Err (refusal_of f)
 unfolding rest_part
 part_stops l n t zero xs p f some h e = absurd (omega arith)
 part_stops l n t (suc m) xs p f some h e = rw (part_fault_lem l.mtu xs p m f h e)
 
 module _ (l : Limits) (n : ℕ) (t : Tally) (ready : Ready l n t) (xs : List ℕ) where
   -- at the end the tally is the summary
-  pub part_end : (p : Place) → rest_part l n t 0 xs p ≡ Excerpt.Summed (signed_from (plain_at l n t)) p
+  pub part_end : (p : Place) → rest_part l n t 0 xs p ≡ summed (signed_from (plain_at l n t)) p
   unfolding rest_part
-  part_end p = rw (part_none l.mtu xs p, after_none xs p) (ap (λ q. Excerpt.Summed (signed_from q) p) (end_rest l n t ready))
+  part_end p = rw (part_none l.mtu xs p, after_none xs p) (ap (λ q. summed (signed_from q) p) (end_rest l n t ready))
 
   -- some events of an item in one step
   module _ (b : Bytes xs) (at k v c next : ℕ) (s : Standing l.mtu xs at k v c next) (behind : 14 ≤ at) (j gone : ℕ) (some : 1 ≤ j) (few : gone + j ≤ c) where

@@ -15,8 +15,7 @@ use Rattle.rates.proofs.Steady.{shown_range, shown_within}
 use Rattle.settings.specs.declared.Fairness.{Fairness}
 use Rattle.settings.specs.declared.Settings.{Settings}
 use Rattle.settings.specs.Range.{SettingsOk}
-use Rattle.fair.specs.declared.Four.{Four}
-use Rattle.fair.specs.declared.Stored.{Stored}
+use Rattle.fair.specs.Four.{Four, Stored}
 use Rattle.fair.specs.declared.Fair.{Fair}
 use Rattle.fair.specs.declared.Adjusted.{Adjusted}
 use Rattle.fair.specs.Range.{FourOk, StoredOk, DecidedOk, FairOk}

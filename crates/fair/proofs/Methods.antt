@@ -11,7 +11,7 @@ use Rattle.rates.specs.Rates.{shown_of, ramped_of, reduced_of}
 use Rattle.rates.proofs.Bounds.{ramped_within, reduced_within}
 use Rattle.settings.specs.declared.Settings.{Settings}
 use Rattle.settings.specs.Range.{SettingsOk, aggressive}
-use Rattle.fair.specs.declared.Stored.{Stored}
+use Rattle.fair.specs.Four.{Stored}
 use Rattle.fair.specs.declared.Adjusted.{Adjusted}
 use Rattle.fair.specs.Methods.{local_test, aggressive_of, passed, near, entry_rate, changed_to, unchanged, conservative_of, adjust_of}
 use Rattle.fair.specs.Methods.{Row, enters, rests, lowers, leaves, raises, waits, row_of, row_gives, Changes, Steps}

@@ -11,8 +11,7 @@ use Rattle.rates.proofs.Bounds.{shown_le, own_within}
 use Rattle.settings.specs.declared.Settings.{Settings}
 use Rattle.settings.specs.Range.{SettingsOk}
 use Rattle.heard.proofs.Range.{received_facts, received_holds, none_received_ok}
-use Rattle.fair.specs.declared.Four.{Four}
-use Rattle.fair.specs.declared.Stored.{Stored}
+use Rattle.fair.specs.Four.{Four, Stored}
 use Rattle.fair.specs.declared.Decided.{Decided}
 use Rattle.fair.specs.declared.Fair.{Fair}
 use Rattle.fair.specs.Range.{four_ok, stored_ok, decided_ok, fair_ok, FourOk, StoredOk, DecidedOk, FairOk}

@@ -7,7 +7,7 @@ use native.Mathlib.Omega.{arith}
 use Rattle.decide.specs.Test.{passes, decided}
 use Rattle.decide.specs.Hops.{in_ring}
 use Rattle.decide.proofs.Tests.{fails}
-use Rattle.decide.proofs.Refusal.{in_order_lem}
+use Rattle.decide.proofs.Given.{in_order_lem}
 use Rattle.advert.specs.declared.Advert.{Advert}
 use Rattle.advert.proofs.ReadBack.{parse_written}
 use Rattle.settings.specs.declared.Settings.{Settings}

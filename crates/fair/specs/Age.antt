@@ -4,8 +4,7 @@ use Rattle.decide.specs.Test.{test, ◌≡?◌}
 use Rattle.rates.specs.Rates.{smoothed_of, shown_of, aged_of, ramped_of, allowance_of, own_rate_of}
 use Rattle.settings.specs.declared.Fairness.{Fairness}
 use Rattle.settings.specs.declared.Settings.{Settings}
-use Rattle.fair.specs.declared.Four.{Four}
-use Rattle.fair.specs.declared.Stored.{Stored}
+use Rattle.fair.specs.Four.{Four, Stored}
 use Rattle.fair.specs.declared.Decided.{Decided}
 use Rattle.fair.specs.declared.Fair.{Fair}
 use Rattle.fair.specs.declared.Adjusted.{Adjusted}

@@ -4,7 +4,7 @@ use Rattle.decide.specs.Test.{Test, test, ◌<?◌, ◌≡?◌, ◌∧?◌}
 use Rattle.rates.specs.Rates.{counted_of}
 use Rattle.settings.specs.declared.Settings.{Settings}
 use Rattle.heard.specs.Range.{hops_of}
-use Rattle.fair.specs.declared.Four.{Four}
+use Rattle.fair.specs.Four.{Four}
 use Rattle.fair.specs.declared.Fair.{Fair}
 
 -- of the received ttl

@@ -1,3 +1,4 @@
+pub mod Four
 pub mod Range
 pub mod Start
 pub mod Count

@@ -5,7 +5,7 @@ use Rattle.decide.specs.Test.{Test, test, ◌≤?◌, ◌<?◌, ◌≡?◌}
 use Rattle.rates.specs.Rates.{shown_of, ramped_of, reduced_of}
 use Rattle.settings.specs.declared.Settings.{Settings}
 use Rattle.settings.specs.Range.{aggressive}
-use Rattle.fair.specs.declared.Stored.{Stored}
+use Rattle.fair.specs.Four.{Stored}
 use Rattle.fair.specs.declared.Adjusted.{Adjusted}
 
 -- Locally congested: secondary bytes > low threshold.

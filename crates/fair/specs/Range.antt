@@ -8,8 +8,7 @@ use Rattle.rates.specs.Rates.{shown_of, shown_ok_of}
 use Rattle.settings.specs.declared.Settings.{Settings}
 use Rattle.settings.specs.Range.{aggressive}
 use Rattle.heard.specs.Range.{received_ok, ReceivedOk}
-use Rattle.fair.specs.declared.Four.{Four}
-use Rattle.fair.specs.declared.Stored.{Stored}
+use Rattle.fair.specs.Four.{Four, Stored}
 use Rattle.fair.specs.declared.Decided.{Decided}
 use Rattle.fair.specs.declared.Fair.{Fair}
 

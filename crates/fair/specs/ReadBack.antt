@@ -1,10 +1,9 @@
 -- What reading a frame that the station told gives back.
 -- Assumes nothing.
-use Rattle.std.specs.Prelude.{◌≤◌, ◌<◌, false, [], ◌∷◌, ◌≡◌}
+use Rattle.std.specs.Prelude.{◌≤◌, ◌<◌, false, [], ◌∷◌, ◌≡◌, Ok}
 use Rattle.decide.specs.Test.{test}
 use Rattle.decide.specs.Refusal.{first_of}
 use Rattle.advert.specs.declared.Advert.{Advert}
-use Rattle.advert.specs.declared.Parsed.TheVariants.{Frame}
 use Rattle.advert.specs.Frame.{advert_bytes, parsed_of, AdvertFits}
 use Rattle.settings.specs.declared.Settings.{Settings}
 use Rattle.heard.specs.Range.{hops_of}
@@ -22,7 +21,7 @@ pub record Sound (s : Settings) (a : Advert) : Type 0 where
 -- Reading a written frame, with the same settings but an address it doesn't bear, gives back its ringlet bit, ttl, address and rate. Of the settings a
 -- reader looks at the ringlet, the number of stations and the address.
 pub record ReadBack (s : Settings) (f : Fair) : Type 0 where
-  pub parsed : parsed_of (advert_bytes (told_of f s)) ≡ Frame (told_of f s)
+  pub parsed : parsed_of (advert_bytes (told_of f s)) ≡ Ok (told_of f s)
   pub ttl_in_range : (193 ≤ (told_of f s).ttl) × ((told_of f s).ttl ≤ 255)
   pub in_ring_lem : hops_of (told_of f s).ttl < s.site.stations
   pub ringlet_other : (told_of f s).ringlet ≡ s.ringlet → ⊥

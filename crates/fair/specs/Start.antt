@@ -2,8 +2,7 @@
 use Rattle.rates.specs.Rates.{own_rate_of}
 use Rattle.settings.specs.declared.Settings.{Settings}
 use Rattle.heard.specs.Frame.{none_received}
-use Rattle.fair.specs.declared.Four.{Four}
-use Rattle.fair.specs.declared.Stored.{Stored}
+use Rattle.fair.specs.Four.{Four, Stored}
 use Rattle.fair.specs.declared.Fair.{Fair}
 
 abbrev pub none_counted : Four

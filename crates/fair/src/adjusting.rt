@@ -30,14 +30,14 @@ impl Adjusted {
             let local = rates::shown(settings.fairness.lp, smoothed.add) as u32;
             return Adjusted {
                 congested: 1,
-                local: local,
-                since: since,
+                local,
+                since,
             };
         }
         Adjusted {
             congested: 0,
             local: settings.fairness.unreserved,
-            since: since,
+            since,
         }
     }
 
@@ -90,8 +90,8 @@ impl Adjusted {
         ensures { result ≡ test (near settings self) }
     {
         let fairness = settings.fairness;
-        let distance = decide::less(fairness.unreserved as u64, self.local as u64);
-        distance < fairness.ramp as u64
+        let distance = fairness.unreserved.saturating_sub(self.local);
+        distance < fairness.ramp
     }
 }
 
@@ -109,7 +109,7 @@ fn entry_rate(settings: Settings, smoothed: Stored) -> u32
     let fairness = settings.fairness;
     let shown = rates::shown(fairness.lp, smoothed.add);
     let most = fairness.unreserved as u64;
-    decide::lesser(shown, most) as u32
+    shown.min(most) as u32
 }
 
 // A station that is congested, and whose localFairRate changed to this one now.
@@ -118,7 +118,7 @@ fn changed_to(local: u32) -> Adjusted
 {
     Adjusted {
         congested: 1,
-        local: local,
+        local,
         since: 0,
     }
 }

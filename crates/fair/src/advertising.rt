@@ -57,9 +57,7 @@ impl Fair {
     pub fn heard(self, advert: Advert) -> Fair
         ensures { result ≡ heard_of self advert }
     {
-        let said = heard::received_from(advert);
-        let mut next = self;
-        next.received = said;
-        next
+        let received = heard::received_from(advert);
+        Fair { received, ..self }
     }
 }

@@ -2,7 +2,7 @@
 // aging interval does, what is advertised, and what a received frame changes. Settings are lent to each call and never kept here.
 #![tactic(auto)]
 
-ghost use Rattle.std.specs.Prelude.{◌≡◌};
+ghost use Rattle.std.specs.Prelude.{◌≡◌, ◌&&◌};
 ghost use Rattle.decide.specs.Test.{test};
 ghost use Rattle.rates.specs.Rates.{share_of};
 ghost use Rattle.settings.specs.Range.{SettingsOk};
@@ -20,21 +20,15 @@ use settings::{Fairness, Settings};
 // A number of bytes for each of four kinds of eligible frames: those of this station (add), those on transit (fw), and of each the frames which pass
 // the congested station downstream (addc and fwc, the Congested twins).
 #[derive(Clone, Copy)]
-pub struct Four {
-    pub add: u32,
-    pub fw: u32,
-    pub addc: u32,
-    pub fwc: u32,
+pub struct Four<T = u32> {
+    pub add: T,
+    pub fw: T,
+    pub addc: T,
+    pub fwc: T,
 }
 
 // For each of the four its smoothed rate, kept times lpCoef, as a stored number. The rate shown is floor(stored number / lpCoef).
-#[derive(Clone, Copy)]
-pub struct Stored {
-    pub add: u64,
-    pub fw: u64,
-    pub addc: u64,
-    pub fwc: u64,
-}
+pub type Stored = Four<u64>;
 
 // What intervals decide: localFairRate, allowedRate, allowedRateCongested, own rate, and whether the station is locally congested (1, else 0).
 #[derive(Clone, Copy)]
@@ -71,6 +65,42 @@ pub const SECONDARY: u32 = 3;
 
 pub const STAGE: u32 = 4;
 
+impl<T: Copy> Four<T> {
+    // What this function makes of each of the four.
+    fn map<U, F: Fn(T) -> U>(self, by: F) -> Four<U>
+        requires { F.pre by self.add × F.pre by self.fw × F.pre by self.addc × F.pre by self.fwc }
+        ensures { F.post by self.add result.add × F.post by self.fw result.fw × F.post by self.addc result.addc × F.post by self.fwc result.fwc }
+    {
+        Four {
+            add: by(self.add),
+            fw: by(self.fw),
+            addc: by(self.addc),
+            fwc: by(self.fwc),
+        }
+    }
+
+    // Each of the four beside the other's.
+    fn zip<U: Copy>(self, other: Four<U>) -> Four<(T, U)>
+        ensures { result ≡ record { add = (self.add, other.add); fw = (self.fw, other.fw); addc = (self.addc, other.addc); fwc = (self.fwc, other.fwc) } }
+    {
+        Four {
+            add: (self.add, other.add),
+            fw: (self.fw, other.fw),
+            addc: (self.addc, other.addc),
+            fwc: (self.fwc, other.fwc),
+        }
+    }
+}
+
+impl Four<bool> {
+    // Whether all four are true.
+    fn all(self) -> bool
+        ensures { result ≡ (self.add && (self.fw && (self.addc && self.fwc))) }
+    {
+        self.add & self.fw & self.addc & self.fwc
+    }
+}
+
 impl Four {
     // The largest counter, and the largest rate that is neither own nor received.
     pub const MAX: u32 = 2147483647;
@@ -79,22 +109,14 @@ impl Four {
     pub fn in_range(self) -> bool
         ensures { result ≡ test (four_ok self) }
     {
-        (self.add <= Four::MAX)
-            & (self.fw <= Four::MAX)
-            & (self.addc <= Four::MAX)
-            & (self.fwc <= Four::MAX)
+        self.map(|counter| counter <= Four::MAX).all()
     }
 
     // The four counters after an interval.
     fn lower(self, coef: u32) -> Four
         ensures { result ≡ lower_of self coef }
     {
-        Four {
-            add: rates::aged(self.add, coef),
-            fw: rates::aged(self.fw, coef),
-            addc: rates::aged(self.addc, coef),
-            fwc: rates::aged(self.fwc, coef),
-        }
+        self.map(|counter| rates::aged(counter, coef))
     }
 }
 
@@ -103,10 +125,7 @@ impl Stored {
     fn in_range(self, coef: u32) -> bool
         ensures { result ≡ test (stored_ok coef self) }
     {
-        rates::shown_ok(coef, self.add)
-            & rates::shown_ok(coef, self.fw)
-            & rates::shown_ok(coef, self.addc)
-            & rates::shown_ok(coef, self.fwc)
+        self.map(|stored| rates::shown_ok(coef, stored)).all()
     }
 
     // The four stored numbers after an interval in which the counters came to these. The sums must fit.
@@ -114,12 +133,8 @@ impl Stored {
         requires { SumsFit self counters }
         ensures { result ≡ smooth_of self coef counters }
     {
-        Stored {
-            add: rates::smoothed(coef, self.add, counters.add),
-            fw: rates::smoothed(coef, self.fw, counters.fw),
-            addc: rates::smoothed(coef, self.addc, counters.addc),
-            fwc: rates::smoothed(coef, self.fwc, counters.fwc),
-        }
+        self.zip(counters)
+            .map(|(stored, counter)| rates::smoothed(coef, stored, counter))
     }
 
     // The four rates shown, where each is in its range.
@@ -127,12 +142,7 @@ impl Stored {
         requires { StoredOk coef self }
         ensures { result ≡ shown_four coef self }
     {
-        Four {
-            add: rates::shown(coef, self.add) as u32,
-            fw: rates::shown(coef, self.fw) as u32,
-            addc: rates::shown(coef, self.addc) as u32,
-            fwc: rates::shown(coef, self.fwc) as u32,
-        }
+        self.map(|stored| rates::shown(coef, stored) as u32)
     }
 }
 
@@ -186,7 +196,7 @@ impl Fair {
             own: own as u32,
             congested: 0,
         };
-        let nothing = Stored {
+        let nothing = Four {
             add: 0,
             fw: 0,
             addc: 0,
@@ -195,7 +205,7 @@ impl Fair {
         Fair {
             counters: zeros,
             smoothed: nothing,
-            decided: decided,
+            decided,
             since: 0,
             received: Received::none(),
         }
@@ -236,9 +246,7 @@ impl Fair {
             addc: raised(stage & beyond, old.addc, size),
             fwc: raised(secondary & beyond, old.fwc, size),
         };
-        let mut next = self;
-        next.counters = counters;
-        next
+        Fair { counters, ..self }
     }
 
     // The state after an aging interval, at the end of which the secondary queue holds so many bytes. Settings and state must be in range, so that the sums fit.
@@ -260,10 +268,10 @@ impl Fair {
         let received = self.received;
         Fair {
             counters: aged,
-            smoothed: smoothed,
+            smoothed,
             decided: self.new_decided(fairness, adjusted),
             since: adjusted.since,
-            received: received,
+            received,
         }
     }
 
@@ -312,7 +320,7 @@ fn allowed(old: u32, fairness: Fairness, adjusted: Adjusted) -> u32
 {
     let most = fairness.unreserved;
     if adjusted.congested == 1 {
-        decide::lesser(adjusted.local as u64, most as u64) as u32
+        adjusted.local.min(most)
     } else {
         rates::ramped(old, most, fairness.ramp)
     }

@@ -7,6 +7,7 @@ use mathlib.Core.Path.{◌≡◌, refl, sym, ap, ◌∙◌}
 use native.Mathlib.Omega.{arith}
 use borrow.Author.Tests.{le-ltb}
 use lib.ListN.{length, length-append}
+use Rattle.decide.specs.declared.refusal.Refusal.{Refusal}
 use Rattle.decide.specs.Refusal.{first_of}
 use Rattle.decide.proofs.Cases.{by_cases, true_or_false}
 use Rattle.wire.specs.Wire.{le}
@@ -100,7 +101,7 @@ module _ (q ys : List ℕ) where
           ∙ sym (run_faulty true mtu q 0 r (suc f) h e (λ z. omega arith))
 
   -- so where only some more events may come
-  pub within_front : (late left mtu : ℕ) → item_size q ≤ length q → step_within late left mtu (q ++ ys) 0 ≡ step_within late left mtu q 0
+  pub within_front : (late : Refusal) (left mtu : ℕ) → item_size q ≤ length q → step_within late left mtu (q ++ ys) 0 ≡ step_within late left mtu q 0
   unfolding item_within
   within_front late left mtu h =
       ap (within late left)

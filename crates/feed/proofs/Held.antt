@@ -6,6 +6,7 @@ use mathlib.Core.Path.{◌≡◌, refl, sym, ap, ◌∙◌}
 use native.Mathlib.Omega.{arith}
 use lib.ListN.{length, take, drop, set, length-append, length-drop}
 use lib.Seq.{set-append_seam, append_snoc, take_at}
+use Rattle.decide.specs.Number.{refusal_of}
 use Rattle.decide.proofs.Cases.{by_cases, le_or}
 use Rattle.shaper.specs.Limits.{most_events}
 use Rattle.summary.specs.declared.Summary.{Summary}
@@ -139,7 +140,7 @@ module _ (s : Summary) (room : s.events < most_events) where
       }
 
   abbrev behind : List ℕ → Stage
-  behind w = passed_by s (step_within 9 (most_events - s.events) s.limits.mtu w 0)
+  behind w = passed_by s (step_within (refusal_of 9) (most_events - s.events) s.limits.mtu w 0)
 
   pub item_held : (w p r : List ℕ) → length w ≡ item_size w → length p ≡ 14 → fed_of (beginning (Summing s) p) (w ++ r) ≡ fed_of (beginning (behind w) none_held) r
   unfolding item_sized

@@ -11,20 +11,20 @@ use Rattle.decide.specs.Test.{Holds, passes}
 use Rattle.decide.proofs.Cases.{by_cases, le_or}
 use Rattle.wire.specs.Wire.{Bytes}
 use Rattle.wire.proofs.Places.{bytes_drop}
+use Rattle.std.specs.Prelude.{Ok, Err}
+use Rattle.decide.specs.declared.refusal.Refusal.{Refusal}
+use Rattle.decide.specs.Number.{number_in, refusal_of}
 use Rattle.shaper.specs.declared.Limits.{Limits}
 use Rattle.shaper.specs.Limits.{limits_ok, most_events}
-use Rattle.summary.specs.declared.Answer.{Answer}
 use Rattle.summary.specs.Summary.{empty_of, summary_of}
 use Rattle.summary.specs.Range.{in_range}
 use Rattle.summary.specs.Answer.{join_of, join_next}
 use Rattle.summary.proofs.Rows.{empty_made}
 use Rattle.summary.proofs.Promises.{join_empty_left, summary_limits, summary_range}
-use Rattle.record.specs.declared.Header.{Header}
-use Rattle.record.specs.declared.Header.TheVariants.{Settings, Unreadable}
 use Rattle.record.specs.Record.{written}
 use Rattle.record.specs.Items.{Item, written_items, unrolled, Formed}
 use Rattle.record.specs.Read.{Events, faulty, events, read_from, under}
-use Rattle.record.specs.Step.{header_of_of}
+use Rattle.record.specs.Step.{Header, header_of_of}
 use Rattle.record.specs.Cause.{Cause}
 use Rattle.record.proofs.Steps.{header_stands}
 use Rattle.record.proofs.Earliest.{short_header}
@@ -80,11 +80,11 @@ module _ (xs : List ℕ) (b : Bytes xs) where
 
   -- a header, and what stands behind it
   opened : (h : Header) → header_of_of xs ≡ h → finish_of (fed_of (beginning (opened_by h) none_held) (drop 14 xs)) ≡ summarize_of xs
-  opened (Unreadable n) e =
-      ap finish_of (fed_stopped (beginning (Stopped n) none_held) n refl (drop 14 xs))
-      ∙ finish_stopped (beginning (Stopped n) none_held) n refl
-      ∙ sym (rest_unreadable true xs n e)
-  opened (Settings l) e =
+  opened (Err r) e =
+      ap finish_of (fed_stopped (beginning (Stopped r) none_held) r refl (drop 14 xs))
+      ∙ finish_stopped (beginning (Stopped r) none_held) r refl
+      ∙ sym (rest_unreadable true xs r e)
+  opened (Ok l) e =
       let ok = (header_stands xs l e).in_range_lem in
       rw (empty_made l (passes (limits_ok l) ok))
       (items_finish (empty_of l) (drop 14 xs) (empty_range l ok) (bytes_drop 14 xs b) ∙ from_none l ok (drop 14 xs) (bytes_drop 14 xs b) ∙ sym (rest_start true xs l e))
@@ -114,12 +114,12 @@ either_form l is w chunks unrolls b c p q =
 
 -- A number is given exactly when it has its cause in the record that was fed.
 pub fed_refused_exactly : (chunks : List (List ℕ)) (n : ℕ) → Bytes (flatten chunks) → 0 < n →
-    (finish_of (fed_chunks start_of chunks) ≡ Answer.Refused n → Cause true (flatten chunks) n)
-    × (Cause true (flatten chunks) n → finish_of (fed_chunks start_of chunks) ≡ Answer.Refused n)
+    ((f : Refusal) → number_in f ≡ n → finish_of (fed_chunks start_of chunks) ≡ Err f → Cause true (flatten chunks) n)
+    × (Cause true (flatten chunks) n → finish_of (fed_chunks start_of chunks) ≡ Err (refusal_of n))
 fed_refused_exactly chunks n b p =
     let e = fed_whole chunks b in
     let x = summarize_refused_exactly true (flatten chunks) n b p in
-    (λ h. x.0 (sym e ∙ h), λ c. e ∙ x.1 c)
+    (λ f k h. x.0 f k (sym e ∙ h), λ c. e ∙ x.1 c)
 
 -- Once a fault was seen, no byte more changes what the record comes to.
 pub ends_stands : (f : Feed) → ends_of f ≡ true → (xs : List ℕ) → finish_of (fed_of f xs) ≡ finish_of f
@@ -131,4 +131,4 @@ ends_stands f e xs = by f.stage refl
     by : (g : Stage) → f.stage ≡ g → finish_of (fed_of f xs) ≡ finish_of f
     by Heading p = goes_on (ends_heading f p)
     by (Summing s) p = goes_on (ends_summing f s p)
-    by (Stopped n) p = ap finish_of (fed_stopped f n p xs)
+    by (Stopped r) p = ap finish_of (fed_stopped f r p xs)

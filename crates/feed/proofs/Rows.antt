@@ -13,17 +13,17 @@ use lib.Seq.{drop-cons}
 use Rattle.decide.specs.Test.{both}
 use Rattle.decide.proofs.Cases.{of_each}
 use Rattle.wire.proofs.Numbers.{le_append_left}
+use Rattle.std.specs.Prelude.{Some, None, Ok, Err}
+use Rattle.decide.specs.declared.refusal.Refusal.{Refusal}
+use Rattle.decide.specs.Number.{refusal_of}
 use Rattle.shaper.specs.declared.Limits.{Limits}
 use Rattle.shaper.specs.Limits.{most_events}
 use Rattle.shaper.specs.Kind.{event_of}
 use Rattle.summary.specs.declared.Summary.{Summary}
-use Rattle.summary.specs.declared.Answer.{Answer}
 use Rattle.summary.specs.Range.{in_range}
 use Rattle.summary.specs.Answer.{empty_answer, counted_answer, join_next}
-use Rattle.record.specs.declared.Header.TheVariants.{Settings, Unreadable}
-use Rattle.record.specs.declared.Step.TheVariants.{Stands, End, Faulty}
 use Rattle.record.specs.Read.{is_run}
-use Rattle.record.specs.Step.{header_of_of, step_within}
+use Rattle.record.specs.Step.{placed, header_of_of, step_within}
 use Rattle.feed.specs.declared.Stage.{Stage}
 use Rattle.feed.specs.declared.Stage.TheVariants.{Heading, Summing, Stopped}
 use Rattle.feed.specs.declared.Feed.{Feed}
@@ -67,25 +67,25 @@ may_sum_means s held n e =
 -- ---- what is held is whole
 
 module _ (g : Stage) (xs : List ℕ) where
-  pub next_settings : (l : Limits) → g ≡ Heading → header_of_of xs ≡ Settings l → next_stage g xs ≡ stage_of (empty_answer l)
+  pub next_settings : (l : Limits) → g ≡ Heading → header_of_of xs ≡ Ok l → next_stage g xs ≡ stage_of (empty_answer l)
   next_settings l p q = rw (p, q)
 
-  pub next_unreadable : (n : ℕ) → g ≡ Heading → header_of_of xs ≡ Unreadable n → next_stage g xs ≡ Stopped n
-  next_unreadable n p q = rw (p, q)
+  pub next_unreadable : (r : Refusal) → g ≡ Heading → header_of_of xs ≡ Err r → next_stage g xs ≡ Stopped r
+  next_unreadable r p q = rw (p, q)
 
-  pub next_stopped : (n : ℕ) → g ≡ Stopped n → next_stage g xs ≡ Stopped n
-  next_stopped n p = rw p
+  pub next_stopped : (r : Refusal) → g ≡ Stopped r → next_stage g xs ≡ Stopped r
+  next_stopped r p = rw p
 
   module _ (s : Summary) (p : g ≡ Summing s) where
-    pub next_stands : (k v c m : ℕ) → step_within 9 (most_events - s.events) s.limits.mtu (take (item_size xs) xs) 0 ≡ Stands k v c m →
+    pub next_stands : (k v c m : ℕ) → step_within (refusal_of 9) (most_events - s.events) s.limits.mtu (take (item_size xs) xs) 0 ≡ Ok (Some (placed k v c m)) →
         next_stage g xs ≡ stage_of (join_next s (counted_answer s.limits (event_of k v) c))
     next_stands k v c m q = rw (p, q)
 
-    pub next_end : step_within 9 (most_events - s.events) s.limits.mtu (take (item_size xs) xs) 0 ≡ End → next_stage g xs ≡ Summing s
+    pub next_end : step_within (refusal_of 9) (most_events - s.events) s.limits.mtu (take (item_size xs) xs) 0 ≡ Ok None → next_stage g xs ≡ Summing s
     next_end q = rw (p, q)
 
-    pub next_faulty : (n : ℕ) → step_within 9 (most_events - s.events) s.limits.mtu (take (item_size xs) xs) 0 ≡ Faulty n → next_stage g xs ≡ Stopped n
-    next_faulty n q = rw (p, q)
+    pub next_faulty : (r : Refusal) → step_within (refusal_of 9) (most_events - s.events) s.limits.mtu (take (item_size xs) xs) 0 ≡ Err r → next_stage g xs ≡ Stopped r
+    next_faulty r q = rw (p, q)
 
 -- ---- a byte more
 
@@ -106,7 +106,7 @@ module _ (f : Feed) (b : ℕ) where
   byte_heading p = rw p
 
   -- any byte after the millionth event gives 9
-  pub byte_over : (s : Summary) → f.stage ≡ Summing s → most_events ≤ s.events → fed_byte f b ≡ stopped_at f 9
+  pub byte_over : (s : Summary) → f.stage ≡ Summing s → most_events ≤ s.events → fed_byte f b ≡ stopped_at f (refusal_of 9)
   unfolding fed_byte
   byte_over s p h = rw (p, le-leb most_events s.events h)
 
@@ -116,9 +116,9 @@ module _ (f : Feed) (b : ℕ) where
   byte_item s p h = rw (p, lt-leb most_events s.events h)
 
   -- a byte after a fault changes nothing
-  pub byte_stopped : (n : ℕ) → f.stage ≡ Stopped n → fed_byte f b ≡ f
+  pub byte_stopped : (r : Refusal) → f.stage ≡ Stopped r → fed_byte f b ≡ f
   unfolding fed_byte
-  byte_stopped n p = rw p
+  byte_stopped r p = rw p
 
 -- ---- the end
 
@@ -131,25 +131,33 @@ module _ (f : Feed) where
   unfolding ends_of
   ends_summing s p = rw p
 
-  pub ends_stopped : (n : ℕ) → f.stage ≡ Stopped n → ends_of f ≡ true
+  pub ends_stopped : (r : Refusal) → f.stage ≡ Stopped r → ends_of f ≡ true
   unfolding ends_of
-  ends_stopped n p = rw p
+  ends_stopped r p = rw p
 
-  pub finish_heading : f.stage ≡ Heading → finish_of f ≡ Answer.Refused 2
+  pub ends_going : ((r : Refusal) → f.stage ≡ Stopped r → ⊥) → ends_of f ≡ false
+  ends_going none = by f.stage refl
+    where
+      by : (g : Stage) → f.stage ≡ g → ends_of f ≡ false
+      by Heading p = ends_heading p
+      by (Summing s) p = ends_summing s p
+      by (Stopped r) p = absurd (none r p)
+
+  pub finish_heading : f.stage ≡ Heading → finish_of f ≡ Err (refusal_of 2)
   unfolding finish_of
   finish_heading p = rw p
 
-  pub finish_whole : (s : Summary) → f.stage ≡ Summing s → f.held ≡ 0 → finish_of f ≡ Answer.Summed s
+  pub finish_whole : (s : Summary) → f.stage ≡ Summing s → f.held ≡ 0 → finish_of f ≡ Ok s
   unfolding finish_of
   finish_whole s p h = rw (p, eq-eqb f.held 0 h)
 
-  pub finish_cut : (s : Summary) → f.stage ≡ Summing s → 0 < f.held → finish_of f ≡ Answer.Refused 2
+  pub finish_cut : (s : Summary) → f.stage ≡ Summing s → 0 < f.held → finish_of f ≡ Err (refusal_of 2)
   unfolding finish_of
   finish_cut s p h = rw (p, ne_eqb f.held 0 (λ e. omega arith))
 
-  pub finish_stopped : (n : ℕ) → f.stage ≡ Stopped n → finish_of f ≡ Answer.Refused n
+  pub finish_stopped : (r : Refusal) → f.stage ≡ Stopped r → finish_of f ≡ Err r
   unfolding finish_of
-  finish_stopped n p = rw p
+  finish_stopped r p = rw p
 
 -- ---- bytes one after the other
 
@@ -163,7 +171,7 @@ module _ (f : Feed) (xs : List ℕ) (i : ℕ) where
   fed_end h = rw (drop_of_length-le xs h)
 
 -- none after a fault changes anything
-pub fed_stopped : (f : Feed) (n : ℕ) → f.stage ≡ Stopped n → (xs : List ℕ) → fed_of f xs ≡ f
+pub fed_stopped : (f : Feed) (r : Refusal) → f.stage ≡ Stopped r → (xs : List ℕ) → fed_of f xs ≡ f
 unfolding fed_of
-fed_stopped f n p [] = refl
-fed_stopped f n p (x ∷ xs) = ap (λ g. fed_of g xs) (byte_stopped f x n p) ∙ fed_stopped f n p xs
+fed_stopped f r p [] = refl
+fed_stopped f r p (x ∷ xs) = ap (λ g. fed_of g xs) (byte_stopped f x r p) ∙ fed_stopped f r p xs

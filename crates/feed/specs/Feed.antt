@@ -1,18 +1,15 @@
 -- A record fed byte by byte: what is kept of the bytes so far, and what they come to.
 -- Assumes nothing.
-use Rattle.std.specs.Prelude.{ℕ, ◌+◌, ◌-◌, ◌≤◌, ◌<◌, Bool, true, false, ◌&&◌, cond, List, [], ◌∷◌, ◌≡◌, eqb, leb, ltb, length, replicate, set, take}
+use Rattle.std.specs.Prelude.{ℕ, ◌+◌, ◌-◌, ◌≤◌, ◌<◌, Bool, true, false, ◌&&◌, cond, List, [], ◌∷◌, ◌≡◌, eqb, leb, ltb, length, replicate, set, take, Some, None, Ok, Err}
+use Rattle.decide.specs.declared.refusal.Refusal.{Refusal}
+use Rattle.decide.specs.Number.{refusal_of}
 use Rattle.shaper.specs.Limits.{most_events}
 use Rattle.shaper.specs.Kind.{event_of}
 use Rattle.summary.specs.declared.Summary.{Summary}
-use Rattle.summary.specs.declared.Answer.{Answer}
 use Rattle.summary.specs.Range.{in_range}
-use Rattle.summary.specs.Answer.{empty_answer, counted_answer, join_next}
-use Rattle.record.specs.declared.Header.{Header}
-use Rattle.record.specs.declared.Header.TheVariants.{Settings, Unreadable}
-use Rattle.record.specs.declared.Step.{Step}
-use Rattle.record.specs.declared.Step.TheVariants.{Stands, End, Faulty}
+use Rattle.summary.specs.Answer.{Answer, empty_answer, counted_answer, join_next}
 use Rattle.record.specs.Read.{is_run}
-use Rattle.record.specs.Step.{header_of_of, step_within}
+use Rattle.record.specs.Step.{Header, Step, header_of_of, step_within}
 use Rattle.account.specs.Account.{events_of}
 use Rattle.feed.specs.declared.Stage.{Stage}
 use Rattle.feed.specs.declared.Stage.TheVariants.{Heading, Summing, Stopped}
@@ -23,19 +20,19 @@ use Rattle.feed.specs.declared.Front.{Front}
 
 -- a summary goes on, and a refusal is the record's fault
 abbrev pub stage_of : Answer → Stage
-stage_of (Answer.Summed s) = Summing s
-stage_of (Answer.Refused n) = Stopped n
+stage_of (Ok s) = Summing s
+stage_of (Err r) = Stopped r
 
 -- behind a header: no event yet, or the header's fault
 abbrev pub opened_by : Header → Stage
-opened_by (Settings l) = stage_of (empty_answer l)
-opened_by (Unreadable n) = Stopped n
+opened_by (Ok l) = stage_of (empty_answer l)
+opened_by (Err r) = Stopped r
 
 -- behind an item: its events are joined in one step, however many they are (`counted_one_by_one` of summary: as one by one), or its fault
 abbrev pub passed_by : Summary → Step → Stage
-passed_by s (Stands k v c next) = stage_of (join_next s (counted_answer s.limits (event_of k v) c))
-passed_by s End = Summing s
-passed_by s (Faulty n) = Stopped n
+passed_by s (Ok (Some i)) = stage_of (join_next s (counted_answer s.limits (event_of i.kind i.number) i.count))
+passed_by s (Ok None) = Summing s
+passed_by s (Err r) = Stopped r
 
 -- an event has 6 bytes and a run 10, by the kind: that is bytes 2 and 3
 unfoldable pub item_size : List ℕ → ℕ
@@ -44,8 +41,8 @@ item_size xs = cond (is_run xs) 10 6
 -- a header is the 14 bytes held, an item the first 6 or 10; 9: an item that stands for more events than may come
 abbrev pub next_stage : Stage → List ℕ → Stage
 next_stage Heading xs = opened_by (header_of_of xs)
-next_stage (Summing s) xs = passed_by s (step_within 9 (most_events - s.events) s.limits.mtu (take (item_size xs) xs) 0)
-next_stage (Stopped n) xs = Stopped n
+next_stage (Summing s) xs = passed_by s (step_within (refusal_of 9) (most_events - s.events) s.limits.mtu (take (item_size xs) xs) 0)
+next_stage (Stopped r) xs = Stopped r
 
 -- ---- a byte more
 
@@ -61,15 +58,15 @@ held_byte size f b =
     (record { stage = next_stage f.stage (set f.pending f.held b); pending = none_held; held = 0 })
 
 -- past a fault
-abbrev pub stopped_at : Feed → ℕ → Feed
-stopped_at f n = record { stage = Stopped n; pending = f.pending; held = f.held }
+abbrev pub stopped_at : Feed → Refusal → Feed
+stopped_at f r = record { stage = Stopped r; pending = f.pending; held = f.held }
 
 -- A header has 14 bytes, and an item 6 or 10: its kind is held before as many are. Within a record the earliest fault counts, and any byte after the millionth event
 -- gives 9.
 abbrev pub fed_at : Stage → Feed → ℕ → Feed
 fed_at Heading f b = held_byte 14 f b
-fed_at (Summing s) f b = cond (leb most_events s.events) (stopped_at f 9) (held_byte (item_size f.pending) f b)
-fed_at (Stopped n) f b = f
+fed_at (Summing s) f b = cond (leb most_events s.events) (stopped_at f (refusal_of 9)) (held_byte (item_size f.pending) f b)
+fed_at (Stopped r) f b = f
 
 unfoldable pub fed_byte : Feed → ℕ → Feed
 fed_byte f b = fed_at f.stage f b
@@ -110,16 +107,16 @@ pub record AtOnce (s : Summary) (xs : List ℕ) (front : Front) : Type 0 where
 abbrev pub ends_at : Stage → Bool
 ends_at Heading = false
 ends_at (Summing s) = false
-ends_at (Stopped n) = true
+ends_at (Stopped r) = true
 
 unfoldable pub ends_of : Feed → Bool
 ends_of f = ends_at f.stage
 
 -- 2: bytes are not a whole record: the header or an item is cut short.
 abbrev pub finish_at : Stage → ℕ → Answer
-finish_at Heading held = Answer.Refused 2
-finish_at (Summing s) held = cond (eqb held 0) (Answer.Summed s) (Answer.Refused 2)
-finish_at (Stopped n) held = Answer.Refused n
+finish_at Heading held = Err (refusal_of 2)
+finish_at (Summing s) held = cond (eqb held 0) (Ok s) (Err (refusal_of 2))
+finish_at (Stopped r) held = Err r
 
 unfoldable pub finish_of : Feed → Answer
 finish_of f = finish_at f.stage f.held

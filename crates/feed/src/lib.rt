@@ -3,17 +3,18 @@
 
 ghost use Rattle.std.specs.Prelude.{true, ◌≡◌, length, drop, set, ◌+◌, ◌<◌, ◌≤◌};
 ghost use Rattle.summary.specs.Range.{in_range};
+ghost use Rattle.feed.specs.declared.Stage.TheVariants.{Heading, Summing};
 ghost use Rattle.feed.specs.Feed.{start_of, stage_of, item_size, next_stage, held_byte, stopped_at, fed_byte, fed_of, with_items, may_sum, AtOnce, ends_of, finish_of};
 
-use record::{Header, Step};
-use summary::{Answer, Summary};
+use decide::Refusal;
+use summary::Summary;
 
 // How far a record has come: in its header, among its events with the summary of those before, or past its earliest fault.
 #[derive(Clone, Copy)]
 pub enum Stage {
     Heading,
     Summing(Summary),
-    Stopped(u64),
+    Stopped(Refusal),
 }
 
 // A record's bytes so far: the stage, and the bytes of a header or an item that is not yet whole.
@@ -39,7 +40,7 @@ impl Feed {
         let pending = [0u8; 14];
         Feed {
             stage: Stage::Heading,
-            pending: pending,
+            pending,
             held: 0,
         }
     }
@@ -48,15 +49,13 @@ impl Feed {
     pub fn byte(self, b: u8) -> Feed
         ensures { result ≡ fed_byte self b }
     {
-        let stage = self.stage;
-        match stage {
+        match self.stage {
             Stage::Heading => self.hold(Feed::HEADER, b),
             Stage::Summing(sum) => {
                 if Summary::MAX_EVENTS <= sum.events {
-                    return self.stopped(9);
+                    return self.stopped(Refusal::TooMany);
                 }
-                let pending = self.pending;
-                self.hold(held_size(pending), b)
+                self.hold(held_size(self.pending), b)
             }
             Stage::Stopped(_) => self,
         }
@@ -67,13 +66,11 @@ impl Feed {
         ensures { result ≡ fed_of self chunk.now }
     {
         let mut next = self;
-        let mut i = 0;
-        while i < chunk.len() {
+        for (i, &b) in chunk.iter().enumerate() {
             if next.is_between() {
                 return next.items(&chunk[i..]);
             }
-            next = next.byte(chunk[i]);
-            i += 1;
+            next = next.byte(b);
         }
         next
     }
@@ -82,38 +79,30 @@ impl Feed {
     pub fn ends(self) -> bool
         ensures { result ≡ ends_of self }
     {
-        let stage = self.stage;
-        match stage {
-            Stage::Heading => false,
-            Stage::Summing(_) => false,
-            Stage::Stopped(_) => true,
-        }
+        matches!(self.stage, Stage::Stopped(_))
     }
 
-    // What the bytes so far come to as a whole record: its summary, or the number of its earliest fault.
-    pub fn finish(self) -> Answer
+    // What the bytes so far come to as a whole record: its summary, or its earliest fault.
+    pub fn finish(self) -> Result<Summary, Refusal>
         ensures { result ≡ finish_of self }
     {
-        let stage = self.stage;
-        match stage {
-            Stage::Heading => Answer::Refused(2),
+        match self.stage {
+            Stage::Heading => Err(Refusal::NotWhole),
             Stage::Summing(sum) => {
                 if 0 < self.held {
-                    return Answer::Refused(2);
+                    return Err(Refusal::NotWhole);
                 }
-                Answer::Summed(sum)
+                Ok(sum)
             }
-            Stage::Stopped(n) => Answer::Refused(n),
+            Stage::Stopped(fault) => Err(fault),
         }
     }
 
     // Whether an item begins here, or a fault was seen: from here on a chunk need not go byte by byte.
     fn is_between(self) -> bool {
-        let held = self.held;
-        let stage = self.stage;
-        match stage {
+        match self.stage {
             Stage::Heading => false,
-            Stage::Summing(_) => held == 0,
+            Stage::Summing(_) => self.held == 0,
             Stage::Stopped(_) => true,
         }
     }
@@ -123,10 +112,8 @@ impl Feed {
         ensures { result ≡ fed_of self chunk.now }
     {
         let mut next = self;
-        let mut i = 0;
-        while i < chunk.len() {
-            next = next.byte(chunk[i]);
-            i += 1;
+        for &b in chunk {
+            next = next.byte(b);
         }
         next
     }
@@ -135,8 +122,7 @@ impl Feed {
     fn items(self, chunk: &[u8]) -> Feed
         ensures { result ≡ fed_of self chunk.now }
     {
-        let stage = self.stage;
-        match stage {
+        match self.stage {
             Stage::Heading => self.bytes(chunk),
             Stage::Summing(sum) => {
                 if !may_sum(sum, self.held, chunk.len()) {
@@ -144,18 +130,17 @@ impl Feed {
                 }
                 let front = at_once(sum, chunk);
                 let end = front.end;
-                let answer = front.answer;
-                match answer {
-                    Answer::Summed(all) => {
+                match front.answer {
+                    Ok(all) => {
                         let pending = [0u8; 14];
                         let next = Feed {
                             stage: Stage::Summing(all),
-                            pending: pending,
+                            pending,
                             held: 0,
                         };
                         next.bytes(&chunk[end..])
                     }
-                    Answer::Refused(_) => self.bytes(chunk),
+                    Err(_) => self.bytes(chunk),
                 }
             }
             Stage::Stopped(_) => self,
@@ -172,28 +157,28 @@ impl Feed {
         let stage = self.stage;
         if held as u64 + 1 < size as u64 {
             return Feed {
-                stage: stage,
-                pending: pending,
+                stage,
+                pending,
                 held: held + 1,
             };
         }
         let stage = next_stage(stage, pending);
         let pending = [0u8; 14];
         Feed {
-            stage: stage,
-            pending: pending,
+            stage,
+            pending,
             held: 0,
         }
     }
 
     // The record past a fault.
-    fn stopped(self, number: u64) -> Feed
-        ensures { result ≡ stopped_at self number }
+    fn stopped(self, fault: Refusal) -> Feed
+        ensures { result ≡ stopped_at self fault }
     {
         let pending = self.pending;
         Feed {
-            stage: Stage::Stopped(number),
-            pending: pending,
+            stage: Stage::Stopped(fault),
+            pending,
             held: self.held,
         }
     }
@@ -202,7 +187,7 @@ impl Feed {
 // Items at the front of a chunk that were summed at once: the summary with them or a refusal, and where they end.
 #[derive(Clone, Copy)]
 struct Front {
-    answer: Answer,
+    answer: Result<Summary, Refusal>,
     end: usize,
 }
 
@@ -220,23 +205,20 @@ fn at_once(sum: Summary, chunk: &[u8]) -> Front
 {
     let end = chunk.len() / 6 * 6;
     match with_items(sum, &chunk[..end]) {
-        Answer::Summed(all) => Front {
-            answer: Answer::Summed(all),
-            end: end,
+        Ok(all) => Front {
+            answer: Ok(all),
+            end,
         },
-        Answer::Refused(_) => {
+        Err(_) => {
             let end = items_end(chunk);
             let answer = with_items(sum, &chunk[..end]);
-            Front {
-                answer: answer,
-                end: end,
-            }
+            Front { answer, end }
         }
     }
 }
 
-// The summary with all items of some bytes more, or the number of their earliest fault.
-fn with_items(sum: Summary, items: &[u8]) -> Answer
+// The summary with all items of some bytes more, or their earliest fault.
+fn with_items(sum: Summary, items: &[u8]) -> Result<Summary, Refusal>
     requires { in_range sum ≡ true }
     ensures { result ≡ with_items sum items.now }
 {
@@ -250,6 +232,7 @@ fn items_end(chunk: &[u8]) -> usize
     ensures { (0 < result) × (result ≤ length chunk.now) }
 {
     let mut at = 0;
+    // No `for`: an item says itself how far on the next one is.
     while 10 <= chunk.len() - at {
         at += item_size(chunk, at) as usize;
     }
@@ -290,34 +273,52 @@ fn next_stage(stage: Stage, bytes: [u8; 14]) -> Stage
     ensures { result ≡ next_stage stage bytes }
 {
     match stage {
-        Stage::Heading => match record::header_of(&bytes) {
-            Header::Settings(limits) => stage_of(Summary::empty(limits)),
-            Header::Unreadable(n) => Stage::Stopped(n),
-        },
-        Stage::Summing(sum) => {
-            let end = held_size(bytes) as usize;
-            let may = record::may_come(sum.events as u64);
-            match record::event_within(&bytes[..end], 0, sum.limits.mtu, may, 9, true) {
-                Step::Stands {
-                    kind,
-                    number,
-                    count,
-                    next: _,
-                } => stage_of(sum.join_next(Summary::counted(sum.limits, kind, number, count))),
-                Step::End => Stage::Summing(sum),
-                Step::Faulty(n) => Stage::Stopped(n),
-            }
-        }
-        Stage::Stopped(n) => Stage::Stopped(n),
+        Stage::Heading => Stage::from(opened(bytes)),
+        Stage::Summing(sum) => Stage::from(passed(sum, bytes)),
+        Stage::Stopped(fault) => Stage::Stopped(fault),
+    }
+}
+
+// The summary of no event under the settings of a header, or the header's fault.
+fn opened(bytes: [u8; 14]) -> Result<Summary, Refusal>
+    ensures { stage_of result ≡ next_stage Heading bytes }
+{
+    let limits = record::header_of(&bytes)?;
+    Summary::empty(limits)
+}
+
+// The summary with the events of an item more, or the item's fault.
+fn passed(sum: Summary, bytes: [u8; 14]) -> Result<Summary, Refusal>
+    ensures { stage_of result ≡ next_stage (Summing sum) bytes }
+{
+    let end = held_size(bytes) as usize;
+    let may = record::may_come(sum.events as u64);
+    match record::event_within(
+        &bytes[..end],
+        0,
+        sum.limits.mtu,
+        may,
+        Refusal::TooMany,
+        true,
+    )? {
+        Some(item) => sum.join_next(Summary::counted(
+            sum.limits,
+            item.kind,
+            item.number,
+            item.count,
+        )),
+        None => Ok(sum),
     }
 }
 
 // The stage by a summary or a refusal.
-fn stage_of(answer: Answer) -> Stage
-    ensures { result ≡ stage_of answer }
-{
-    match answer {
-        Answer::Summed(sum) => Stage::Summing(sum),
-        Answer::Refused(n) => Stage::Stopped(n),
+impl From<Result<Summary, Refusal>> for Stage {
+    ghost from_gives = { λ answer stage. stage ≡ stage_of answer };
+
+    fn from(answer: Result<Summary, Refusal>) -> Stage {
+        match answer {
+            Ok(sum) => Stage::Summing(sum),
+            Err(fault) => Stage::Stopped(fault),
+        }
     }
 }

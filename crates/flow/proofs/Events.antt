@@ -1,6 +1,7 @@
 -- Each call feeds each shaper the events that it is to it: a tick one event, a charge one send to each shaper that was asked and permitted, all else
 -- nothing. Assumes nothing.
 use Prim.Native.Nat.{ℕ, ◌≤◌}
+use Rattle.std.specs.Prelude.{Result}
 use mathlib.Core.Bool.{Bool, true, false, cond, ◌&&◌}
 use mathlib.Core.List.{List, [], ◌∷◌, ◌++◌}
 use mathlib.Core.Path.{◌≡◌, refl, ap, sym, subst, ◌∙◌}
@@ -12,6 +13,8 @@ use Rattle.decide.proofs.Refused.{of_answer}
 use Rattle.shaper.specs.declared.Event.{Event}
 use Rattle.shaper.specs.declared.Event.TheVariants.{Send}
 use Rattle.shaper.specs.Credit.{AllValid, Permitted, end_credit}
+use Rattle.shaper.specs.declared.Refused.{Refused}
+use Rattle.shaper.specs.Refused.{number_said, afterwards}
 use Rattle.shaper.specs.Credit as shaper
 use Rattle.shaper.proofs.Credit.{end_append, permitted_append, valid_append}
 use Rattle.queue.specs.declared.Frame.{Frame}
@@ -27,13 +30,12 @@ use Rattle.credits.specs.Way.{needs_of, mark_of, way_of}
 use Rattle.credits.proofs.Charge.{permits_member}
 use Rattle.credits.proofs.Range.{bucket_ok_lem, credit_fed}
 use Rattle.flow.specs.declared.Client.{Client}
-use Rattle.flow.specs.declared.Entered.{Entered}
 use Rattle.flow.specs.declared.Flow.{Flow}
 use Rattle.flow.specs.declared.Line.{Line}
 use Rattle.flow.specs.declared.Line.TheVariants.{Control, Primary, Secondary}
 use Rattle.flow.specs.Parts.{stage_holds, with_queue}
 use Rattle.flow.specs.Tick.{waits, amount_of, tick_events, tick_of}
-use Rattle.flow.specs.Offer.{enter_of, refused_of, client_as, client_of}
+use Rattle.flow.specs.Offer.{Entered, enter_of, refused_of, mark_said, flow_after, client_as, client_of}
 use Rattle.flow.specs.Events.{no_events, client_events, Feeds}
 use Rattle.flow.proofs.Offer.{client_full, client_barred, client_over, client_taken, way_back_lem}
 
@@ -103,13 +105,13 @@ module _ (s : Settings) (f : Flow) where
   queue_credits Secondary q = refl
 
   -- transit and control frames are charged to nobody
-  pub enter_feeds : (l : Line) (x : Frame) → Feeds s f (enter_of s f l x).flow no_events
+  pub enter_feeds : (l : Line) (x : Frame) → Feeds s f (afterwards f (enter_of s f l x)) no_events
   enter_feeds l x =
-      none_feeds (enter_of s f l x).flow (of_answer _ _ (λ (r : Entered). r.flow.credits ≡ f.credits) _ (λ e. queue_credits l _) (λ e. refl))
+      none_feeds (afterwards f (enter_of s f l x)) (of_answer _ _ (λ (r : Entered). (afterwards f r).credits ≡ f.credits) _ (λ e. queue_credits l _) (λ e. refl))
 
   -- one send per charge
   pub client_feeds : (class size hops : ℕ) (over : Bool) → (16 ≤ size) × (size ≤ s.mtu)
-      → Feeds s f (client_of s f class size hops over).flow (client_events class size (client_of s f class size hops over))
+      → let r = client_of s f class size hops over in Feeds s f (flow_after f r) (client_events class size (number_said r) (mark_said r))
   client_feeds class size hops over h =
       by_cases (true_or_false (stage_holds f)) (λ e. refused 5 0 refl (client_full w s f class size hops over e))
       (λ e. by_cases (true_or_false (permits_all s f.credits (needs_of w)))
@@ -121,10 +123,10 @@ module _ (s : Settings) (f : Flow) where
       w : Way
       w = way_of s f.credits class
 
-      Fed : Client → Type 0
-      Fed r = Feeds s f r.flow (client_events class size r)
+      Fed : Result Client Refused → Type 0
+      Fed r = Feeds s f (flow_after f r) (client_events class size (number_said r) (mark_said r))
 
-      refused : (n detail : ℕ) → eqb n 0 ≡ false → client_as w s f class size hops over ≡ refused_of f n detail → Fed (client_as w s f class size hops over)
+      refused : (n detail : ℕ) → eqb (number_said (refused_of n detail)) 0 ≡ false → client_as w s f class size hops over ≡ refused_of n detail → Fed (client_as w s f class size hops over)
       refused n detail z e = subst Fed (sym e) (rw z (none_feeds f refl))
 
 -- ---- one call after another

@@ -14,7 +14,8 @@ use Rattle.credits.specs.declared.Credits.{Credits}
 use Rattle.credits.specs.Way.{way_of}
 use Rattle.flow.specs.declared.Flow.{Flow}
 use Rattle.flow.specs.Tick.{tick_of}
-use Rattle.flow.specs.Offer.{client_of}
+use Rattle.shaper.specs.Refused.{number_said, detail_said}
+use Rattle.flow.specs.Offer.{client_of, mark_said, flow_after}
 
 -- mtu 64; each shaper loLimit 100, hiLimit 300, amount 50; control and primary queue 100 bytes, secondary 128; 6 stations
 abbrev pub settings : Settings
@@ -64,17 +65,17 @@ pub record Examples : Type 0 where
   -- a control frame and a secondary one wait: M has 140, and so has D
   pub queues_wait : (tick_of settings (flow (credits 90 90 90) (16 ∷ []) [] (16 ∷ []) 0) 51 false false false).credits ≡ record { m = 140; a = 100; b = 100; c = 100; d = 140 }
   -- Client B of 40 bytes: B lacks at 100, so it is excess, marked, and C and D pay; where B has 101 it pays with D, unmarked; where D lacks it is 6.
-  pub excess : (client_of settings (flow (credits 100 200 200) [] [] [] 0) 1 40 3 false).mark ≡ 1
-  pub excess_pays : (client_of settings (flow (credits 100 200 200) [] [] [] 0) 1 40 3 false).flow.credits ≡ credits 100 160 160
-  pub own_rate : (client_of settings (flow (credits 101 200 200) [] [] [] 0) 1 40 3 false).mark ≡ 0
-  pub own_pays : (client_of settings (flow (credits 101 200 200) [] [] [] 0) 1 40 3 false).flow.credits ≡ record { m = 101; a = 101; b = 61; c = 200; d = 160 }
-  pub d_lacks : (client_of settings (flow (credits 101 200 100) [] [] [] 0) 1 40 3 false).number ≡ 6
+  pub excess : mark_said (client_of settings (flow (credits 100 200 200) [] [] [] 0) 1 40 3 false) ≡ 1
+  pub excess_pays : (flow_after (flow (credits 100 200 200) [] [] [] 0) (client_of settings (flow (credits 100 200 200) [] [] [] 0) 1 40 3 false)).credits ≡ credits 100 160 160
+  pub own_rate : mark_said (client_of settings (flow (credits 101 200 200) [] [] [] 0) 1 40 3 false) ≡ 0
+  pub own_pays : (flow_after (flow (credits 101 200 200) [] [] [] 0) (client_of settings (flow (credits 101 200 200) [] [] [] 0) 1 40 3 false)).credits ≡ record { m = 101; a = 101; b = 61; c = 200; d = 160 }
+  pub d_lacks : number_said (client_of settings (flow (credits 101 200 100) [] [] [] 0) 1 40 3 false) ≡ 6
   -- How far short: D lacks 1. At credits of 50, 60 and 90, A and B lack 51, C 41 and D 11: A is told its own, and B, tried as excess, the larger of C's and D's;
   -- with C and D exchanged the same.
-  pub d_short : (client_of settings (flow (credits 101 200 100) [] [] [] 0) 1 40 3 false).detail ≡ 1
-  pub a_short : (client_of settings (flow (credits 50 60 90) [] [] [] 0) 0 40 3 false).detail ≡ 51
-  pub excess_short : (client_of settings (flow (credits 50 60 90) [] [] [] 0) 1 40 3 false).detail ≡ 41
-  pub d_larger : (client_of settings (flow (credits 50 90 60) [] [] [] 0) 2 40 3 false).detail ≡ 41
+  pub d_short : detail_said (client_of settings (flow (credits 101 200 100) [] [] [] 0) 1 40 3 false) ≡ 1
+  pub a_short : detail_said (client_of settings (flow (credits 50 60 90) [] [] [] 0) 0 40 3 false) ≡ 51
+  pub excess_short : detail_said (client_of settings (flow (credits 50 60 90) [] [] [] 0) 1 40 3 false) ≡ 41
+  pub d_larger : detail_said (client_of settings (flow (credits 50 90 60) [] [] [] 0) 2 40 3 false) ≡ 41
 
 pub examples : Examples
 unfolding tick_of way_of refused_or first_of first pushed empty_queue

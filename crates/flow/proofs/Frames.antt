@@ -1,11 +1,14 @@
 -- Where the frames are, as lists: an offer appends its frame, and neither it nor a tick moves another.
 -- Assumes nothing.
 use Prim.Native.Nat.{ℕ, ◌≤◌}
+use Rattle.std.specs.Prelude.{Result}
 use mathlib.Core.Bool.{Bool}
 use mathlib.Core.List.{[], ◌∷◌, ◌++◌}
 use mathlib.Core.Path.{◌≡◌, refl, ap, ◌∙◌}
 use native.Mathlib.Omega.{arith}
 use borrow.Author.Tests.{lt-ltb}
+use Rattle.decide.specs.Refusal.{first_of}
+use Rattle.decide.proofs.Number.{number_told}
 use Rattle.decide.proofs.Refused.{of_answer}
 use Rattle.queue.specs.declared.Frame.{Frame}
 use Rattle.queue.specs.declared.Queue.{Queue}
@@ -23,7 +26,9 @@ use Rattle.flow.specs.declared.Line.TheVariants.{Control, Primary, Secondary}
 use Rattle.flow.specs.Parts.{queue_of, capacity_of, bounds_of, with_queue}
 use Rattle.flow.specs.Range.{FlowOk}
 use Rattle.flow.specs.Tick.{start_of, tick_of}
-use Rattle.flow.specs.Offer.{enter_of, client_frame, client_of}
+use Rattle.shaper.specs.declared.Refused.{Refused}
+use Rattle.shaper.specs.Refused.{number_said, afterwards}
+use Rattle.flow.specs.Offer.{enter_of, client_faults, client_frame, flow_after, client_of}
 use Rattle.flow.proofs.Kept.{client_frame_ok}
 use Rattle.flow.proofs.Offer.{enter_taken}
 use Rattle.flow.proofs.Range.{bounds_ok, start_queue}
@@ -52,18 +57,19 @@ module _ (s : Settings) (f : Flow) where
 
   -- a frame that fits stands last in its queue
   pub enter_appends : SettingsOk s → FlowOk s f → (l : Line) (x : Frame) → HeldOk (bounds_of s) x → x.size ≤ space_of (queue_of f l) (capacity_of s l)
-      → frames_of (queue_of (enter_of s f l x).flow l) ≡ frames_of (queue_of f l) ++ (x ∷ [])
+      → frames_of (queue_of (afterwards f (enter_of s f l x)) l) ≡ frames_of (queue_of f l) ++ (x ∷ [])
   enter_appends good ok l x h fits =
       rw (enter_taken s f l x fits, same_queue f l (pushed (queue_of f l) x)) (push_appends (ok.queues l) x (bounds_ok good) h fits)
 
 module _ {s : Settings} (good : SettingsOk s) (f : Flow) where
   -- a client frame that is taken lies in the stage, marked where it is excess
   pub client_stages : (class size hops : ℕ) (over : Bool) → FrameOk (bounds_of s) (record { size = size; hops = hops; class = class; mark = 0 })
-      → (client_of s f class size hops over).number ≡ 0
-      → stage_frames (client_of s f class size hops over).flow ≡ client_frame (way_of s f.credits class) class size hops ∷ []
+      → number_said (client_of s f class size hops over) ≡ 0
+      → stage_frames (flow_after f (client_of s f class size hops over)) ≡ client_frame (way_of s f.credits class) class size hops ∷ []
   client_stages class size hops over h =
       let x = client_frame (way_of s f.credits class) class size hops in
       let ok = client_frame_ok good f class size hops h in
-      of_answer _ _ (λ (r : Client). r.number ≡ 0 → stage_frames r.flow ≡ x ∷ []) _
+      let n = first_of (client_faults s f (way_of s f.credits class) over) in
+      of_answer _ _ (λ (r : Result Client Refused). number_said r ≡ 0 → stage_frames (flow_after f r) ≡ x ∷ []) n
       (λ z e. rw (lt-ltb 0 (word_of x) (word_not_empty (bounds_ok good) ok), word_frame x (frame_fits (bounds_ok good) ok)))
-      (λ z e. absurd (omega arith))
+      (λ z e. absurd (omega (arith, z, number_told n, e)))

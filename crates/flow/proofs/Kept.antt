@@ -1,6 +1,7 @@
 -- Ticks and offers keep the range: a queue by the law of pushing, credits by those of events, the stage by its frame's range.
 -- Assumes nothing.
 use Prim.Native.Nat.{ℕ}
+use Rattle.std.specs.Prelude.{Result}
 use mathlib.Core.Bool.{Bool}
 use mathlib.Core.List.{List}
 use mathlib.Core.Logic.{◌⊎◌, inr}
@@ -8,6 +9,8 @@ use mathlib.Core.Path.{◌≡◌}
 use Rattle.decide.proofs.Cases.{by_cases, le_or}
 use Rattle.decide.proofs.Refused.{of_answer}
 use Rattle.shaper.specs.declared.Event.{Event}
+use Rattle.shaper.specs.declared.Refused.{Refused}
+use Rattle.shaper.specs.Refused.{afterwards}
 use Rattle.queue.specs.declared.Frame.{Frame}
 use Rattle.queue.specs.declared.Queue.{Queue}
 use Rattle.queue.specs.Frame.{FrameOk, HeldOk, frame_of, word_of}
@@ -29,7 +32,7 @@ use Rattle.flow.specs.declared.Line.TheVariants.{Control, Primary, Secondary}
 use Rattle.flow.specs.Parts.{queue_of, capacity_of, bounds_of, with_credits, with_stage, with_queue}
 use Rattle.flow.specs.Range.{FlowOk}
 use Rattle.flow.specs.Tick.{tick_events, tick_of}
-use Rattle.flow.specs.Offer.{enter_of, queue_for, transit_of, control_frame, control_of, client_frame, client_of}
+use Rattle.flow.specs.Offer.{enter_of, queue_for, transit_of, control_frame, control_of, client_frame, flow_after, client_of}
 use Rattle.flow.proofs.Offer.{enter_refused, enter_taken}
 use Rattle.flow.proofs.Range.{bounds_ok, by_line}
 
@@ -67,16 +70,16 @@ module _ {s : Settings} (good : SettingsOk s) where
   unfolding tick_of
   tick_kept {f} ok share a b c = credits_kept ok good (tick_events s f share a b c)
 
-  enter_kept : {f : Flow} (l : Line) (x : Frame) → FlowOk s f → HeldOk (bounds_of s) x → FlowOk s (enter_of s f l x).flow
+  enter_kept : {f : Flow} (l : Line) (x : Frame) → FlowOk s f → HeldOk (bounds_of s) x → FlowOk s (afterwards f (enter_of s f l x))
   enter_kept {f} l x ok h =
       by_cases (le_or x.size (space_of (queue_of f l) (capacity_of s l)))
       (λ fits. rw (enter_taken s f l x fits) (queue_kept ok l (pushed (queue_of f l) x) (push_ok (ok.queues l) x (bounds_ok good) h fits)))
       (λ over. rw (enter_refused s f l x over) ok)
 
-  pub transit_kept : {f : Flow} (x : Frame) → FlowOk s f → HeldOk (bounds_of s) x → FlowOk s (transit_of s f x).flow
+  pub transit_kept : {f : Flow} (x : Frame) → FlowOk s f → HeldOk (bounds_of s) x → FlowOk s (afterwards f (transit_of s f x))
   transit_kept x ok h = enter_kept (queue_for s x.class) x ok h
 
-  pub control_kept : {f : Flow} (size : ℕ) → FlowOk s f → HeldOk (bounds_of s) (control_frame size) → FlowOk s (control_of s f size).flow
+  pub control_kept : {f : Flow} (size : ℕ) → FlowOk s f → HeldOk (bounds_of s) (control_frame size) → FlowOk s (afterwards f (control_of s f size))
   control_kept size ok h = enter_kept Control (control_frame size) ok h
 
   -- a frame that is given without a mark is in range as it lies in the stage
@@ -93,10 +96,10 @@ module _ {s : Settings} (good : SettingsOk s) where
       }
 
   pub client_kept : {f : Flow} (class size hops : ℕ) (over : Bool) → FlowOk s f → HeldOk (bounds_of s) (record { size = size; hops = hops; class = class; mark = 0 })
-      → FlowOk s (client_of s f class size hops over).flow
+      → FlowOk s (flow_after f (client_of s f class size hops over))
   client_kept {f} class size hops over ok h =
       let x = client_frame (way_of s f.credits class) class size hops in
       let inside = client_frame_ok f class size hops h.frame in
-      of_answer _ _ (λ (r : Client). FlowOk s r.flow) _
+      of_answer _ _ (λ (r : Result Client Refused). FlowOk s (flow_after f r)) _
       (λ e. stage_kept (credits_kept ok good (sends (needs_of (way_of s f.credits class)) size)) (word_of x) (inr (rw (word_frame x (frame_fits (bounds_ok good) inside)) (record { frame = inside; ring = h.ring }))))
       (λ e. ok)

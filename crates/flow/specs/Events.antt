@@ -10,7 +10,6 @@ use Rattle.credits.specs.declared.Way.TheVariants.{ClassA, ClassB, Excess}
 use Rattle.credits.specs.declared.Which.{Which}
 use Rattle.credits.specs.Which.{credit_of, limits_for, sends}
 use Rattle.credits.specs.Way.{needs_of}
-use Rattle.flow.specs.declared.Client.{Client}
 use Rattle.flow.specs.declared.Flow.{Flow}
 
 -- transit and control frames are charged to nobody
@@ -21,9 +20,9 @@ no_events w = []
 abbrev pub way_back : ℕ → ℕ → Way
 way_back class mark = cond (eqb class 0) ClassA (cond (eqb mark 0) ClassB Excess)
 
--- a client frame that was taken
-abbrev pub client_events : ℕ → ℕ → Client → Which → List Event
-client_events class size r = sends (cond (eqb r.number 0) (needs_of (way_back class r.mark)) []) size
+-- a client frame that was taken, by the number and the mark that were answered
+abbrev pub client_events : ℕ → ℕ → ℕ → ℕ → Which → List Event
+client_events class size number mark = sends (cond (eqb number 0) (needs_of (way_back class mark)) []) size
 
 -- From f to g each shaper saw these events: its credit is theirs, every send was permitted at its place, and each is an event of a record.
 pub record Feeds (s : Settings) (f g : Flow) (events : Which → List Event) : Type 0 where

@@ -1,5 +1,5 @@
 // The frames of a station and the credits that let them go: five shapers, three queues and the stage. Settings are lent to each call
-// that needs them, and a call answers the flow afterwards.
+// that needs them, and a call answers the flow afterwards, or a refusal: then the flow stays as it was.
 #![tactic(auto)]
 
 ghost use Rattle.std.specs.Prelude.{◌≡◌, min};
@@ -37,20 +37,9 @@ pub enum Line {
     Secondary,
 }
 
-// What an offer to a queue answers: 0, or 4 where the frame exceeds its space, and the flow afterwards. `detail`, here and below, is what a refusal says
-// beside its number: of 6 how far short the shapers are, else 0.
-#[derive(Clone, Copy)]
-pub struct Entered {
-    pub number: u8,
-    pub detail: u64,
-    pub flow: Flow,
-}
-
-// What a client's offer answers: 0, or 5, 6 or 7; the mark that its frame was given; and the flow afterwards.
+// A client's frame that was taken: the mark that it was given, and the flow afterwards.
 #[derive(Clone, Copy)]
 pub struct Client {
-    pub number: u8,
-    pub detail: u64,
     pub mark: u32,
     pub flow: Flow,
 }
@@ -70,7 +59,7 @@ impl Flow {
         };
         let empty = Queue::empty();
         Flow {
-            credits: credits,
+            credits,
             control: empty,
             primary: empty,
             secondary: empty,
@@ -180,10 +169,7 @@ fn ticked(bucket: Bucket, mtu: u32, credit: u32, waiting: bool, amount: u32) -> 
     ensures { result ≡ next (limits_of mtu bucket) credit (shaper.tick_of waiting amount) }
 {
     let limits = bucket.limits(mtu);
-    let before = Shaper {
-        limits: limits,
-        credit: credit,
-    };
+    let before = Shaper { limits, credit };
     let after = before.tick(waiting, amount);
     after.credit
 }

@@ -2,16 +2,18 @@
 ghost use Rattle.std.specs.Prelude.{◌≡◌};
 ghost use Rattle.queue.specs.Queue.{space_of};
 ghost use Rattle.flow.specs.Parts.{queue_of, capacity_of};
-ghost use Rattle.flow.specs.Offer.{Offered, enter_of, queue_for, transit_of, control_frame, control_of, refused_of, client_of};
+ghost use Rattle.flow.specs.Offer.{Offered, enter_of, queue_for, transit_of, control_frame, control_of, client_of};
 
-use crate::{Client, Entered, Flow, Line};
+use crate::{Client, Flow, Line};
 use credits::{CLASS_A, MARKED};
+use decide::Refusal;
 use queue::Frame;
 use settings::Settings;
+use shaper::Refused;
 
 impl Flow {
     // Takes a transit frame into the queue of its class.
-    pub fn transit(self, settings: Settings, frame: Frame) -> Entered
+    pub fn transit(self, settings: Settings, frame: Frame) -> Result<Flow, Refused>
         requires { Offered settings self frame }
         ensures { result ≡ transit_of settings self frame }
     {
@@ -20,12 +22,12 @@ impl Flow {
     }
 
     // Takes a control frame of this size into the control queue.
-    pub fn control(self, settings: Settings, size: u32) -> Entered
+    pub fn control(self, settings: Settings, size: u32) -> Result<Flow, Refused>
         requires { Offered settings self (control_frame size) }
         ensures { result ≡ control_of settings self size }
     {
         let frame = Frame {
-            size: size,
+            size,
             hops: 1,
             class: CLASS_A,
             mark: 0,
@@ -33,52 +35,45 @@ impl Flow {
         self.enter(settings, Line::Control, frame)
     }
 
-    // Takes a client frame into the stage. over says whether, as an eligible frame, it would pass the congested fair rate.
-    pub fn client(self, settings: Settings, class: u32, size: u32, hops: u32, over: bool) -> Client
+    // Takes a client frame into the stage, or turns it down by `StageHolds`, `NoCredit` and how far short, or `OverRate`. over says whether, as an eligible frame, it would pass the congested fair rate.
+    pub fn client(
+        self,
+        settings: Settings,
+        class: u32,
+        size: u32,
+        hops: u32,
+        over: bool,
+    ) -> Result<Client, Refused>
         ensures { result ≡ client_of settings self class size hops over }
     {
         if self.stage_holds() {
-            return self.refused(5, 0);
+            return Err(Refusal::StageHolds.into());
         }
         let credits = self.credits;
         let way = credits.way(settings, class);
         let short = credits.short_all(settings, way);
         if 0 < short {
-            return self.refused(6, short);
+            return Err(Refused {
+                refusal: Refusal::NoCredit,
+                detail: short,
+            });
         }
         let mark = way.mark();
         if (mark == MARKED) & over {
-            return self.refused(7, 0);
+            return Err(Refusal::OverRate.into());
         }
         let paid = credits.pay(settings, way, size);
         let frame = Frame {
-            size: size,
-            hops: hops,
-            class: class,
-            mark: mark,
+            size,
+            hops,
+            class,
+            mark,
         };
         let word = frame.word();
         let mut next = self;
         next.credits = paid;
         next.stage = word;
-        Client {
-            number: 0,
-            detail: 0,
-            mark: mark,
-            flow: next,
-        }
-    }
-
-    // Turns a client frame down by this number, and says this beside it: nothing is changed.
-    fn refused(self, number: u8, detail: u64) -> Client
-        ensures { result ≡ refused_of self number detail }
-    {
-        Client {
-            number: number,
-            detail: detail,
-            mark: 0,
-            flow: self,
-        }
+        Ok(Client { mark, flow: next })
     }
 
     // How large a frame may be that a queue still has room for. It is asked of the queue where it stands, so that none is copied.
@@ -92,26 +87,17 @@ impl Flow {
         }
     }
 
-    // Takes a frame into a queue, where it has the space.
-    fn enter(self, settings: Settings, line: Line, frame: Frame) -> Entered
+    // Takes a frame into a queue, or turns it down by `NoSpace`.
+    fn enter(self, settings: Settings, line: Line, frame: Frame) -> Result<Flow, Refused>
         requires { Offered settings self frame }
         ensures { result ≡ enter_of settings self line frame }
     {
         if self.space(settings, line) < frame.size {
-            return Entered {
-                number: 4,
-                detail: 0,
-                flow: self,
-            };
+            return Err(Refusal::NoSpace.into());
         }
         let queue = self.queue(line);
         let longer = queue.push(frame);
-        let next = self.with_queue(line, longer);
-        Entered {
-            number: 0,
-            detail: 0,
-            flow: next,
-        }
+        Ok(self.with_queue(line, longer))
     }
 }
 

@@ -14,6 +14,7 @@ use settings::{Address, Settings};
 // What was received: whether a station downstream is congested (1, else 0), ttl, the high 16 and the low 32 bits of the address, rate.
 #[derive(Clone, Copy)]
 pub struct Received {
+    // a number and no bool: it is a word of the station's memory, which any bytes may fill (layout: `state_of_bytes`), and `in_range` tests it
     pub downstream: u32,
     pub ttl: u32,
     pub high: u32,
@@ -57,14 +58,14 @@ impl Received {
 pub fn ttl_ok(ttl: u32) -> bool
     ensures { result ≡ test (ttl_ok ttl) }
 {
-    (193 <= ttl) & (ttl <= 255)
+    (193..=255).contains(&ttl)
 }
 
 // The hops to the congested station that a ttl tells of: 256 less the ttl.
 pub fn hops_of(ttl: u32) -> u32
     ensures { result ≡ hops_of ttl }
 {
-    decide::less(256, ttl as u64) as u32
+    256u32.saturating_sub(ttl)
 }
 
 // Whether the hops that a ttl tells of stay within a ring of so many stations: else refusal 13.
@@ -113,7 +114,7 @@ pub fn own_frame(settings: Settings, rate: u16) -> Advert
         ttl: 255,
         high: settings.address.high,
         low: settings.address.low,
-        rate: rate,
+        rate,
     }
 }
 
@@ -121,12 +122,12 @@ pub fn own_frame(settings: Settings, rate: u16) -> Advert
 pub fn other_ringlet(settings: Settings) -> u8
     ensures { result ≡ other_ringlet settings }
 {
-    decide::less(1, settings.ringlet as u64) as u8
+    1u32.saturating_sub(settings.ringlet) as u8
 }
 
 // Whether a received frame of this ttl goes no further: one hop more would lead round the whole ring.
 pub fn last_hop(settings: Settings, ttl: u32) -> bool
     ensures { result ≡ test (last_hop settings ttl) }
 {
-    hops_of(ttl) as u64 == decide::less(settings.site.stations as u64, 1)
+    hops_of(ttl) == settings.site.stations.saturating_sub(1)
 }

@@ -1,5 +1,6 @@
 -- Doubling comes to all the repeats, by at most two joins for each binary digit of their number.
 -- Assumes nothing.
+use Rattle.std.specs.Prelude.{Ok}
 use Prim.Native.Nat.{ℕ, zero, suc, ◌+◌, ◌-◌, ◌*◌, ◌/◌, ◌%◌, ◌^◌, ◌≤◌, ◌<◌}
 use mathlib.Core.Bool.{Bool, true, false}
 use mathlib.Core.Path.{◌≡◌, refl, sym, ap, ◌∙◌}
@@ -14,7 +15,6 @@ use Rattle.decide.specs.Test.{passes}
 use Rattle.decide.proofs.Cases.{by_cases, le_or}
 use Rattle.shaper.specs.Limits.{limits_ok}
 use Rattle.summary.specs.declared.Summary.{Summary}
-use Rattle.summary.specs.declared.Answer.{Answer}
 use Rattle.summary.specs.Range.{in_range}
 use Rattle.summary.specs.Answer.{and_then, join_next}
 use Rattle.summary.proofs.Paper.{in_range_plain}
@@ -105,7 +105,7 @@ module _ (s : Summary) (h : in_range s ≡ true) where
       let z = eqb-true (n % 2) 1 o in
       let all : q + q + 1 ≡ n = omega arith in
       rw e
-      (ap (λ a. and_then a (λ t. join_next t (Answer.Summed s))) (repeated_add s h q q)
+      (ap (λ a. and_then a (λ t. join_next t (Ok s))) (repeated_add s h q q)
       ∙ ap (λ a. and_then (repeated_of s (q + q)) (λ t. join_next t a)) (sym (repeated_one s h))
       ∙ repeated_add s h (q + q) 1
       ∙ ap (repeated_of s) all)

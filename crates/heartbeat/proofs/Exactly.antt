@@ -1,5 +1,9 @@
 -- A pattern is read exactly where a writer wrote one, and each number of a heartbeat is given exactly when it has its cause.
 -- Assumes nothing.
+use Rattle.std.specs.Prelude.{Ok, Err}
+use Rattle.decide.specs.declared.refusal.Refusal.{Refusal}
+use Rattle.decide.specs.Number.{number_in, refusal_of}
+use Rattle.decide.proofs.Number.{number_told}
 use Prim.Native.Nat.{ℕ, ◌+◌, ◌-◌, ◌*◌, ◌≤◌, ◌<◌}
 use mathlib.Core.Bool.{true}
 use mathlib.Core.List.{List, ◌++◌, append_assoc}
@@ -15,12 +19,10 @@ use Rattle.shaper.specs.declared.Limits.{Limits}
 use Rattle.shaper.specs.declared.Event.{Event}
 use Rattle.shaper.specs.Limits.{limits_ok, most_events}
 use Rattle.shaper.specs.Credit.{AllValid}
-use Rattle.summary.specs.declared.Answer.{Answer}
+use Rattle.summary.specs.Answer.{answer_number}
 use Rattle.summary.specs.Summary.{summary_of}
 use Rattle.summary.specs.Answer.{and_then}
-use Rattle.record.specs.declared.Header.{Header}
-use Rattle.record.specs.declared.Header.TheVariants.{Settings, Unreadable}
-use Rattle.record.specs.declared.Step.TheVariants.{Faulty}
+use Rattle.record.specs.Step.{Header, header_number}
 use Rattle.record.specs.Record.{header_bytes, written}
 use Rattle.record.specs.Items.{Item, items_bytes, written_items, unrolled}
 use Rattle.record.specs.Read.{Events, faulty, events, read_items, Read, unreadable, whole, under}
@@ -74,10 +76,10 @@ module _ (xs : List ℕ) (b : Bytes xs) where
   says = by (header_of_of xs) refl
     where
       by : (h : Header) → header_of_of xs ≡ h → SaysPattern xs (pattern_by xs h)
-      by (Settings l) e =
+      by (Ok l) e =
           let h = header_stands xs l e in
           under_says l (header_front xs b l h) h.in_range_lem (read_items true 3 l.mtu most_of_pattern 0 (drop 14 xs)) refl
-      by (Unreadable n) e = in_header ((header_refused_exactly xs n (header_faulty true xs n e).0).0 e)
+      by (Err r) e = in_header ((header_refused_exactly xs (number_in r) (header_faulty true xs r e).0).0 (ap header_number e))
 
   -- bytes that are read as a pattern are what a writer writes
   pub read_pattern_lem : (l : Limits) (es : List Event) → read_pattern xs ≡ whole l es → WrotePattern xs l es
@@ -110,41 +112,42 @@ module _ (l : Limits) (is : List Item) (ok : PatternOk l is) where
       )
 
   -- what stops behind its items stops the pattern
-  stops_within : (q : List ℕ) (n : ℕ) → item_within true 3 (most_of_pattern - length (unrolled is)) l.mtu q 0 ≡ Faulty n →
-      read_pattern (written_items l is ++ q) ≡ unreadable n
-  stops_within q n e =
+  stops_within : (q : List ℕ) (r : Refusal) → item_within true (refusal_of 3) (most_of_pattern - length (unrolled is)) l.mtu q 0 ≡ Err r →
+      read_pattern (written_items l is ++ q) ≡ unreadable (number_in r)
+  stops_within q r e =
       pattern_rest q (most_of_pattern - length (unrolled is)) (omega (arith, ok.few))
-      ∙ rw ((failed_within true 3 (most_of_pattern - length (unrolled is)) l.mtu q 0 n e).1, behind_faulty (unrolled is) n)
+      ∙ rw ((failed_within true (refusal_of 3) (most_of_pattern - length (unrolled is)) l.mtu q 0 r e).1, behind_faulty (unrolled is) (number_in r))
 
   stops : (q : List ℕ) (n : ℕ) → 0 < n → 0 < length q → Why true 3 l.mtu most_of_pattern (length (unrolled is)) q n → read_pattern (written_items l is ++ q) ≡ unreadable n
   stops q n p h (too_many e z) = pattern_rest q 0 (omega arith) ∙ rw (read_over true 3 l.mtu q 0 h, behind_faulty (unrolled is) 3) (ap unreadable (sym z))
   stops q n p h (has_fault few g) =
-      stops_within q n (within_faulty true 3 (most_of_pattern - length (unrolled is)) l.mtu q 0 n ((item_refused_exactly true l.mtu q 0 n h p).1 g) (omega arith))
+      stops_within q (refusal_of n) (within_faulty true (refusal_of 3) (most_of_pattern - length (unrolled is)) l.mtu q 0 (refusal_of n) ((item_refused_exactly true l.mtu q 0 n h p).1 g) (omega arith))
+      ∙ ap unreadable (number_told n)
   stops q n p h (passes few f over z) =
-      stops_within q 3 (within_over true 3 (most_of_pattern - length (unrolled is)) l.mtu q 0 _ _ _ _ (free_stands true l.mtu q 0 h f) (omega arith)) ∙ ap unreadable (sym z)
+      stops_within q (refusal_of 3) (within_over true (refusal_of 3) (most_of_pattern - length (unrolled is)) l.mtu q 0 _ _ _ _ (free_stands true l.mtu q 0 h f) (omega arith)) ∙ ap unreadable (sym z)
 
 means_unreadable : (xs : List ℕ) (n : ℕ) → 0 < n → PatternCause xs n → read_pattern xs ≡ unreadable n
 unfolding read_pattern
-means_unreadable xs n p (in_header g) = rw ((header_refused_exactly xs n p).1 g)
+means_unreadable xs n p (in_header g) = rw ((header_refused_exactly xs n p).1 g) (ap unreadable (number_told n))
 means_unreadable xs n p (behind_items l is q e ok h y) = ap (λ (ys : List ℕ). pattern_by ys (header_of_of ys)) e ∙ stops l is ok q n p h y
 
 -- ---- the pattern's number, exactly
 
 module _ (xs : List ℕ) (n : ℕ) where
-  number_read : (r : Read) → read_pattern xs ≡ r → summarized r ≡ Answer.Refused n → read_pattern xs ≡ unreadable n
-  number_read (unreadable m) e h = cc
-  number_read (whole l es) e h = let z : ◌≡◌ {A = ℕ} 0 1 = cc in absurd (omega arith)
+  number_read : (r : Read) (f : Refusal) → number_in f ≡ n → read_pattern xs ≡ r → summarized r ≡ Err f → read_pattern xs ≡ unreadable n
+  number_read (unreadable m) f k e h = e ∙ ap unreadable (sym (number_told m) ∙ ap answer_number h ∙ k)
+  number_read (whole l es) f k e h = let z : ◌≡◌ {A = ℕ} 0 1 = cc in absurd (omega arith)
 
-  pub pattern_refused_exactly : Bytes xs → 0 < n → (pattern_of xs ≡ Answer.Refused n → PatternCause xs n) × (PatternCause xs n → pattern_of xs ≡ Answer.Refused n)
+  pub pattern_refused_exactly : Bytes xs → 0 < n → ((f : Refusal) → number_in f ≡ n → pattern_of xs ≡ Err f → PatternCause xs n) × (PatternCause xs n → pattern_of xs ≡ Err (refusal_of n))
   unfolding pattern_of
   pattern_refused_exactly b p =
-      (λ h. rw (number_read (read_pattern xs) refl h) at (says xs b), λ c. ap summarized (means_unreadable xs n p c))
+      (λ f k h. rw (number_read (read_pattern xs) f k refl h) at (says xs b), λ c. ap summarized (means_unreadable xs n p c))
 
 -- ---- a pattern that stands
 
 module _ (l : Limits) (is : List Item) (ok : PatternOk l is) where
   -- it has the summary of its events
-  pub pattern_summed : pattern_of (written_items l is) ≡ Answer.Summed (summary_of l (unrolled is))
+  pub pattern_summed : pattern_of (written_items l is) ≡ Ok (summary_of l (unrolled is))
   unfolding pattern_of
   pattern_summed = ap summarized (pattern_read l is ok)
 
@@ -153,12 +156,12 @@ module _ (l : Limits) (is : List Item) (ok : PatternOk l is) where
 
   -- repeated as often as may be it has the summary of all of them, written out
   pub heartbeats_summed : (r : ℕ) → r * length (unrolled is) ≤ most_events →
-      heartbeats_of (written_items l is) r ≡ Answer.Summed (summary_of l (times_over r (unrolled is)))
+      heartbeats_of (written_items l is) r ≡ Ok (summary_of l (times_over r (unrolled is)))
   unfolding heartbeats_of
   heartbeats_summed r n = rw pattern_summed (repeated_events l ok.settings (unrolled is) pattern_valid (omega (arith, ok.few)) r n)
 
   -- and 9 where those are too many
-  pub heartbeats_many : (r : ℕ) → most_events < r * length (unrolled is) → heartbeats_of (written_items l is) r ≡ Answer.Refused 9
+  pub heartbeats_many : (r : ℕ) → most_events < r * length (unrolled is) → heartbeats_of (written_items l is) r ≡ Err (refusal_of 9)
   unfolding heartbeats_of
   heartbeats_many r n = rw pattern_summed (repeated_many l ok.settings (unrolled is) pattern_valid (omega (arith, ok.few)) r n)
 
@@ -178,36 +181,35 @@ either_form l is ok rest r =
 -- ---- a heartbeat's number, exactly
 
 -- A pattern that cannot be read is refused with its fault,
-pub pattern_unread : (xs : List ℕ) (m : ℕ) → read_pattern xs ≡ unreadable m → pattern_of xs ≡ Answer.Refused m
+pub pattern_unread : (xs : List ℕ) (m : ℕ) → read_pattern xs ≡ unreadable m → pattern_of xs ≡ Err (refusal_of m)
 unfolding pattern_of
 pattern_unread xs m e = rw e
 
-pub heartbeats_unreadable : (xs : List ℕ) (r m : ℕ) → read_pattern xs ≡ unreadable m → heartbeats_of xs r ≡ Answer.Refused m
+pub heartbeats_unreadable : (xs : List ℕ) (r m : ℕ) → read_pattern xs ≡ unreadable m → heartbeats_of xs r ≡ Err (refusal_of m)
 unfolding heartbeats_of
 heartbeats_unreadable xs r m e = rw (pattern_unread xs m e)
 
 module _ (xs : List ℕ) (r n : ℕ) where
   -- and one that stands with 9 alone.
-  often : (l : Limits) (is : List Item) → PatternOk l is → xs ≡ written_items l is → heartbeats_of (written_items l is) r ≡ Answer.Refused n → HeartbeatCause xs r n
-  often l is ok e h =
+  often : (l : Limits) (is : List Item) → PatternOk l is → xs ≡ written_items l is → (f : Refusal) → number_in f ≡ n → heartbeats_of (written_items l is) r ≡ Err f → HeartbeatCause xs r n
+  often l is ok e f k h =
       by_cases (le_or (r * length (unrolled is)) most_events)
       (λ few. let s = heartbeats_summed l is ok r few in let z : ◌≡◌ {A = ℕ} 0 1 = cc in absurd (omega arith))
-      (λ many. let s = heartbeats_many l is ok r many in let nine : n ≡ 9 = cc in too_often l is e ok many nine)
+      (λ many. too_often l is e ok many (sym k ∙ ap answer_number (sym h ∙ heartbeats_many l is ok r many)))
 
-  has_cause : Bytes xs → heartbeats_of xs r ≡ Answer.Refused n → HeartbeatCause xs r n
-  has_cause b h = by (read_pattern xs) refl
+  has_cause : Bytes xs → (f : Refusal) → number_in f ≡ n → heartbeats_of xs r ≡ Err f → HeartbeatCause xs r n
+  has_cause b f k h = by (read_pattern xs) refl
     where
       by : (p : Read) → read_pattern xs ≡ p → HeartbeatCause xs r n
       by (unreadable m) e =
-          let s = heartbeats_unreadable xs r m e in
-          let same : m ≡ n = cc in
+          let same : m ≡ n = sym (number_told m) ∙ ap answer_number (sym (heartbeats_unreadable xs r m e) ∙ h) ∙ k in
           in_pattern (rw (e ∙ ap unreadable same) at (says xs b))
-      by (whole l es) e = let w = read_pattern_lem xs b l es e in often l w.items w.ok w.same (rw w.same at h)
+      by (whole l es) e = let w = read_pattern_lem xs b l es e in often l w.items w.ok w.same f k (rw w.same at h)
 
-  is_given : 0 < n → HeartbeatCause xs r n → heartbeats_of xs r ≡ Answer.Refused n
+  is_given : 0 < n → HeartbeatCause xs r n → heartbeats_of xs r ≡ Err (refusal_of n)
   is_given p (in_pattern c) = heartbeats_unreadable xs r n (means_unreadable xs n p c)
   is_given p (too_often l is e ok many nine) = rw (e, nine) (heartbeats_many l is ok r many)
 
   -- Each number of a heartbeat is given exactly when it has its cause.
-  pub heartbeats_refused_exactly : Bytes xs → 0 < n → (heartbeats_of xs r ≡ Answer.Refused n → HeartbeatCause xs r n) × (HeartbeatCause xs r n → heartbeats_of xs r ≡ Answer.Refused n)
+  pub heartbeats_refused_exactly : Bytes xs → 0 < n → ((f : Refusal) → number_in f ≡ n → heartbeats_of xs r ≡ Err f → HeartbeatCause xs r n) × (HeartbeatCause xs r n → heartbeats_of xs r ≡ Err (refusal_of n))
   heartbeats_refused_exactly b p = (has_cause b, is_given p)

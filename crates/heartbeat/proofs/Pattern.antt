@@ -1,23 +1,25 @@
 -- The code reads a pattern as a record of which 256 events may come, where too many give 9; no fault of an item does, and so 3 in its place is the pattern's number.
 -- Assumes nothing.
+use Rattle.std.specs.Prelude.{Ok, Err}
+use Rattle.decide.specs.declared.refusal.Refusal.{Refusal}
+use Rattle.decide.specs.Number.{number_in, refusal_of}
 use Prim.Native.Nat.{ℕ, zero, suc, ◌≤◌, ◌<◌}
 use mathlib.Core.Bool.{Bool, true, cond, ◌&&◌}
 use mathlib.Core.List.{List, [], ◌∷◌}
-use mathlib.Core.Path.{◌≡◌, refl, ap, ◌∙◌}
+use mathlib.Core.Path.{◌≡◌, refl, sym, ap, ◌∙◌}
 use native.Mathlib.Omega.{arith}
 use borrow.Author.Tests.{leb-true, ne_eqb}
 use lib.Dec.{leb, eqb}
 use lib.ListN.{drop}
-use Rattle.decide.specs.Test.{both}
+use Rattle.decide.specs.Test.{◌≡?◌, both, split}
 use Rattle.decide.specs.Refusal.{Fault, first_of, in_order, chained}
-use Rattle.decide.proofs.Cases.{of_each}
-use Rattle.decide.proofs.Refusal.{in_order_lem, first_exact}
+use Rattle.decide.proofs.Cases.{by_cases, of_each}
+use Rattle.decide.proofs.Given.{in_order_lem, first_exact}
 use Rattle.shaper.specs.declared.Limits.{Limits}
 use Rattle.shaper.specs.declared.Event.{Event}
 use Rattle.shaper.specs.Kind.{event_of}
-use Rattle.summary.specs.declared.Answer.{Answer}
-use Rattle.record.specs.declared.Header.{Header}
-use Rattle.record.specs.declared.Header.TheVariants.{Settings, Unreadable}
+use Rattle.record.specs.Step.{Header, header_number}
+use Rattle.record.proofs.Named.{header_named}
 use Rattle.record.specs.Read.{header_faults, event_faults, is_run, run_faults, item_faults, item_kind, item_number, Events, faulty, events, onward, gone_behind, bytes_behind, read_items, read_from, Read, unreadable, whole, under}
 use Rattle.record.specs.Step.{header_of_of}
 use Rattle.record.proofs.Steps.{header_faulty}
@@ -65,13 +67,34 @@ read_late mtu (suc left) gone (x ∷ xs) =
     ∙ ap (onward (first_of (item_faults true mtu (x ∷ xs))) (event_of (item_kind (x ∷ xs)) (item_number (x ∷ xs))))
     (read_late mtu left (gone_behind gone (x ∷ xs)) (bytes_behind gone (x ∷ xs)))
 
+-- any number but 9 stays
+kept : (n : ℕ) → (n ≡ 9 → ⊥) → many_told (Err (refusal_of n)) ≡ Err (refusal_of n)
+kept zero h = refl
+kept (suc zero) h = refl
+kept (suc (suc zero)) h = refl
+kept (suc (suc (suc zero))) h = refl
+kept (suc (suc (suc (suc zero)))) h = refl
+kept (suc (suc (suc (suc (suc zero))))) h = refl
+kept (suc (suc (suc (suc (suc (suc zero)))))) h = refl
+kept (suc (suc (suc (suc (suc (suc (suc zero))))))) h = refl
+kept (suc (suc (suc (suc (suc (suc (suc (suc zero)))))))) h = refl
+kept (suc (suc (suc (suc (suc (suc (suc (suc (suc zero))))))))) h = absurd (h refl)
+kept (suc (suc (suc (suc (suc (suc (suc (suc (suc (suc zero)))))))))) h = refl
+kept (suc (suc (suc (suc (suc (suc (suc (suc (suc (suc (suc zero))))))))))) h = refl
+kept (suc (suc (suc (suc (suc (suc (suc (suc (suc (suc (suc (suc zero)))))))))))) h = refl
+kept (suc (suc (suc (suc (suc (suc (suc (suc (suc (suc (suc (suc (suc zero))))))))))))) h = refl
+kept (suc (suc (suc (suc (suc (suc (suc (suc (suc (suc (suc (suc (suc (suc n)))))))))))))) h = refl
+
 told_late : (l : Limits) (r : Events) → many_told (summarized (under l r)) ≡ summarized (under l (lately r))
-told_late l (faulty n) = refl
+told_late l (faulty n) =
+    by_cases (split (n ≡? 9))
+    (λ e. rw e)
+    (λ e. kept n e ∙ ap (λ m. Err (refusal_of m)) (sym (rw (ne_eqb n 9 e))))
 told_late l (events es) = refl
 
 module _ (xs : List ℕ) where
   -- a header that stands: the pattern comes to what all behind it comes to
-  pub pattern_start : (l : Limits) → header_of_of xs ≡ Settings l → many_told (events_of true l most_of_pattern (drop 14 xs)) ≡ pattern_of xs
+  pub pattern_start : (l : Limits) → header_of_of xs ≡ Ok l → many_told (events_of true l most_of_pattern (drop 14 xs)) ≡ pattern_of xs
   unfolding events_of pattern_of read_pattern
   pattern_start l e =
       rw e
@@ -79,9 +102,9 @@ module _ (xs : List ℕ) where
       ∙ ap (λ r. summarized (under l r)) (read_late l.mtu most_of_pattern 0 (drop 14 xs)))
 
   -- one that does not
-  pub pattern_unreadable : (n : ℕ) → header_of_of xs ≡ Unreadable n → Answer.Refused n ≡ pattern_of xs
+  pub pattern_unreadable : (r : Refusal) → header_of_of xs ≡ Err r → Err r ≡ pattern_of xs
   unfolding pattern_of read_pattern
-  pattern_unreadable n e = rw e
+  pattern_unreadable r e = rw e (ap Err (sym (rw e at (header_named xs))))
 
 -- ---- a pattern's number is 1, 2 or 3
 
@@ -111,15 +134,16 @@ under_small : (l : Limits) (r : Events) → SmallEvents r → SmallRead (under l
 under_small l (faulty n) h = h
 under_small l (events es) h = tt
 
-header_small : (xs : List ℕ) (n : ℕ) → header_of_of xs ≡ Unreadable n → (0 < n) × (n ≤ 3)
-header_small xs n e =
-    let p = (header_faulty true xs n e).0 in
-    (p, omega (arith, (first_exact (header_faults xs) refl n p).is_given ((header_refused_exactly xs n p).0 e), rows_small (header_faults xs) refl refl))
+header_small : (xs : List ℕ) (r : Refusal) → header_of_of xs ≡ Err r → (0 < number_in r) × (number_in r ≤ 3)
+header_small xs r e =
+    let n = number_in r in
+    let p = (header_faulty true xs r e).0 in
+    (p, omega (arith, (first_exact (header_faults xs) refl n p).is_given ((header_refused_exactly xs n p).0 (ap header_number e)), rows_small (header_faults xs) refl refl))
 
 pub pattern_small : (xs : List ℕ) → SmallRead (read_pattern xs)
 unfolding read_pattern
 pattern_small xs = by (header_of_of xs) refl
   where
     by : (h : Header) → header_of_of xs ≡ h → SmallRead (pattern_by xs h)
-    by (Settings l) e = under_small l (read_from 3 l.mtu most_of_pattern 0 (drop 14 xs)) (read_small l.mtu most_of_pattern 0 (drop 14 xs))
-    by (Unreadable n) e = header_small xs n e
+    by (Ok l) e = under_small l (read_from 3 l.mtu most_of_pattern 0 (drop 14 xs)) (read_small l.mtu most_of_pattern 0 (drop 14 xs))
+    by (Err r) e = header_small xs r e

@@ -1,5 +1,7 @@
 -- A summary joined with itself: how many events it has, that it stays in range, and that so many repeats and then so many more are all of them.
 -- Assumes nothing.
+use Rattle.std.specs.Prelude.{Ok, Err}
+use Rattle.decide.specs.Number.{refusal_of}
 use Prim.Native.Nat.{ℕ, zero, suc, ◌+◌, ◌*◌, ◌≤◌, ◌<◌}
 use mathlib.Core.Bool.{true, false}
 use mathlib.Core.List.{[]}
@@ -8,11 +10,11 @@ use native.Mathlib.Nat.{add-zero, add-suc, suc-mul, add-mul, one-mul}
 use native.Mathlib.Omega.{arith}
 use borrow.Author.Tests.{le-ltb, lt-ltb}
 use Rattle.decide.proofs.Cases.{by_cases, le_or}
-use Rattle.decide.proofs.Refusal.{in_order_lem}
+use Rattle.decide.proofs.Given.{in_order_lem}
 use Rattle.shaper.specs.Limits.{most_events}
 use Rattle.shaper.proofs.Ranges.{same_exactly}
 use Rattle.summary.specs.declared.Summary.{Summary}
-use Rattle.summary.specs.declared.Answer.{Answer}
+use Rattle.summary.specs.Answer.{Answer}
 use Rattle.summary.specs.Summary.{empty_of, joined, summary_of}
 use Rattle.summary.specs.Range.{in_range}
 use Rattle.summary.specs.Answer.{join_of, and_then, join_next}
@@ -25,22 +27,22 @@ use Rattle.heartbeat.specs.Repeat.{power_of, repeat_faults, repeated_of}
 
 module _ (s : Summary) (r : ℕ) where
   -- 3: the summary is outside its range
-  pub repeated_3 : in_range s ≡ false → repeated_of s r ≡ Answer.Refused 3
+  pub repeated_3 : in_range s ≡ false → repeated_of s r ≡ Err (refusal_of 3)
   unfolding repeated_of
   repeated_3 h = rw (in_order_lem (repeat_faults s r) refl, h)
 
   -- 9: repeats times events exceed 1,000,000
-  pub repeated_9 : in_range s ≡ true → most_events < r * s.events → repeated_of s r ≡ Answer.Refused 9
+  pub repeated_9 : in_range s ≡ true → most_events < r * s.events → repeated_of s r ≡ Err (refusal_of 9)
   unfolding repeated_of
   repeated_9 h n = rw (in_order_lem (repeat_faults s r) refl, h, lt-ltb most_events (r * s.events) n)
 
   -- else it is joined with itself
-  pub repeated_made : in_range s ≡ true → r * s.events ≤ most_events → repeated_of s r ≡ Answer.Summed (power_of s r)
+  pub repeated_made : in_range s ≡ true → r * s.events ≤ most_events → repeated_of s r ≡ Ok (power_of s r)
   unfolding repeated_of
   repeated_made h n = rw (in_order_lem (repeat_faults s r) refl, h, le-ltb most_events (r * s.events) n)
 
 -- an answer has one summary
-pub summed_once : (a : Answer) (x y : Summary) → a ≡ Answer.Summed x → a ≡ Answer.Summed y → x ≡ y
+pub summed_once : (a : Answer) (x y : Summary) → a ≡ Ok x → a ≡ Ok y → x ≡ y
 summed_once a x y e f = cc
 
 -- ---- repeats of a summary in range
@@ -114,16 +116,16 @@ module _ (s : Summary) (h : in_range s ≡ true) where
           let e = power_limits q ∙ sym (power_limits r) in
           by_cases (le_or ((q + r) * s.events) most_events)
           (λ f. joins_few (power_of s q) (power_of s r) (power_range q n) (power_range r m) e (omega (arith, power_events q, power_events r))
-          ∙ ap Answer.Summed (power_add q r f)
+          ∙ ap Ok (power_add q r f)
           ∙ sym (repeated_made s (q + r) h f))
           (λ f. join_9 (power_of s q) (power_of s r) (power_range q n) (power_range r m) ((same_exactly (power_of s q).limits (power_of s r).limits).1 e) (omega (arith, power_events q, power_events r))
           ∙ sym (repeated_9 s (q + r) h f))
 
   -- one is the summary itself
-  pub repeated_one : repeated_of s 1 ≡ Answer.Summed s
-  repeated_one = repeated_made s 1 h (omega (arith, few, one-mul s.events)) ∙ ap Answer.Summed power_one
+  pub repeated_one : repeated_of s 1 ≡ Ok s
+  repeated_one = repeated_made s 1 h (omega (arith, few, one-mul s.events)) ∙ ap Ok power_one
 
   -- none is the empty summary
-  pub repeated_none : repeated_of s 0 ≡ Answer.Summed (empty_of s.limits)
+  pub repeated_none : repeated_of s 0 ≡ Ok (empty_of s.limits)
   unfolding power_of
   repeated_none = repeated_made s 0 h (omega arith)

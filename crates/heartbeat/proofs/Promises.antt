@@ -1,5 +1,7 @@
 -- What a heartbeat promises: the answer of the written_out record, event by event; and one that is steady fits as often as it may be repeated.
 -- Assumes nothing.
+use Rattle.std.specs.Prelude.{Ok, Err, Some, None}
+use Rattle.decide.specs.Number.{refusal_of}
 use Prim.Native.Nat.{ℕ, zero, suc, ◌*◌, ◌^◌, ◌≤◌, ◌<◌}
 use mathlib.Core.Bool.{true}
 use mathlib.Core.List.{List, [], ◌∷◌, ◌++◌, append_assoc}
@@ -16,8 +18,6 @@ use Rattle.shaper.specs.declared.Event.{Event}
 use Rattle.shaper.specs.Limits.{limits_ok, most_events}
 use Rattle.shaper.specs.Credit.{AllValid, next, Permitted, end_credit}
 use Rattle.shaper.proofs.Credit.{end_append, permitted_append, permitted_mono, end_mono}
-use Rattle.summary.specs.declared.Answer.{Answer}
-use Rattle.summary.specs.declared.Outcome.{Outcome}
 use Rattle.summary.specs.Summary.{summary_of}
 use Rattle.summary.specs.Answer.{settle_of}
 use Rattle.summary.specs.Settle.{SettlesExactly}
@@ -89,7 +89,7 @@ times_none (suc r) = rw (times_none r)
 
 -- of too many events it is refused with 9: any byte behind the first million
 written_over : (l : Limits) → Holds (limits_ok l) → (first rest : List Event) → AllValid l (first ++ rest) → length first ≡ most_events → 0 < length rest →
-    summarize_in true (written l (first ++ rest)) ≡ Answer.Refused 9
+    summarize_in true (written l (first ++ rest)) ≡ Err (refusal_of 9)
 written_over l ok first rest v size some =
     let formed : WellFormed l first = record { settings = ok; valid = valid_left l first rest v; few = omega arith } in
     let same : written l (first ++ rest) ≡ written_items l (ones first) ++ events_bytes rest =
@@ -100,9 +100,9 @@ written_over l ok first rest v size some =
     ((summarize_unreadable true (written_items l (ones first) ++ events_bytes rest) 9).1
     (over_million true l (ones first) (events_bytes rest) (ones_formed true l first formed) (rw (ones_unrolled first) size) (omega (arith, length_events rest))))
 
-written_many : (l : Limits) → Holds (limits_ok l) → (es : List Event) → AllValid l es → most_events < length es → summarize_in true (written l es) ≡ Answer.Refused 9
+written_many : (l : Limits) → Holds (limits_ok l) → (es : List Event) → AllValid l es → most_events < length es → summarize_in true (written l es) ≡ Err (refusal_of 9)
 written_many l ok es v many =
-    subst (λ (fs : List Event). AllValid l fs → summarize_in true (written l fs) ≡ Answer.Refused 9) (take-append-drop most_events es)
+    subst (λ (fs : List Event). AllValid l fs → summarize_in true (written l fs) ≡ Err (refusal_of 9)) (take-append-drop most_events es)
     (λ w. written_over l ok (take most_events es) (drop most_events es) w (length-take-le most_events es (omega arith)) (omega (arith, length-drop most_events es))) v
 
 module _ (l : Limits) (is : List Item) (ok : PatternOk l is) where
@@ -127,7 +127,7 @@ module _ (l : Limits) (is : List Item) (ok : PatternOk l is) where
   pattern_alone : pattern_of (written_items l is) ≡ heartbeats_of (written_items l is) 1
   pattern_alone =
       pattern_summed l is ok
-      ∙ ap (λ (fs : List Event). Answer.Summed (summary_of l fs)) (sym (times_one (unrolled is)))
+      ∙ ap (λ (fs : List Event). Ok (summary_of l fs)) (sym (times_one (unrolled is)))
       ∙ sym (heartbeats_summed l is ok 1 (omega (arith, ok.few)))
 
   module _ (r : ℕ) (n : r * length (unrolled is) ≤ most_events) where
@@ -149,7 +149,7 @@ module _ (l : Limits) (is : List Item) (ok : PatternOk l is) where
     exactly = settle_exact l ok.settings all valid few l.lo (omega (arith, ok.settings))
 
     -- it is permitted, or it is not
-    pub heartbeat_either : ((x : ℕ) × (from_low_of (heartbeats_of (written_items l is) r) ≡ Outcome.Permitted x)) ⊎ (from_low_of (heartbeats_of (written_items l is) r) ≡ Outcome.NotPermitted)
+    pub heartbeat_either : ((x : ℕ) × (from_low_of (heartbeats_of (written_items l is) r) ≡ Ok (Some x))) ⊎ (from_low_of (heartbeats_of (written_items l is) r) ≡ Ok None)
     heartbeat_either =
         let s = summary_of l all in
         let h = summary_range l ok.settings all valid few in
@@ -157,13 +157,13 @@ module _ (l : Limits) (is : List Item) (ok : PatternOk l is) where
         by_cases (le_or s.need l.lo) (λ n. inl (_, heartbeat_settles ∙ settles s l.lo h most n)) (λ n. inr (heartbeat_settles ∙ settles_not s l.lo h most n))
 
     -- permitted throughout from loLimit exactly if every send is, event by event; and then the credit at the end
-    pub heartbeat_permitted : Permitted l l.lo all → from_low_of (heartbeats_of (written_items l is) r) ≡ Outcome.Permitted (end_credit l l.lo all)
+    pub heartbeat_permitted : Permitted l l.lo all → from_low_of (heartbeats_of (written_items l is) r) ≡ Ok (Some (end_credit l l.lo all))
     heartbeat_permitted p = heartbeat_settles ∙ exactly.permitted p
 
-    pub heartbeat_not_permitted : (Permitted l l.lo all → ⊥) → from_low_of (heartbeats_of (written_items l is) r) ≡ Outcome.NotPermitted
+    pub heartbeat_not_permitted : (Permitted l l.lo all → ⊥) → from_low_of (heartbeats_of (written_items l is) r) ≡ Ok None
     heartbeat_not_permitted p = heartbeat_settles ∙ exactly.not_permitted p
 
-    pub permitted_heartbeat : (x : ℕ) → from_low_of (heartbeats_of (written_items l is) r) ≡ Outcome.Permitted x → Permitted l l.lo all × (end_credit l l.lo all ≡ x)
+    pub permitted_heartbeat : (x : ℕ) → from_low_of (heartbeats_of (written_items l is) r) ≡ Ok (Some x) → Permitted l l.lo all × (end_credit l l.lo all ≡ x)
     permitted_heartbeat x e = exactly.said_permitted x (sym heartbeat_settles ∙ e)
 
 -- One run of any bytes is what they come to as a pattern.

@@ -1,5 +1,7 @@
 -- The summary of events, joined with itself, is that of the written-out record.
 -- Assumes nothing.
+use Rattle.std.specs.Prelude.{Ok, Err}
+use Rattle.decide.specs.Number.{refusal_of}
 use Prim.Native.Nat.{ℕ, zero, suc, ◌*◌, ◌≤◌, ◌<◌}
 use mathlib.Core.Bool.{true}
 use mathlib.Core.List.{List, ◌++◌}
@@ -13,7 +15,6 @@ use Rattle.shaper.specs.declared.Event.{Event}
 use Rattle.shaper.specs.Limits.{limits_ok, most_events}
 use Rattle.shaper.specs.Credit.{AllValid}
 use Rattle.shaper.proofs.Credit.{valid_append}
-use Rattle.summary.specs.declared.Answer.{Answer}
 use Rattle.summary.specs.Summary.{empty_of, joined, summary_of}
 use Rattle.summary.specs.Range.{in_range}
 use Rattle.summary.specs.Answer.{join_of}
@@ -55,9 +56,9 @@ module _ (l : Limits) (ok : Holds (limits_ok l)) (es : List Event) (v : AllValid
     range = summary_range l ok es v few
 
     -- as many as may be have the summary of all of them, written out
-    pub repeated_events : (r : ℕ) → r * length es ≤ most_events → repeated_of (summary_of l es) r ≡ Answer.Summed (summary_of l (times_over r es))
-    repeated_events r n = repeated_made (summary_of l es) r range (rw (summary_events l ok es) n) ∙ ap Answer.Summed (power_summary r n)
+    pub repeated_events : (r : ℕ) → r * length es ≤ most_events → repeated_of (summary_of l es) r ≡ Ok (summary_of l (times_over r es))
+    repeated_events r n = repeated_made (summary_of l es) r range (rw (summary_events l ok es) n) ∙ ap Ok (power_summary r n)
 
     -- and more are too many
-    pub repeated_many : (r : ℕ) → most_events < r * length es → repeated_of (summary_of l es) r ≡ Answer.Refused 9
+    pub repeated_many : (r : ℕ) → most_events < r * length es → repeated_of (summary_of l es) r ≡ Err (refusal_of 9)
     repeated_many r n = repeated_9 (summary_of l es) r range (rw (summary_events l ok es) n)

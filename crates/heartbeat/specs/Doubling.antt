@@ -1,9 +1,10 @@
 -- Repeats by doubling, and how many joins they take.
 -- Assumes nothing.
+use Rattle.std.specs.Prelude.{Ok}
 use Rattle.std.specs.Prelude.{ℕ, zero, suc, ◌+◌, ◌-◌, ◌/◌, ◌%◌, Bool, true, false, eqb}
 use Rattle.std.specs.Int.Count.{count_leading_zeros}
 use Rattle.summary.specs.declared.Summary.{Summary}
-use Rattle.summary.specs.declared.Answer.{Answer}
+use Rattle.summary.specs.Answer.{Answer}
 use Rattle.summary.specs.Answer.{empty_answer, and_then, join_next}
 use Rattle.heartbeat.specs.declared.Repeats.{Repeats}
 
@@ -17,7 +18,7 @@ joined_more d next = record { sum = and_then d.sum (λ s. join_next s next); joi
 
 -- twice the repeats so far, joined with themselves, and one more where the number is odd
 abbrev pub twice_of : Bool → Summary → Repeats → Repeats
-twice_of true s d = joined_more (joined_more d d.sum) (Answer.Summed s)
+twice_of true s d = joined_more (joined_more d d.sum) (Ok s)
 twice_of false s d = joined_more d d.sum
 
 -- By joining a summary with itself, doubling: r repeats, where r has at most so many binary digits, are half as many, joined with themselves, and with one more where r is

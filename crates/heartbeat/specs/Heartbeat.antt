@@ -1,12 +1,14 @@
 -- Heartbeats that always fit (document 02, A12): whether a pattern of events, repeated a stated number of times, is permitted throughout from loLimit, and if so the credit
 -- at the end.
 -- Assumes nothing.
-use Rattle.std.specs.Prelude.{ℕ, cond, List, eqb, drop}
-use Rattle.summary.specs.declared.Answer.{Answer}
-use Rattle.summary.specs.declared.Outcome.{Outcome}
+use Rattle.std.specs.Prelude.{Ok, Err, Some, None}
+use Rattle.decide.specs.declared.refusal.Refusal.{Refusal}
+use Rattle.decide.specs.Number.{number_in}
+use Rattle.std.specs.Prelude.{ℕ, List, drop}
+use Rattle.summary.specs.Answer.{Answer}
+use Rattle.summary.specs.Answer.{Outcome}
 use Rattle.summary.specs.Answer.{and_then, settle_of}
-use Rattle.record.specs.declared.Header.{Header}
-use Rattle.record.specs.declared.Header.TheVariants.{Settings, Unreadable}
+use Rattle.record.specs.Step.{Header}
 use Rattle.record.specs.Read.{Read, unreadable, under, read_from}
 use Rattle.record.specs.Step.{header_of_of}
 use Rattle.account.specs.Account.{summarized}
@@ -22,8 +24,8 @@ most_of_pattern = 256
 -- It is a record, in either form, and its header has the settings of a class-A shaper. Refusals as for records; 3 at a 257th event: any byte past the 256th gives it, and so
 -- does a run without a fault of its own that passes it.
 abbrev pub pattern_by : List ℕ → Header → Read
-pattern_by xs (Settings l) = under l (read_from 3 l.mtu most_of_pattern 0 (drop 14 xs))
-pattern_by xs (Unreadable n) = unreadable n
+pattern_by xs (Ok l) = under l (read_from 3 l.mtu most_of_pattern 0 (drop 14 xs))
+pattern_by xs (Err r) = unreadable (number_in r)
 
 unfoldable pub read_pattern : List ℕ → Read
 read_pattern xs = pattern_by xs (header_of_of xs)
@@ -40,16 +42,16 @@ heartbeats_of xs r = and_then (pattern_of xs) (λ s. repeated_of s r)
 
 -- from loLimit: permitted throughout, and if so the credit at the end; a refusal stays
 abbrev pub from_low_of : Answer → Outcome
-from_low_of (Answer.Summed s) = settle_of s s.limits.lo
-from_low_of (Answer.Refused n) = Outcome.Refused n
+from_low_of (Ok s) = settle_of s s.limits.lo
+from_low_of (Err r) = Err r
 
 -- ---- rpr_heartbeat
 
 -- Answer as rpr_settle's (paper: `written_out`): byte 1 permitted throughout, 4 to 7 the credit at the end; 0 where not permitted; or the number of the refusal alone.
 abbrev pub outcome_told : Outcome → ℕ
-outcome_told (Outcome.Permitted credit) = packed (permitted_bytes credit)
-outcome_told Outcome.NotPermitted = 0
-outcome_told (Outcome.Refused n) = n
+outcome_told (Ok (Some credit)) = packed (permitted_bytes credit)
+outcome_told (Ok None) = 0
+outcome_told (Err r) = number_in r
 
 unfoldable pub heartbeat_answer : List ℕ → ℕ → ℕ
 heartbeat_answer xs r = outcome_told (from_low_of (heartbeats_of xs r))
@@ -58,5 +60,6 @@ heartbeat_answer xs r = outcome_told (from_low_of (heartbeats_of xs r))
 
 -- the same answer with 3 for 9
 abbrev pub many_told : Answer → Answer
-many_told (Answer.Summed s) = Answer.Summed s
-many_told (Answer.Refused n) = Answer.Refused (cond (eqb n 9) 3 n)
+many_told (Ok s) = Ok s
+many_told (Err Refusal.TooMany) = Err Refusal.OutOfRange
+many_told (Err r) = Err r

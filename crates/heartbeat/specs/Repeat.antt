@@ -5,7 +5,7 @@ use Rattle.decide.specs.Refusal.{Fault, fault, first_of}
 use Rattle.shaper.specs.declared.Event.{Event}
 use Rattle.shaper.specs.Limits.{most_events}
 use Rattle.summary.specs.declared.Summary.{Summary}
-use Rattle.summary.specs.declared.Answer.{Answer}
+use Rattle.summary.specs.Answer.{Answer}
 use Rattle.summary.specs.Summary.{empty_of, joined}
 use Rattle.summary.specs.Range.{in_range}
 use Rattle.summary.specs.Answer.{answered}

@@ -3,10 +3,11 @@
 use Prim.Native.Nat.{ℕ}
 use mathlib.Core.Bool.{true}
 use mathlib.Core.List.{List, [], ◌∷◌}
-use mathlib.Core.Path.{◌≡◌, refl, ap, ◌∙◌}
-use borrow.Author.Tests.{eqb-true}
+use mathlib.Core.Path.{◌≡◌, refl, ◌∙◌}
 use Rattle.decide.proofs.Cases.{by_cases, true_or_false}
-use Rattle.summary.specs.declared.Answer.{Answer}
+use Rattle.std.specs.Prelude.{Err}
+use Rattle.decide.specs.Number.{refusal_of}
+use Rattle.decide.specs.declared.refusal.Refusal.{Refusal}
 use Rattle.feed.specs.declared.Stage.{Stage}
 use Rattle.feed.specs.declared.Stage.TheVariants.{Heading, Summing, Stopped}
 use Rattle.feed.proofs.Rows.{byte_stopped, finish_stopped}
@@ -26,19 +27,20 @@ lost_place Between e = cc
 lost_place (Behind h) e = cc
 lost_place Lost e = refl
 
-stopped_stage : (s : Stage) → is_stopped_at_two s ≡ true → s ≡ Stopped 2
+stopped_stage : (s : Stage) → is_stopped_at_two s ≡ true → s ≡ Stopped (refusal_of 2)
 stopped_stage Heading e = cc
 stopped_stage (Summing m) e = cc
-stopped_stage (Stopped n) e = ap Stopped (eqb-true n 2 e)
+stopped_stage (Stopped Refusal.NotWhole) e = refl
+stopped_stage (Stopped r) e = cc
 
 -- a record past its fault stays so
-module _ (x : Hex) (stopped : x.feed.stage ≡ Stopped 2) where
+module _ (x : Hex) (stopped : x.feed.stage ≡ Stopped (refusal_of 2)) where
   stopped_digit : (d : ℕ) → (read_digit x d).feed ≡ x.feed
   stopped_digit d = by x.place refl
     where
       by : (p : Place) → x.place ≡ p → (read_digit x d).feed ≡ x.feed
       by Between e = rw (digit_between x d e)
-      by (Behind h) e = rw (digit_behind x d h e) (byte_stopped x.feed (byte_of h d) 2 stopped)
+      by (Behind h) e = rw (digit_behind x d h e) (byte_stopped x.feed (byte_of h d) (refusal_of 2) stopped)
       by Lost e = rw (digit_lost x d e)
 
   stopped_char : (c : ℕ) → (read_char x c).feed ≡ x.feed
@@ -49,22 +51,22 @@ module _ (x : Hex) (stopped : x.feed.stage ≡ Stopped 2) where
       by Blank g = rw (char_blank x c g)
       by Other g = rw (char_other x c g)
 
-  stopped_ends : finish_of x ≡ Answer.Refused 2
+  stopped_ends : finish_of x ≡ Err (refusal_of 2)
   stopped_ends =
       by_cases (true_or_false (is_whole x.place))
-      (λ e. finish_whole x e ∙ finish_stopped x.feed 2 stopped)
+      (λ e. finish_whole x e ∙ finish_stopped x.feed (refusal_of 2) stopped)
       (λ e. finish_cut x e)
 
-stopped_two : (cs : List ℕ) (x : Hex) → x.feed.stage ≡ Stopped 2 → finish_of (read_text x cs) ≡ Answer.Refused 2
+stopped_two : (cs : List ℕ) (x : Hex) → x.feed.stage ≡ Stopped (refusal_of 2) → finish_of (read_text x cs) ≡ Err (refusal_of 2)
 unfolding read_text
 stopped_two [] x s = stopped_ends x s
 stopped_two (c ∷ cs) x s = stopped_two cs (read_char x c) (rw (stopped_char x s c) s)
 
-lost_two : (cs : List ℕ) (x : Hex) → x.place ≡ Lost → finish_of (read_text x cs) ≡ Answer.Refused 2
+lost_two : (cs : List ℕ) (x : Hex) → x.place ≡ Lost → finish_of (read_text x cs) ≡ Err (refusal_of 2)
 lost_two cs x p = rw (lost_stays x p cs) (finish_cut x (rw p))
 
 -- What is still to come changes nothing: the answer is 2.
-pub ends_two : (x : Hex) → ends_of x ≡ true → (cs : List ℕ) → finish_of (read_text x cs) ≡ Answer.Refused 2
+pub ends_two : (x : Hex) → ends_of x ≡ true → (cs : List ℕ) → finish_of (read_text x cs) ≡ Err (refusal_of 2)
 ends_two x e cs =
     by_cases (true_or_false (is_lost x.place))
     (λ l. lost_two cs x (lost_place x.place l))

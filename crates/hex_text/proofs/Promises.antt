@@ -6,8 +6,11 @@ use mathlib.Core.List.{List, [], ◌∷◌, ◌++◌, flatten}
 use mathlib.Core.Logic.{inl, inr, ⊎_elim}
 use mathlib.Core.Path.{◌≡◌, refl, sym, ap, ◌∙◌}
 use Rattle.decide.proofs.Cases.{by_cases, true_or_false}
+use Rattle.std.specs.Prelude.{Err}
+use Rattle.decide.specs.declared.refusal.Refusal.{Refusal}
+use Rattle.decide.specs.Number.{number_in, refusal_of}
+use Rattle.summary.specs.Answer.{answer_number}
 use Rattle.shaper.specs.declared.Limits.{Limits}
-use Rattle.summary.specs.declared.Answer.{Answer}
 use Rattle.record.specs.Record.{written}
 use Rattle.record.specs.Items.{Item, written_items, unrolled, Formed}
 use Rattle.account.specs.Account.{summarize_of}
@@ -36,8 +39,8 @@ text_chunks_all x (cs ∷ chunks) = text_chunks_all (read_text x cs) chunks ∙ 
 text_read : (cs : List ℕ) → finish_of (read_text start_of cs) ≡ text_of cs
 unfolding answer_of finish_of text_of
 text_read cs =
-    goes Feeding.finish_of (Answer.Refused 2) cs start_of tt
-    ∙ ap (λ a. cond (is_hex cs) a (Answer.Refused 2)) (fed_once (pairs (digits_of cs)) (text_bytes cs))
+    goes Feeding.finish_of (Err (refusal_of 2)) cs start_of tt
+    ∙ ap (λ a. cond (is_hex cs) a (Err (refusal_of 2))) (fed_once (pairs (digits_of cs)) (text_bytes cs))
 
 -- A text in chunks of any sizes gives what the whole text gives.
 pub text_whole : (chunks : List (List ℕ)) → finish_of (read_chunks start_of chunks) ≡ text_of (flatten chunks)
@@ -75,28 +78,25 @@ text_so_far chunks =
 -- ---- refusals
 
 module _ (cs : List ℕ) (n : ℕ) (p : 0 < n) where
-  means : text_of cs ≡ Answer.Refused n → TextCause cs n
+  means : (f : Refusal) → number_in f ≡ n → text_of cs ≡ Err f → TextCause cs n
   unfolding text_of
-  means h =
+  means f k h =
       by_cases (true_or_false (is_hex cs))
-      (λ e. inr (e, (summarize_refused_exactly true (pairs (digits_of cs)) n (text_bytes cs) p).0 (sym (rw e) ∙ h)))
-      (λ e. inl (e, number (sym (sym (rw e) ∙ h))))
-    where
-      number : Answer.Refused n ≡ Answer.Refused 2 → n ≡ 2
-      number q = cc
+      (λ e. inr (e, (summarize_refused_exactly true (pairs (digits_of cs)) n (text_bytes cs) p).0 f k (sym (rw e) ∙ h)))
+      (λ e. let g = rw e at h in inl (e, sym (ap answer_number g ∙ k)))
 
-  meant : TextCause cs n → text_of cs ≡ Answer.Refused n
+  meant : TextCause cs n → text_of cs ≡ Err (refusal_of n)
   unfolding text_of
   meant c =
       ⊎_elim
-      (λ x. rw x.0 (ap Answer.Refused (sym x.1)))
+      (λ x. rw x.0 (ap (λ m. Err (refusal_of m)) (sym x.1)))
       (λ x. rw x.0 ((summarize_refused_exactly true (pairs (digits_of cs)) n (text_bytes cs) p).1 x.1))
       c
 
 -- A number is given exactly when it has its cause in the text.
 pub text_refused_exactly : (chunks : List (List ℕ)) (n : ℕ) → 0 < n →
-    (finish_of (read_chunks start_of chunks) ≡ Answer.Refused n → TextCause (flatten chunks) n)
-    × (TextCause (flatten chunks) n → finish_of (read_chunks start_of chunks) ≡ Answer.Refused n)
+    ((f : Refusal) → number_in f ≡ n → finish_of (read_chunks start_of chunks) ≡ Err f → TextCause (flatten chunks) n)
+    × (TextCause (flatten chunks) n → finish_of (read_chunks start_of chunks) ≡ Err (refusal_of n))
 text_refused_exactly chunks n p =
     let e = text_whole chunks in
-    (λ h. means (flatten chunks) n p (sym e ∙ h), λ c. e ∙ meant (flatten chunks) n p c)
+    (λ f k h. means (flatten chunks) n p f k (sym e ∙ h), λ c. e ∙ meant (flatten chunks) n p c)

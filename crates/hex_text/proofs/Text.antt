@@ -3,19 +3,20 @@
 use Prim.Native.Nat.{ℕ, suc, ◌+◌, ◌*◌, ◌-◌, ◌/◌, ◌%◌, ◌<◌}
 use mathlib.Core.Bool.{true, false, cond}
 use mathlib.Core.List.{List, [], ◌∷◌, ◌++◌}
-use mathlib.Core.Logic.{◌⊎◌, inl, inr}
-use mathlib.Core.Path.{◌≡◌, refl, ap, ◌∙◌}
+use mathlib.Core.Logic.{◌⊎◌}
+use mathlib.Core.Path.{◌≡◌, refl, sym, ap, ◌∙◌}
 use native.Mathlib.Omega.{arith}
-use borrow.Author.Tests.{le-leb, lt-leb, le-ltb, lt-ltb, eq-eqb, ne_eqb}
+use borrow.Author.Tests.{le-ltb, lt-ltb, eq-eqb, ne_eqb}
 use lib.Dec.{ltb}
 use lib.ListN.{length}
 use Rattle.decide.proofs.Cases.{by_cases, le_or, true_or_false}
-use Rattle.summary.specs.declared.Answer.{Answer}
+use Rattle.std.specs.Prelude.{Err}
+use Rattle.decide.specs.Number.{refusal_of}
 use Rattle.wire.specs.Wire.{Bytes}
 use Rattle.account.specs.Account.{summarize_of}
 use Rattle.hex_text.specs.declared.Glyph.{Glyph}
 use Rattle.hex_text.specs.declared.Glyph.TheVariants.{Digit, Blank, Other}
-use Rattle.hex_text.specs.Hex.{is_within, glyph_of, unless_other, all_hex, digits_of, pairs, text_of}
+use Rattle.hex_text.specs.Hex.{glyph_of, unless_other, all_hex, digits_of, pairs, text_of}
 use Rattle.hex_text.proofs.Rows.{glyph_decimal, glyph_upper, glyph_lower}
 
 -- ---- 2 before all else
@@ -30,12 +31,12 @@ not_all_hex [] ys c g = rw g
 not_all_hex (x ∷ xs) ys c g = rw (not_all_hex xs ys c g) (unless_false (glyph_of x))
 
 -- Other text, anywhere, is 2.
-pub text_other : (xs ys : List ℕ) (c : ℕ) → glyph_of c ≡ Other → text_of (xs ++ (c ∷ ys)) ≡ Answer.Refused 2
+pub text_other : (xs ys : List ℕ) (c : ℕ) → glyph_of c ≡ Other → text_of (xs ++ (c ∷ ys)) ≡ Err (refusal_of 2)
 unfolding text_of
 text_other xs ys c g = rw (not_all_hex xs ys c g)
 
 -- An odd digit is 2.
-pub text_odd : (cs : List ℕ) → length (digits_of cs) % 2 ≡ 1 → text_of cs ≡ Answer.Refused 2
+pub text_odd : (cs : List ℕ) → length (digits_of cs) % 2 ≡ 1 → text_of cs ≡ Err (refusal_of 2)
 unfolding text_of
 text_odd cs h =
     by_cases (true_or_false (all_hex cs)) (λ e. rw (e, ne_eqb (length (digits_of cs) % 2) 0 (λ z. omega arith))) (λ e. rw e)
@@ -67,25 +68,19 @@ abbrev pub hex_of : ℕ → List ℕ → List ℕ
 hex_of a [] = []
 hex_of a (x ∷ xs) = character_of a (x / 16) ∷ character_of a (x % 16) ∷ hex_of a xs
 
-outside : (a b c : ℕ) → (c < a) ⊎ (b < c) → is_within a b c ≡ false
-outside a b c (inl h) = rw (lt-leb a c h)
-outside a b c (inr h) = by_cases (le_or a c) (λ k. rw (le-leb a c k, lt-leb c b h)) (λ k. rw (lt-leb a c k))
-
 -- A to F and a to f
 module _ (a : ℕ) (letters : (a ≡ 65) ⊎ (a ≡ 97)) where
   letter_back : (d : ℕ) → d < 6 → glyph_of (a + d) ≡ Digit (d + 10)
   letter_back d h =
       by_cases letters
-      (λ e. let within : is_within 65 70 (65 + d) ≡ true = rw (le-leb 65 (65 + d) (omega arith), le-leb (65 + d) 70 (omega arith)) in
-      rw e (glyph_upper (65 + d) (outside 48 57 (65 + d) (inr (omega arith))) within ∙ ap Digit (omega arith)))
-      (λ e. let within : is_within 97 102 (97 + d) ≡ true = rw (le-leb 97 (97 + d) (omega arith), le-leb (97 + d) 102 (omega arith)) in
-      rw e (glyph_lower (97 + d) (outside 48 57 (97 + d) (inr (omega arith))) (outside 65 70 (97 + d) (inr (omega arith))) within ∙ ap Digit (omega arith)))
+      (λ e. rw e (sym (glyph_upper (65 + d) (omega arith) (omega arith)) ∙ ap Digit (omega arith)))
+      (λ e. rw e (sym (glyph_lower (97 + d) (omega arith) (omega arith)) ∙ ap Digit (omega arith)))
 
   digit_back : (d : ℕ) → d < 16 → glyph_of (character_of a d) ≡ Digit d
   digit_back d h =
       by_cases (le_or 10 d)
       (λ k. rw (le-ltb d 10 k) (letter_back (d - 10) (omega arith) ∙ ap Digit (omega arith)))
-      (λ k. rw (lt-ltb d 10 k) (glyph_decimal (48 + d) (rw (le-leb 48 (48 + d) (omega arith), le-leb (48 + d) 57 (omega arith))) ∙ ap Digit (omega arith)))
+      (λ k. rw (lt-ltb d 10 k) (sym (glyph_decimal (48 + d) (omega arith) (omega arith)) ∙ ap Digit (omega arith)))
 
   -- no other text, an even number of digits, and the bytes again
   hex_back : (xs : List ℕ) → Bytes xs →

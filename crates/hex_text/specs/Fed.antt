@@ -1,7 +1,9 @@
 -- A text fed character by character: what is kept of the characters so far, and what they come to.
 -- Assumes nothing.
-use Rattle.std.specs.Prelude.{ℕ, ◌+◌, ◌*◌, ◌%◌, Bool, true, false, cond, ◌||◌, List, [], ◌∷◌, eqb}
-use Rattle.summary.specs.declared.Answer.{Answer}
+use Rattle.std.specs.Prelude.{ℕ, ◌+◌, ◌*◌, ◌%◌, Bool, true, false, cond, ◌||◌, List, [], ◌∷◌, Err}
+use Rattle.decide.specs.declared.refusal.Refusal.{Refusal}
+use Rattle.decide.specs.Number.{refusal_of}
+use Rattle.summary.specs.Answer.{Answer}
 use Rattle.feed.specs.declared.Stage.{Stage}
 use Rattle.feed.specs.declared.Stage.TheVariants.{Heading, Summing, Stopped}
 use Rattle.feed.specs.Feed as Feeding
@@ -55,7 +57,7 @@ is_whole (Behind h) = false
 is_whole Lost = false
 
 unfoldable pub finish_of : Hex → Answer
-finish_of x = cond (is_whole x.place) (Feeding.finish_of x.feed) (Answer.Refused 2)
+finish_of x = cond (is_whole x.place) (Feeding.finish_of x.feed) (Err (refusal_of 2))
 
 -- ---- what follows can change nothing
 
@@ -67,7 +69,8 @@ is_lost Lost = true
 abbrev pub is_stopped_at_two : Stage → Bool
 is_stopped_at_two Heading = false
 is_stopped_at_two (Summing s) = false
-is_stopped_at_two (Stopped n) = eqb n 2
+is_stopped_at_two (Stopped Refusal.NotWhole) = true
+is_stopped_at_two (Stopped r) = false
 
 -- past other text, or past a fault 2 of the record: other text is 2 as well
 abbrev pub ends_of : Hex → Bool

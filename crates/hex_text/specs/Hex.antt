@@ -1,7 +1,8 @@
 -- A record given as hex text: what the text comes to.
 -- Assumes nothing.
-use Rattle.std.specs.Prelude.{ℕ, ◌+◌, ◌*◌, ◌-◌, ◌%◌, Bool, true, false, cond, ◌&&◌, ◌||◌, List, [], ◌∷◌, ◌⊎◌, ◌≡◌, eqb, leb, length}
-use Rattle.summary.specs.declared.Answer.{Answer}
+use Rattle.std.specs.Prelude.{ℕ, ◌+◌, ◌*◌, ◌-◌, ◌%◌, Bool, true, false, cond, ◌&&◌, ◌||◌, List, [], ◌∷◌, ◌⊎◌, ◌≡◌, eqb, leb, length, Err}
+use Rattle.decide.specs.Number.{refusal_of}
+use Rattle.summary.specs.Answer.{Answer}
 use Rattle.record.specs.Cause.{Cause}
 use Rattle.account.specs.Account.{summarize_of}
 use Rattle.hex_text.specs.declared.Glyph.{Glyph}
@@ -61,7 +62,7 @@ is_hex cs = all_hex cs && even (digits_of cs)
 
 -- Other text or an odd digit, anywhere, is 2 before all else; otherwise the bytes are a record.
 unfoldable pub text_of : List ℕ → Answer
-text_of cs = cond (is_hex cs) (summarize_of (pairs (digits_of cs))) (Answer.Refused 2)
+text_of cs = cond (is_hex cs) (summarize_of (pairs (digits_of cs))) (Err (refusal_of 2))
 
 -- what a text can be refused for: 2 where it is no hex, before all else; otherwise what its record is refused for
 abbrev pub TextCause : List ℕ → ℕ → Type 0

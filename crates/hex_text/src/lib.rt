@@ -2,12 +2,13 @@
 #![tactic(auto)]
 
 ghost use Rattle.std.specs.Prelude.{◌≡◌, ◌<◌, length};
-ghost use Rattle.hex_text.specs.Hex.{is_within, is_blank, glyph_of};
-ghost use Rattle.hex_text.specs.Fed.{byte_of, start_of, read_text, is_whole, finish_of, is_lost, is_stopped_at_two, ends_of};
+ghost use Rattle.hex_text.specs.Hex.{glyph_of};
+ghost use Rattle.hex_text.specs.Fed.{byte_of, start_of, read_text, is_whole, finish_of, ends_of};
 ghost use Rattle.hex_text.specs.Decoded.{code_of, Table, decoded_to, Steps, Decodes};
 
+use decide::Refusal;
 use feed::{Feed, Stage};
-use summary::Answer;
+use summary::Summary;
 
 // What a character is: a hex digit with its value, a blank or line end, or other text.
 #[derive(Clone, Copy)]
@@ -39,7 +40,7 @@ impl Hex {
     {
         let feed = Feed::new();
         Hex {
-            feed: feed,
+            feed,
             place: Place::Between,
         }
     }
@@ -52,53 +53,42 @@ impl Hex {
         let mut room = [0u8; 4096];
         let mut next = self;
         let mut i = 0;
+        // No `for`: a part ends where the room is full.
         while i < chunk.len() {
-            let feed = next.feed;
-            let place = next.place;
-            let part = decode(&codes, chunk, i, place, &mut room);
-            let n = part.count;
-            let fed = feed.feed(&room[..n]);
-            let place = part.place;
+            let part = decode(&codes, chunk, i, next.place, &mut room);
+            let feed = next.feed.feed(&room[..part.count]);
             next = Hex {
-                feed: fed,
-                place: place,
+                feed,
+                place: part.place,
             };
             i = part.next;
         }
         next
     }
 
-    // What the text so far comes to: 2 for other text or an odd digit, else what its bytes come to.
-    pub fn finish(self) -> Answer
+    // What the text so far comes to: 2, not whole, for other text or an odd digit, else what its bytes come to.
+    pub fn finish(self) -> Result<Summary, Refusal>
         ensures { result ≡ finish_of self }
     {
-        let feed = self.feed;
         if self.is_text() {
-            return feed.finish();
+            return self.feed.finish();
         }
-        Answer::Refused(2)
+        Err(Refusal::NotWhole)
     }
 
     // Whether the text so far may end here as hex: behind a whole byte, and past no other text.
     pub fn is_text(self) -> bool
         ensures { result ≡ is_whole self.place }
     {
-        let place = self.place;
-        match place {
-            Place::Between => true,
-            Place::Behind(_) => false,
-            Place::Lost => false,
-        }
+        matches!(self.place, Place::Between)
     }
 
     // Whether what is still to come can change nothing: the answer is 2, whatever follows.
     pub fn ends(self) -> bool
         ensures { result ≡ ends_of self }
     {
-        let feed = self.feed;
-        let place = self.place;
-        let stage = feed.stage;
-        is_lost(place) | is_stopped_at_two(stage)
+        matches!(self.place, Place::Lost)
+            || matches!(self.feed.stage, Stage::Stopped(Refusal::NotWhole))
     }
 }
 
@@ -115,11 +105,7 @@ impl Decoded {
     fn new(place: Place, next: usize, count: usize) -> Decoded
         ensures { result ≡ decoded_to place next count }
     {
-        Decoded {
-            place: place,
-            next: next,
-            count: count,
-        }
+        Decoded { place, next, count }
     }
 }
 
@@ -129,10 +115,11 @@ fn decode(codes: &[u8; 256], chunk: &[u8], from: usize, place: Place, room: &mut
     ensures { Decodes chunk.now from place room.old room.new result }
 {
     let mut at = Decoded {
-        place: place,
+        place,
         next: from,
         count: 0,
     };
+    // No `for`: a step reads one character or two.
     while at.next < chunk.len() {
         if room.len() <= at.count {
             return at;
@@ -176,28 +163,6 @@ fn step(codes: &[u8; 256], chunk: &[u8], at: Decoded, room: &mut [u8]) -> Decode
     }
 }
 
-// Whether other text was met.
-fn is_lost(place: Place) -> bool
-    ensures { result ≡ is_lost place }
-{
-    match place {
-        Place::Between => false,
-        Place::Behind(_) => false,
-        Place::Lost => true,
-    }
-}
-
-// Whether the record's earliest fault is a 2.
-fn is_stopped_at_two(stage: Stage) -> bool
-    ensures { result ≡ is_stopped_at_two stage }
-{
-    match stage {
-        Stage::Heading => false,
-        Stage::Summing(_) => false,
-        Stage::Stopped(n) => n == 2,
-    }
-}
-
 // The code of a blank, and of other text; a digit's is its value.
 const BLANK: u8 = 16;
 
@@ -208,11 +173,8 @@ fn codes() -> [u8; 256]
     ensures { Table result }
 {
     let mut codes = [0u8; 256];
-    let mut i = 0;
-    while i < 256 {
-        let glyph = glyph_of(i as u8);
-        codes[i] = code_of(glyph);
-        i += 1;
+    for c in 0..256 {
+        codes[c] = code_of(glyph_of(c as u8));
     }
     codes
 }
@@ -240,33 +202,13 @@ fn code_of(glyph: Glyph) -> u8
 pub fn glyph_of(c: u8) -> Glyph
     ensures { result ≡ glyph_of c }
 {
-    if is_within(b'0', b'9', c) {
-        return Glyph::Digit(c - b'0');
+    match c {
+        b'0'..=b'9' => Glyph::Digit(c - b'0'),
+        b'A'..=b'F' => Glyph::Digit(c - b'A' + 10),
+        b'a'..=b'f' => Glyph::Digit(c - b'a' + 10),
+        b'\t' | b'\n' | b'\r' | b' ' => Glyph::Blank,
+        _ => Glyph::Other,
     }
-    if is_within(b'A', b'F', c) {
-        return Glyph::Digit(c - b'A' + 10);
-    }
-    if is_within(b'a', b'f', c) {
-        return Glyph::Digit(c - b'a' + 10);
-    }
-    if is_blank(c) {
-        return Glyph::Blank;
-    }
-    Glyph::Other
-}
-
-// Whether a character is one of a run, the first and the last of it too.
-fn is_within(first: u8, last: u8, c: u8) -> bool
-    ensures { result ≡ is_within first last c }
-{
-    (first <= c) & (c <= last)
-}
-
-// Whether a character is a tab, a line feed, a carriage return or a space.
-fn is_blank(c: u8) -> bool
-    ensures { result ≡ is_blank c }
-{
-    (c == 9) | ((c == 10) | ((c == 13) | (c == 32)))
 }
 
 // The byte of two digits, the higher first; of larger numbers the last digits count.

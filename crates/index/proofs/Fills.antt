@@ -14,8 +14,7 @@ use Rattle.wire.proofs.Puts.{length_put}
 use Rattle.record.specs.Record.{WellFormed}
 use Rattle.record.specs.Read.{whole, read_in}
 use Rattle.excerpt.specs.declared.Place.{Place}
-use Rattle.excerpt.specs.declared.Excerpt.{Excerpt}
-use Rattle.excerpt.specs.Excerpt.{excerpt_of}
+use Rattle.excerpt.specs.Excerpt.{summed, excerpt_of}
 use Rattle.roll.specs.Steps.{Reads}
 use Rattle.index.specs.Tree.{block_events, blocks_of, top_level, size_of, from_of, to_of}
 use Rattle.index.specs.Index.{events_in, place_of, node_summary, node_entry, node_bytes}
@@ -41,7 +40,7 @@ module _ (l : Limits) (xs : List ℕ) (r : Reads true xs l) where
   -- read from its place on it is its summary, and the place behind it is that of the next
   pub block_fills : (x : ℕ) → from_of x < length (events_in xs) →
       excerpt_of l (min block_events (length (events_in xs) - from_of x)) xs (place_of xs (from_of x))
-      ≡ Excerpt.Summed (node_summary l (events_in xs) 0 x) (place_of xs (to_of (length (events_in xs)) 0 x))
+      ≡ summed (node_summary l (events_in xs) 0 x) (place_of xs (to_of (length (events_in xs)) 0 x))
   unfolding excerpt_of
   block_fills x some =
       let es = r.events in

@@ -16,9 +16,9 @@ use Rattle.shaper.specs.declared.Event.{Event}
 use Rattle.shaper.specs.Limits.{most_events}
 use Rattle.shaper.specs.Credit.{AllValid}
 use Rattle.summary.specs.declared.Summary.{Summary}
-use Rattle.summary.specs.declared.Answer.{Answer}
 use Rattle.summary.specs.Summary.{summary_of, joined}
 use Rattle.summary.specs.Range.{in_range}
+use Rattle.std.specs.Prelude.{Ok}
 use Rattle.summary.specs.Answer.{join_of}
 use Rattle.summary.proofs.Promises.{joins_few, join_append, summary_limits, summary_events, summary_range}
 use Rattle.record.specs.Record.{WellFormed}
@@ -78,15 +78,15 @@ node_alone l es k x h =
 
 module _ (l : Limits) (es : List Event) (w : WellFormed l es) where
   -- two stretches side by side: the code joins their summaries to that of both
-  pieces_join : (a b c : ℕ) → a ≤ b → b ≤ c → join_of (summary_of l (piece_of es a b)) (summary_of l (piece_of es b c)) ≡ Answer.Summed (summary_of l (piece_of es a c))
+  pieces_join : (a b c : ℕ) → a ≤ b → b ≤ c → join_of (summary_of l (piece_of es a b)) (summary_of l (piece_of es b c)) ≡ Ok (summary_of l (piece_of es a c))
   pieces_join a b c h k =
       let p = piece_length es a b in
       let q = piece_length es b c in
       join_append l w.settings (piece_of es a b) (piece_of es b c) (piece_valid l es a b w.valid) (piece_valid l es b c w.valid) (omega (arith, w.few))
-      ∙ ap (λ (ds : List Event). Answer.Summed (summary_of l ds)) (piece_append es a b c h k)
+      ∙ ap (λ (ds : List Event). Ok (summary_of l ds)) (piece_append es a b c h k)
 
   -- and so those of two nodes to that of the node above,
-  pub node_joins : (k x : ℕ) → join_of (node_summary l es k x) (node_summary l es k (x + size_of k)) ≡ Answer.Summed (node_summary l es (suc k) x)
+  pub node_joins : (k x : ℕ) → join_of (node_summary l es k x) (node_summary l es k (x + size_of k)) ≡ Ok (node_summary l es (suc k) x)
   node_joins k x =
       rw (node_uncut l es k x, node_uncut l es k (x + size_of k), node_uncut l es (suc k) x, twice k x)
       (pieces_join (from_of x) (from_of (x + size_of k)) (block_events * (x + size_of (suc k))) (omega arith) (omega (arith, size_next k)))

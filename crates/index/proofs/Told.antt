@@ -3,21 +3,21 @@
 use Prim.Native.Nat.{ℕ, ◌+◌, ◌*◌, ◌≤◌, ◌<◌}
 use mathlib.Core.Bool.{true}
 use mathlib.Core.List.{List}
-use mathlib.Core.Path.{◌≡◌, refl, sym, ap}
+use mathlib.Core.Path.{◌≡◌, refl, sym, ap, ◌∙◌}
 use native.Mathlib.Omega.{arith}
 use borrow.Author.Tests.{ne_eqb}
 use lib.ListN.{length}
+use Rattle.std.specs.Prelude.{Err}
+use Rattle.decide.specs.declared.refusal.Refusal.{Refusal}
 use Rattle.shaper.specs.declared.Limits.{Limits}
 use Rattle.shaper.specs.declared.Event.{Event}
-use Rattle.summary.specs.declared.Answer.{Answer}
 use Rattle.record.specs.Read.{whole, read_in}
 use Rattle.account.specs.Account.{summarize_in}
-use Rattle.account.proofs.Promises.{summarize_unreadable}
 use Rattle.excerpt.specs.Place.{place_after, first_place}
-use Rattle.roll.specs.declared.Moved.TheVariants.{Refused}
-use Rattle.roll.specs.Moved.{bytes, moved_of, left_of}
+use Rattle.roll.specs.Moved.{Output, bytes, moved_of, left_of}
 use Rattle.roll.specs.Steps.{Reads}
 use Rattle.roll.proofs.Rooms.{row_refused}
+use Rattle.roll.proofs.Told.{unread}
 use Rattle.index.specs.Tree.{blocks_of, top_level, index_length}
 use Rattle.index.specs.Index.{place_of, index_bytes, index_read, index_of}
 use Rattle.index.specs.Fill.{Filling}
@@ -32,9 +32,13 @@ unfolding index_of
 index_output xs l es e = rw e
 
 -- a refusal of the record
-pub index_refused : (xs : List ℕ) (n : ℕ) (room : List ℕ) → summarize_in true xs ≡ Answer.Refused n → (moved_of (index_of xs) room ≡ Refused n) × (left_of (index_of xs) room ≡ room)
+pub index_refused : (xs : List ℕ) (r : Refusal) (room : List ℕ) → summarize_in true xs ≡ Err r → (moved_of (index_of xs) room ≡ Err r) × (left_of (index_of xs) room ≡ room)
 unfolding index_of
-index_refused xs n room h = let o = ap (index_read xs) ((summarize_unreadable true xs n).0 h) in rw o (row_refused n room)
+index_refused xs r room h =
+    let u = unread true xs r h in
+    let o = ap (index_read xs) u.reads in
+    let row = row_refused u.number room in
+    (ap (λ (q : Output). moved_of q room) o ∙ row.0 ∙ ap Err u.told, ap (λ (q : Output). left_of q room) o ∙ row.1)
 
 -- the first event stands behind the header
 pub place_first : (xs : List ℕ) → first_place ≡ place_of xs 0

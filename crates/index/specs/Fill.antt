@@ -1,10 +1,9 @@
 -- How the entries of a node are written: what is known before, and what it comes to.
 -- Assumes nothing.
-use Rattle.std.specs.Prelude.{ℕ, ◌+◌, ◌*◌, ◌≤◌, ◌<◌, min, true, List, ◌≡◌, length}
+use Rattle.std.specs.Prelude.{ℕ, ◌+◌, ◌*◌, ◌≤◌, ◌<◌, min, true, List, ◌≡◌, length, Ok, Err}
 use Rattle.shaper.specs.declared.Limits.{Limits}
 use Rattle.summary.specs.declared.Summary.{Summary}
-use Rattle.summary.specs.declared.Answer.{Answer}
-use Rattle.summary.specs.Answer.{join_of}
+use Rattle.summary.specs.Answer.{Answer, join_of}
 use Rattle.excerpt.specs.declared.Place.{Place}
 use Rattle.roll.specs.Steps.{Reads}
 use Rattle.index.specs.declared.Filled.{Filled}
@@ -31,8 +30,8 @@ filled_of l xs k x = record { sum = node_summary l (events_in xs) k x; next = pl
 
 -- two summaries joined; a refusal, which none of one record is, would leave the first
 abbrev pub both_by : Summary → Answer → Summary
-both_by a (Answer.Summed s) = s
-both_by a (Answer.Refused n) = a
+both_by a (Ok s) = s
+both_by a (Err r) = a
 
 unfoldable pub both_of : Summary → Summary → Summary
 both_of a b = both_by a (join_of a b)

@@ -1,6 +1,7 @@
 -- The index of a record (document 02, A1): an entry for each block and for each pair above, in order.
 -- Assumes nothing.
-use Rattle.std.specs.Prelude.{ℕ, zero, suc, ◌+◌, ◌-◌, ◌*◌, true, cond, List, [], ◌++◌, leb, ltb, eqb, length, take, drop}
+use Rattle.std.specs.Prelude.{ℕ, zero, suc, ◌+◌, ◌-◌, ◌*◌, true, cond, List, [], ◌++◌, leb, ltb, eqb, length, take, drop, Ok, Err}
+use Rattle.decide.specs.Number.{refusal_of}
 use Rattle.shaper.specs.declared.Limits.{Limits}
 use Rattle.shaper.specs.declared.Event.{Event}
 use Rattle.shaper.specs.Limits.{most_events}
@@ -9,9 +10,7 @@ use Rattle.summary.specs.Summary.{summary_of}
 use Rattle.record.specs.Read.{Read, unreadable, whole, read_in}
 use Rattle.excerpt.specs.declared.Place.{Place}
 use Rattle.excerpt.specs.Place.{first_place, place_after}
-use Rattle.roll.specs.declared.Moved.{Moved}
-use Rattle.roll.specs.declared.Moved.TheVariants.{Written, Refused}
-use Rattle.roll.specs.Moved.{Output, refused, bytes}
+use Rattle.roll.specs.Moved.{Moved, Output, refused, bytes}
 use Rattle.index.specs.Tree.{block_events, top_level, size_of, from_of, to_of, index_length}
 use Rattle.index.specs.Entry.{entry_bytes}
 
@@ -61,4 +60,4 @@ index_of xs = index_read xs (read_in true xs)
 
 -- how many bytes an index of so many events takes; 9 over 1,000,000
 unfoldable pub length_answer : ℕ → Moved
-length_answer n = cond (leb n most_events) (Written (index_length n)) (Refused 9)
+length_answer n = cond (leb n most_events) (Ok (index_length n)) (Err (refusal_of 9))

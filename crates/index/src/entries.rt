@@ -29,7 +29,7 @@ pub fn summary_at(s: &[u8], at: usize, limits: Limits) -> Summary
     ensures { result ≡ summary_in limits s.now at }
 {
     Summary {
-        limits: limits,
+        limits,
         events: wire::get32(s, at),
         accrued: wire::get64(s, at + 16),
         sent: wire::get64(s, at + 24),

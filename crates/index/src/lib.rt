@@ -11,11 +11,11 @@ ghost use Rattle.index.specs.Fill.{Filling, FillsBlock, filled_of, both_of};
 
 pub mod entries;
 
+use decide::Refusal;
 use entries::put_entry;
-use excerpt::{Excerpt, Place};
-use roll::Moved;
+use excerpt::Place;
 use shaper::Limits;
-use summary::{Answer, Summary};
+use summary::Summary;
 
 // How many events a block has.
 pub const BLOCK: u64 = 256;
@@ -28,12 +28,6 @@ const TOP: u64 = 12;
 
 const TOP_BLOCKS: u64 = 4096;
 
-// The refusal of a room that is too short,
-const SHORT_ROOM: u64 = 12;
-
-// and of too many events.
-const TOO_MANY: u64 = 9;
-
 // Part of an index that is written: the summary of what it covers, and the place behind its last event.
 #[derive(Clone, Copy)]
 struct Filled {
@@ -42,36 +36,32 @@ struct Filled {
 }
 
 // How many bytes the index of so many events takes. 9 over 1,000,000.
-pub fn length(events: u64) -> Moved
+pub fn length(events: u64) -> Result<u64, Refusal>
     ensures { result ≡ length_answer events }
 {
     if (Summary::MAX_EVENTS as u64) < events {
-        return Moved::Refused(TOO_MANY);
+        return Err(Refusal::TooMany);
     }
-    Moved::Written(bytes_of(events))
+    Ok(bytes_of(events))
 }
 
-// Leaves in the room the index of a record, of either form, and answers how many bytes that is. The number of the record's earliest fault; then 12 where the room is too short.
-pub fn fill(s: &[u8], room: &mut [u8]) -> Moved
+// Leaves in the room the index of a record, of either form, and answers how many bytes that is. The record's earliest fault; then 12 where the room is too short.
+pub fn fill(s: &[u8], room: &mut [u8]) -> Result<u64, Refusal>
     ensures value { result ≡ moved_of (index_of s.now) room.old }
     ensures room_after { room.new ≡ left_of (index_of s.now) room.old }
 {
-    match account::summarize(s, true) {
-        Answer::Summed(whole) => {
-            let n = whole.events as u64;
-            let need = bytes_of(n);
-            if (room.len() as u64) < need {
-                return Moved::Refused(SHORT_ROOM);
-            }
-            if n == 0 {
-                return Moved::Written(0);
-            }
-            let first = Place { at: 14, gone: 0 };
-            put_node(s, whole.limits, n, TOP, TOP_BLOCKS, 0, first, room);
-            Moved::Written(need)
-        }
-        Answer::Refused(number) => Moved::Refused(number),
+    let whole = account::summarize(s, true)?;
+    let n = whole.events as u64;
+    let need = bytes_of(n);
+    if (room.len() as u64) < need {
+        return Err(Refusal::ShortRoom);
     }
+    if n == 0 {
+        return Ok(0);
+    }
+    let first = Place { at: 14, gone: 0 };
+    put_node(s, whole.limits, n, TOP, TOP_BLOCKS, 0, first, room);
+    Ok(need)
 }
 
 // How many bytes the index of so many events takes: none for none.
@@ -117,43 +107,21 @@ fn put_node(
     let sum = both(first, second);
     put_entry(room, 80 * middle as usize - ENTRY, place, sum);
     let next = right.next;
-    Filled {
-        sum: sum,
-        next: next,
-    }
+    Filled { sum, next }
 }
 
-// Writes the entry of a block, whose events are read from its place on.
+// Writes the entry of a block, whose events are read from its place on: the record was read whole before, so that none has a fault.
 fn put_block(s: &[u8], limits: Limits, n: u64, block: u64, place: Place, room: &mut [u8]) -> Filled
     requires { FillsBlock limits s.now n block place room.old }
     ensures value { result ≡ filled_of limits s.now 0 block }
     ensures room_after { room.new ≡ put room.old (80 * block) (node_bytes limits s.now (events_in s.now) 0 block) }
 {
     let count = decide::lesser(BLOCK, n - BLOCK * block);
-    match excerpt::part(s, limits, place, count) {
-        Excerpt::Summed { sum, next } => {
-            put_entry(room, 80 * block as usize, place, sum);
-            Filled {
-                sum: sum,
-                next: next,
-            }
-        }
-        Excerpt::Refused(_) => no_block(limits, place),
-    }
-}
-
-// What a block with a fault would come to. The record was read whole before, so that no block has one.
-fn no_block(limits: Limits, place: Place) -> Filled {
+    let part = excerpt::part(s, limits, place, count).unwrap();
+    put_entry(room, 80 * block as usize, place, part.sum);
     Filled {
-        sum: Summary {
-            limits: limits,
-            events: 0,
-            accrued: 0,
-            sent: 0,
-            ceiling: 0i64,
-            need: 0,
-        },
-        next: place,
+        sum: part.sum,
+        next: part.next,
     }
 }
 
@@ -161,8 +129,5 @@ fn no_block(limits: Limits, place: Place) -> Filled {
 fn both(first: Summary, second: Summary) -> Summary
     ensures { result ≡ both_of first second }
 {
-    match first.join(second) {
-        Answer::Summed(sum) => sum,
-        Answer::Refused(_) => first,
-    }
+    first.join(second).unwrap_or(first)
 }

@@ -16,12 +16,13 @@ use Rattle.flow.specs.declared.Line.{Line}
 use Rattle.flow.specs.declared.Line.TheVariants.{Control, Primary, Secondary}
 use Rattle.flow.specs.Parts.{with_credits, with_stage, with_queue}
 use Rattle.fair.specs.declared.Fair.{Fair}
-use Rattle.fair.specs.declared.Four.{Four}
+use Rattle.fair.specs.Four.{Four}
 use Rattle.fair.specs.Count.{with_counters}
 use Rattle.station.specs.declared.Station.{Station}
 use Rattle.station.specs.Answers.{with_flow, with_fair}
 use Rattle.station.specs.Offers.{given_frame}
-use Rattle.slots.specs.Slots.{queue_length, words_bytes, queue_bytes, queue_part}
+use Rattle.slots.specs.Slots.{queue_length, queue_bytes, queue_part}
+use Rattle.wire.specs.Words.{words_bytes}
 use Rattle.slots.proofs.Anew.{put_anew}
 use Rattle.layout.specs.Layout.{place_of, stage_place, fair_place, station_length, words_part, credits_words, four_words, stored_parts, decided_words, received_words}
 use Rattle.layout.specs.Layout.{fair_parts, fair_bytes, station_bytes}

@@ -13,13 +13,13 @@ use Rattle.wire.proofs.Numbers.{digits_stand, digits_bytes, le_bound, le_stands}
 use Rattle.wire.proofs.Laid.{part_stands}
 use Rattle.wire.proofs.Placed.{placed_stand, laid_out_bytes}
 use Rattle.credits.specs.declared.Credits.{Credits}
-use Rattle.fair.specs.declared.Four.{Four}
-use Rattle.fair.specs.declared.Stored.{Stored}
+use Rattle.fair.specs.Four.{Four, Stored}
 use Rattle.fair.specs.declared.Decided.{Decided}
 use Rattle.heard.specs.declared.Received.{Received}
 use Rattle.fair.specs.declared.Fair.{Fair}
 use Rattle.station.specs.declared.Held.{Held}
-use Rattle.slots.specs.Slots.{words_bytes, WordsFit}
+use Rattle.slots.specs.Slots.{WordsFit}
+use Rattle.wire.specs.Words.{words_bytes}
 use Rattle.slots.proofs.Round as slots
 use Rattle.layout.specs.Layout.{four_length, stored_length, decided_length, received_length, smoothed_place, decided_place, since_place, received_place, fair_length}
 use Rattle.layout.specs.Layout.{credits_words, four_words, stored_parts, stored_bytes, decided_words, received_words, fair_parts, fair_bytes}

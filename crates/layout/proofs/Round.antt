@@ -22,8 +22,7 @@ use Rattle.credits.specs.declared.Which.TheVariants.{M, A, B, C, D}
 use Rattle.flow.specs.declared.Line.TheVariants.{Control, Primary, Secondary}
 use Rattle.flow.specs.Range.{FlowOk}
 use Rattle.rates.specs.Rates.{shown_of}
-use Rattle.fair.specs.declared.Four.{Four}
-use Rattle.fair.specs.declared.Stored.{Stored}
+use Rattle.fair.specs.Four.{Four, Stored}
 use Rattle.fair.specs.declared.Fair.{Fair}
 use Rattle.fair.specs.Range.{StoredOk, FairOk}
 use Rattle.fair.proofs.Age.{stored_below}

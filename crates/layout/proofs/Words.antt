@@ -1,36 +1,15 @@
 -- Words that stand one behind the other: read where they stand, standing where they are read, each at its own offset.
 -- Assumes nothing.
 use Prim.Native.Nat.{ℕ, ◌+◌, ◌*◌, ◌≤◌}
-use mathlib.Core.List.{List, [], ◌∷◌, ◌++◌}
-use mathlib.Core.Path.{◌≡◌, refl, ap, subst, ◌∙◌}
+use mathlib.Core.List.{List, [], ◌∷◌}
+use mathlib.Core.Path.{◌≡◌, refl, subst}
 use native.Mathlib.Nat.{add_assoc}
-use native.Mathlib.Omega.{arith}
 use lib.ListN.{length}
-use Rattle.wire.specs.Wire.{le, digits, put, Bytes}
-use Rattle.wire.specs.Parts.{Part, laid_out, sizes, laid}
+use Rattle.wire.specs.Wire.{le, Bytes}
 use Rattle.wire.proofs.Places.{Stands}
-use Rattle.wire.proofs.Laid.{laid_put}
-use Rattle.settings.specs.Words.{word}
-use Rattle.slots.specs.Slots.{words_bytes, words_at, WordsFit}
+use Rattle.slots.specs.Slots.{WordsFit}
+use Rattle.wire.specs.Words.{words_bytes, words_at}
 use Rattle.slots.proofs.Round as slots
-
--- each word as a part
-abbrev pub words : List ℕ → List Part
-words [] = []
-words (v ∷ vs) = word v ∷ words vs
-
-laid_words : (vs : List ℕ) → laid_out (words vs) ≡ words_bytes vs
-unfolding words_bytes
-laid_words [] = refl
-laid_words (v ∷ vs) = ap (λ (l : List ℕ). digits 4 v ++ l) (laid_words vs)
-
-size_words : (vs : List ℕ) → sizes (words vs) ≡ 4 * length vs
-size_words [] = refl
-size_words (v ∷ vs) = omega (arith, size_words vs)
-
--- puts of words one behind the other are one
-pub words_put : (vs xs : List ℕ) (at : ℕ) → at + 4 * length vs ≤ length xs → laid xs at (words vs) ≡ put xs at (words_bytes vs)
-words_put vs xs at h = laid_put (words vs) xs at (omega (arith, size_words vs)) ∙ ap (put xs at) (laid_words vs)
 
 -- ---- what is read
 

@@ -9,13 +9,13 @@ use Rattle.queue.specs.Queue.{pushed, taken}
 use Rattle.credits.specs.declared.Credits.{Credits}
 use Rattle.flow.specs.declared.Line.{Line}
 use Rattle.flow.specs.declared.Line.TheVariants.{Control, Primary, Secondary}
-use Rattle.fair.specs.declared.Four.{Four}
-use Rattle.fair.specs.declared.Stored.{Stored}
+use Rattle.fair.specs.Four.{Four, Stored}
 use Rattle.fair.specs.declared.Decided.{Decided}
 use Rattle.heard.specs.declared.Received.{Received}
 use Rattle.fair.specs.declared.Fair.{Fair}
 use Rattle.station.specs.declared.Station.{Station}
-use Rattle.slots.specs.Slots.{queue_length, words_bytes, words_length, queue_bytes, queue_at, WordsFit, QueueFits}
+use Rattle.slots.specs.Slots.{queue_length, queue_bytes, queue_at, WordsFit, QueueFits}
+use Rattle.wire.specs.Words.{words_bytes, words_length}
 
 -- ---- how many bytes each part takes, and where it stands: behind the one before
 

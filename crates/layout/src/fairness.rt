@@ -4,7 +4,7 @@ ghost use Rattle.std.specs.Prelude.{◌≡◌, ◌+◌, ◌≤◌, length};
 ghost use Rattle.decide.specs.Test.{test};
 ghost use Rattle.wire.specs.Wire.{put};
 ghost use Rattle.fair.specs.Range.{fair_ok};
-ghost use Rattle.slots.specs.Slots.{words_bytes};
+ghost use Rattle.wire.specs.Words.{words_bytes};
 ghost use Rattle.layout.specs.Layout.{four_length, stored_length, decided_length, received_length, fair_length};
 ghost use Rattle.layout.specs.Layout.{four_at, stored_at, decided_at, received_at, fair_at};
 ghost use Rattle.layout.specs.Layout.{four_words, stored_bytes, decided_words, received_words, fair_bytes};
@@ -63,12 +63,8 @@ fn read_four(s: &[u8], at: usize) -> Four
     requires { at + four_length ≤ length s.now }
     ensures { result ≡ four_at s.now at }
 {
-    Four {
-        add: wire::get32(s, at),
-        fw: wire::get32(s, at + 4),
-        addc: wire::get32(s, at + 8),
-        fwc: wire::get32(s, at + 12),
-    }
+    let [add, fw, addc, fwc] = wire::read_words::<4>(s, at);
+    Four { add, fw, addc, fwc }
 }
 
 // Writes the words of four rates to `s` from `at` on.
@@ -76,13 +72,10 @@ pub fn write_four(r: Four, s: &mut [u8], at: usize)
     requires { at + four_length ≤ length s.old }
     ensures { s.new ≡ put s.old at (words_bytes (four_words r)) }
 {
-    wire::put32(s, at, r.add);
-    wire::put32(s, at + 4, r.fw);
-    wire::put32(s, at + 8, r.addc);
-    wire::put32(s, at + 12, r.fwc);
+    wire::write_words([r.add, r.fw, r.addc, r.fwc], s, at);
 }
 
-// The four stored numbers that stand in `s` from `at` on.
+// The four stored numbers that stand in `s` from `at` on. They are the only ones of 8 bytes, so no `read_words` for such numbers would be plainer.
 fn read_stored(s: &[u8], at: usize) -> Stored
     requires { at + stored_length ≤ length s.now }
     ensures { result ≡ stored_at s.now at }
@@ -111,12 +104,13 @@ fn read_decided(s: &[u8], at: usize) -> Decided
     requires { at + decided_length ≤ length s.now }
     ensures { result ≡ decided_at s.now at }
 {
+    let [local, allowed, allowedc, own, congested] = wire::read_words::<5>(s, at);
     Decided {
-        local: wire::get32(s, at),
-        allowed: wire::get32(s, at + 4),
-        allowedc: wire::get32(s, at + 8),
-        own: wire::get32(s, at + 12),
-        congested: wire::get32(s, at + 16),
+        local,
+        allowed,
+        allowedc,
+        own,
+        congested,
     }
 }
 
@@ -125,11 +119,7 @@ pub fn write_decided(d: Decided, s: &mut [u8], at: usize)
     requires { at + decided_length ≤ length s.old }
     ensures { s.new ≡ put s.old at (words_bytes (decided_words d)) }
 {
-    wire::put32(s, at, d.local);
-    wire::put32(s, at + 4, d.allowed);
-    wire::put32(s, at + 8, d.allowedc);
-    wire::put32(s, at + 12, d.own);
-    wire::put32(s, at + 16, d.congested);
+    wire::write_words([d.local, d.allowed, d.allowedc, d.own, d.congested], s, at);
 }
 
 // What was received, as its words in `s` from `at` on say.
@@ -137,12 +127,13 @@ fn read_received(s: &[u8], at: usize) -> Received
     requires { at + received_length ≤ length s.now }
     ensures { result ≡ received_at s.now at }
 {
+    let [downstream, ttl, high, low, rate] = wire::read_words::<5>(s, at);
     Received {
-        downstream: wire::get32(s, at),
-        ttl: wire::get32(s, at + 4),
-        high: wire::get32(s, at + 8),
-        low: wire::get32(s, at + 12),
-        rate: wire::get32(s, at + 16),
+        downstream,
+        ttl,
+        high,
+        low,
+        rate,
     }
 }
 
@@ -151,9 +142,5 @@ pub fn write_received(r: Received, s: &mut [u8], at: usize)
     requires { at + received_length ≤ length s.old }
     ensures { s.new ≡ put s.old at (words_bytes (received_words r)) }
 {
-    wire::put32(s, at, r.downstream);
-    wire::put32(s, at + 4, r.ttl);
-    wire::put32(s, at + 8, r.high);
-    wire::put32(s, at + 12, r.low);
-    wire::put32(s, at + 16, r.rate);
+    wire::write_words([r.downstream, r.ttl, r.high, r.low, r.rate], s, at);
 }

@@ -9,7 +9,7 @@ ghost use Rattle.selection.specs.Pick.{sight_of};
 ghost use Rattle.station.specs.Range.{station_ok};
 ghost use Rattle.station.specs.Pick.{pick_of};
 ghost use Rattle.station.specs.Offers.{given_frame};
-ghost use Rattle.slots.specs.Slots.{words_bytes};
+ghost use Rattle.wire.specs.Words.{words_bytes};
 ghost use Rattle.layout.specs.Layout.{credits_length, stage_place, fair_place, station_length, station_at, station_bytes};
 ghost use Rattle.layout.specs.Layout.{credits_at, credits_words, four_words, fair_bytes, place_of, pushed_at, taken_from};
 ghost use Rattle.layout.specs.Reading.{reading_length, held_words, reading_bytes};
@@ -56,7 +56,7 @@ pub fn read(s: &[u8]) -> Station
     };
     Station {
         settings: Settings::read(s, SETTINGS),
-        flow: flow,
+        flow,
         fair: fairness::read(s, FAIR),
     }
 }
@@ -145,20 +145,16 @@ pub fn push_frame(line: Line, class: u64, size: u64, hops: u64, mark: u64, s: &m
 }
 
 // Takes the first frame from the queue that a selection names, in the bytes of a station, and leaves all others: 1 control, 2 primary, 3 secondary.
+// The origin is the number that a selection answers to a host; nothing is taken at any other, so no enum takes its place.
 pub fn take_frame(origin: u32, s: &mut [u8])
     requires { length s.old ≡ station_length }
     ensures { s.new ≡ taken_from origin s.old }
 {
-    if origin == 1 {
-        slots::take(s, place(Line::Control));
-        return;
-    }
-    if origin == 2 {
-        slots::take(s, place(Line::Primary));
-        return;
-    }
-    if origin == 3 {
-        slots::take(s, place(Line::Secondary));
+    match origin {
+        1 => slots::take(s, place(Line::Control)),
+        2 => slots::take(s, place(Line::Primary)),
+        3 => slots::take(s, place(Line::Secondary)),
+        _ => (),
     }
 }
 
@@ -239,13 +235,8 @@ fn read_credits(s: &[u8], at: usize) -> Credits
     requires { at + credits_length ≤ length s.now }
     ensures { result ≡ credits_at s.now at }
 {
-    Credits {
-        m: wire::get32(s, at),
-        a: wire::get32(s, at + 4),
-        b: wire::get32(s, at + 8),
-        c: wire::get32(s, at + 12),
-        d: wire::get32(s, at + 16),
-    }
+    let [m, a, b, c, d] = wire::read_words::<5>(s, at);
+    Credits { m, a, b, c, d }
 }
 
 // Writes the words of credits to `s` from `at` on.
@@ -253,11 +244,7 @@ fn put_credits(c: Credits, s: &mut [u8], at: usize)
     requires { at + credits_length ≤ length s.old }
     ensures { s.new ≡ put s.old at (words_bytes (credits_words c)) }
 {
-    wire::put32(s, at, c.m);
-    wire::put32(s, at + 4, c.a);
-    wire::put32(s, at + 8, c.b);
-    wire::put32(s, at + 12, c.c);
-    wire::put32(s, at + 16, c.d);
+    wire::write_words([c.m, c.a, c.b, c.c, c.d], s, at);
 }
 
 // Writes the two words of what a queue or the stage holds to `s` from `at` on.
@@ -265,6 +252,5 @@ fn write_held(h: Held, s: &mut [u8], at: usize)
     requires { at + 8 ≤ length s.old }
     ensures { s.new ≡ put s.old at (words_bytes (held_words h)) }
 {
-    wire::put32(s, at, h.frames);
-    wire::put32(s, at + 4, h.bytes);
+    wire::write_words([h.frames, h.bytes], s, at);
 }

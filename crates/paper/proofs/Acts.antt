@@ -21,7 +21,7 @@ use Rattle.rates.specs.Rates.{own_rate_of}
 use Rattle.credits.specs.declared.Which.{Which}
 use Rattle.credits.specs.Which.{permits_all}
 use Rattle.credits.specs.Way.{needs_of, mark_of}
-use Rattle.flow.specs.declared.Entered.{Entered}
+use Rattle.flow.specs.Offer.{Entered}
 use Rattle.flow.specs.declared.Flow.{Flow}
 use Rattle.flow.specs.declared.Line.{Line}
 use Rattle.flow.specs.declared.Line.TheVariants.{Control, Primary, Secondary}
@@ -35,9 +35,9 @@ use Rattle.flow.proofs.Offer.{enter_taken}
 use Rattle.flow.proofs.Frames.{enter_appends}
 use Rattle.fair.proofs.Count.{over_exactly}
 use Rattle.station.specs.declared.Station.{Station}
-use Rattle.station.specs.declared.Done.{Done}
+use Rattle.shaper.specs.Refused.{afterwards}
 use Rattle.station.specs.Range.{station_ok, StationOk}
-use Rattle.station.specs.Answers.{with_flow, done_of}
+use Rattle.station.specs.Answers.{with_flow, Done, done_of}
 use Rattle.station.specs.Calls.{flags_ok, tick_of}
 use Rattle.station.specs.Offers.{given_frame, offer_of, over_for, way_for}
 use Rattle.station.specs.History.{Answer}
@@ -109,7 +109,7 @@ module _ {st : Station} (ok : StationOk st) where
       (record {
         number = (refl, refl);
         last =
-            subst (λ (e : Entered). frames_of (queue_of e.flow l) ≡ frames_of (queue_of st.flow l) ++ (x ∷ []))
+            subst (λ (e : Entered). frames_of (queue_of (afterwards st.flow e) l) ≡ frames_of (queue_of st.flow l) ++ (x ∷ []))
             (enter_taken st.settings st.flow l x fits) (enter_appends st.settings st.flow ok.settings ok.flow l x (record { frame = frame; ring = within }) fits);
         others = other_queue st.flow q l;
         kept = (parts.0, parts.1, refl, refl);
@@ -143,10 +143,10 @@ module _ {st : Station} (ok : StationOk st) where
         }
 
   tick_credits : (a b c : ℕ) → YesNo a × YesNo b × YesNo c
-      → tick_of st a b c ≡ done_of (with_flow st (with_credits st.flow (tick_of st a b c).station.flow.credits))
+      → tick_of st a b c ≡ done_of (with_flow st (with_credits st.flow (afterwards st (tick_of st a b c)).flow.credits))
   unfolding flow.tick_of
   tick_credits a b c flags =
-      subst (λ (r : Done). r ≡ done_of (with_flow st (with_credits st.flow r.station.flow.credits)))
+      subst (λ (r : Done). r ≡ done_of (with_flow st (with_credits st.flow (afterwards st r).flow.credits)))
       (sym (tick_done st a b c in_range_lem (passes (flags_ok a b c) ((flags_exactly a b c).1 flags)))) refl
 
   pub acts : Acts st

@@ -1,5 +1,10 @@
 -- A record is refused for its earliest fault: the cause that `record` names is the reason that holds, in the header, at an item, behind the millionth event, or
 -- where a run passes it. Assumes nothing.
+use Rattle.std.specs.Prelude.{Ok, Err, Some}
+use Rattle.decide.specs.declared.refusal.Refusal.{Refusal}
+use Rattle.decide.specs.Number.{number_in, refusal_of}
+use Rattle.decide.proofs.Number.{number_told}
+use Rattle.record.specs.Step.{placed}
 use Prim.Native.Nat.{ℕ, ◌+◌, ◌%◌, ◌<◌}
 use mathlib.Core.Bool.{Bool, true, false}
 use mathlib.Core.List.{List, ◌++◌}
@@ -12,10 +17,8 @@ use Rattle.decide.proofs.Cases.{by_cases, true_or_false}
 use Rattle.wire.specs.Wire.{le, Bytes}
 use Rattle.shaper.specs.Limits.{most_events}
 use Rattle.shaper.specs.declared.Limits.{Limits}
-use Rattle.summary.specs.declared.Answer.{Answer}
+use Rattle.summary.specs.Answer.{Answer}
 use Rattle.summary.specs.Answer.{answer_number}
-use Rattle.record.specs.declared.Header.{Header}
-use Rattle.record.specs.declared.Step.TheVariants.{Stands}
 use Rattle.record.specs.Record.{written, WellFormed}
 use Rattle.record.specs.Items.{Item, written_items, unrolled, Formed}
 use Rattle.record.specs.Step.{header_of_of, item_at}
@@ -42,29 +45,29 @@ use Rattle.paper.proofs.Items.{header_meant, header_given, item_number_lem, item
 -- ---- what stands in any bytes
 
 module _ (xs : List ℕ) where
-  header_settings : header_refused xs 0 → header_of_of xs ≡ Header.Settings (limits_at xs)
+  header_settings : header_refused xs 0 → header_of_of xs ≡ Ok (limits_at xs)
   unfolding header_of_of
   header_settings h = rw (number_of (header_faults xs) (header_meant xs) refl 0 h)
 
   module _ (mtu at : ℕ) (some : at < length xs) where
     -- an event ends 6 bytes on,
     event_there : (runs : Bool) → first_of (item_faults runs mtu (drop at xs)) ≡ 0 → is_run (drop at xs) ≡ false
-        → item_at runs mtu xs at ≡ Stands (le 2 (drop at xs) 2) (le 2 (drop at xs) 4) 1 (at + 6)
+        → item_at runs mtu xs at ≡ Ok (Some (placed (le 2 (drop at xs) 2) (le 2 (drop at xs) 4) 1 (at + 6)))
     event_there runs free e =
         let t = told_event (drop at xs) e in
         let here = rw (t.kind, t.number, t.count) at (free_stands runs mtu xs at some free) in
         let six = by_cases (step_stands runs mtu xs at _ _ _ _ here).there (λ s. s.six) (λ s. absurd (omega (arith, s.1.many))) in
-        here ∙ ap (Stands (le 2 (drop at xs) 2) (le 2 (drop at xs) 4) 1) six
+        here ∙ ap (λ (n : ℕ). Ok (Some (placed (le 2 (drop at xs) 2) (le 2 (drop at xs) 4) 1 n))) six
 
     -- and a run 10
     run_stands : item_refused mtu (drop at xs) 0 → le 2 (drop at xs) 2 ≡ 4
-        → item_at true mtu xs at ≡ Stands (le 2 (drop at xs) 4) (le 2 (drop at xs) 6) (le 2 (drop at xs) 8) (at + 10)
+        → item_at true mtu xs at ≡ Ok (Some (placed (le 2 (drop at xs) 4) (le 2 (drop at xs) 6) (le 2 (drop at xs) 8) (at + 10)))
     run_stands h four =
         let ys = drop at xs in
         let t = told_run ys (run_there ys four) in
         let here = rw (t.kind, t.number, t.count) at (free_stands true mtu xs at some (item_number_lem mtu ys 0 h)) in
         let ten = by_cases (step_stands true mtu xs at _ _ _ _ here).there (λ s. absurd (omega (arith, s.one, run_many mtu ys h four))) (λ s. s.1.ten) in
-        here ∙ ap (Stands (le 2 ys 4) (le 2 ys 6) (le 2 ys 8)) ten
+        here ∙ ap (λ (n : ℕ). Ok (Some (placed (le 2 ys 4) (le 2 ys 6) (le 2 ys 8) n))) ten
 
   pub finds : Finding xs
   finds =
@@ -115,16 +118,16 @@ module _ (xs : List ℕ) (n : ℕ) (p : 0 < n) where
   pub causes : Cause true xs n ↔ RecordRefused xs n
   causes = (named, caused)
 
-  -- a number that is answered, and a refusal with it
-  told : (a : Answer) → (answer_number a ≡ n) ↔ (a ≡ Answer.Refused n)
-  told (Answer.Summed s) = (λ e. absurd (omega arith), λ e. ap answer_number e)
-  told (Answer.Refused m) = (λ e. ap Answer.Refused e, λ e. ap answer_number e)
+  -- a number that is answered, and the refusal with it
+  told : (a : Answer) → answer_number a ≡ n → (f : Refusal) × (number_in f ≡ n) × (a ≡ Err f)
+  told (Ok s) e = absurd (omega arith)
+  told (Err f) e = (f, e, refl)
 
 -- A record has the number of its earliest fault.
-pub record_faults : (xs : List ℕ) → Bytes xs → (n : ℕ) → 0 < n → (summarize_of xs ≡ Answer.Refused n) ↔ RecordRefused xs n
+pub record_faults : (xs : List ℕ) → Bytes xs → (n : ℕ) → 0 < n → (summarize_of xs ≡ Err (refusal_of n)) ↔ RecordRefused xs n
 record_faults xs bytes n p =
     let exactly = summarize_refused_exactly true xs n bytes p in
-    (λ e. named xs n p (exactly.0 e), λ c. exactly.1 (caused xs n p c))
+    (λ e. named xs n p (exactly.0 (refusal_of n) (number_told n) e), λ c. exactly.1 (caused xs n p c))
 
 -- ---- in the old form
 
@@ -155,10 +158,10 @@ module _ (xs : List ℕ) (n : ℕ) (p : 0 < n) where
   old_causes = (old_named, old_caused)
 
   -- A record in the old form has the number of its earliest fault.
-  pub old_record_faults : Bytes xs → (summarize_in false xs ≡ Answer.Refused n) ↔ OldRecordRefused xs n
+  pub old_record_faults : Bytes xs → (summarize_in false xs ≡ Err (refusal_of n)) ↔ OldRecordRefused xs n
   old_record_faults b =
       let exactly = summarize_refused_exactly false xs n b p in
-      (λ e. old_named (exactly.0 e), λ c. exactly.1 (old_caused c))
+      (λ e. old_named (exactly.0 (refusal_of n) (number_told n) e), λ c. exactly.1 (old_caused c))
 
 -- ---- rpr_summarize
 
@@ -171,9 +174,9 @@ refuses_record xs room bytes =
       fault = λ whole n p.
           let number : summarize_answer xs room % 256 ≡ answer_number (summarize_of xs) = leaves.0.byte_0 ∙ summarize_rows_lem xs room whole in
           let exactly = record_faults xs bytes n p in
-          let said = told xs n p (summarize_of xs) in (
-            λ e. exactly.0 (said.0 (sym number ∙ e)),
-            λ c. number ∙ said.1 (exactly.1 c),
+          let cause = summarize_refused_exactly true xs n bytes p in (
+            λ e. let said = told xs n p (summarize_of xs) (sym number ∙ e) in named xs n p (cause.0 said.0 said.1 said.2),
+            λ c. number ∙ ap answer_number (exactly.1 c) ∙ number_told n,
           );
       alone = alone;
       stays = λ p. leaves.1 (subst (λ (n : ℕ). 0 < n) leaves.0.byte_0 p);

@@ -1,5 +1,6 @@
 -- Files of summaries are joined so, by the laws of `sheet`; the pieces of a well-formed record are well formed.
 -- Assumes nothing.
+use Rattle.std.specs.Prelude.{Ok}
 use Prim.Native.Nat.{◌+◌, ◌≤◌}
 use mathlib.Core.Bool.{true}
 use mathlib.Core.List.{List, [], ◌∷◌, ◌++◌, map, flatten}
@@ -10,7 +11,7 @@ use lib.ListN.{length, length-append}
 use Rattle.shaper.specs.declared.Limits.{Limits}
 use Rattle.shaper.specs.declared.Event.{Event}
 use Rattle.shaper.specs.Limits.{most_events}
-use Rattle.summary.specs.declared.Answer.{Answer}
+use Rattle.summary.specs.Answer.{Answer}
 use Rattle.summary.specs.Summary.{summary_of}
 use Rattle.record.specs.Items.{Item, written_items, unrolled, ItemsOk, Formed}
 use Rattle.record.proofs.Written.{unrolled_append}
@@ -65,7 +66,7 @@ module _ (l : Limits) where
   -- joined in their order they come to the summary of all their events
   pieces_joined : (is : List Item) (rest : List (List Item)) → Formed true l (is ++ flatten rest)
       → joined_of (file_of (summarize_of (written_items l is))) (map (λ piece. file_of (summarize_of (written_items l piece))) rest)
-      ≡ Answer.Summed (summary_of l (unrolled (is ++ flatten rest)))
+      ≡ Ok (summary_of l (unrolled (is ++ flatten rest)))
   pieces_joined is rest w =
       let p = front l is (flatten rest) w in
       let q = behind l is (flatten rest) w in
@@ -75,7 +76,7 @@ module _ (l : Limits) where
       ∙ ap (joined_of (piece_file l (unrolled is))) (all_from_bytes rest q)
       ∙ files_joined l w.settings (unrolled is) (map unrolled rest) (formed_events true l is p).valid (pieces_valid rest q)
       (omega (arith, many l is (flatten rest) w, ap length (all_unrolled rest)))
-      ∙ ap (λ (es : List Event). Answer.Summed (summary_of l es)) (sym events)
+      ∙ ap (λ (es : List Event). Ok (summary_of l es)) (sym events)
 
 pub joins_files : JoinsFiles
 unfolding joined_from
@@ -92,5 +93,5 @@ joins_files =
       written_file = λ s n. (refl, refl);
       pieces =
           λ l whole is rest v w same.
-          pieces_joined l is rest w ∙ ap (λ (es : List Event). Answer.Summed (summary_of l es)) (sym same) ∙ sym (summarize_items true l whole v);
+          pieces_joined l is rest w ∙ ap (λ (es : List Event). Ok (summary_of l es)) (sym same) ∙ sym (summarize_items true l whole v);
     }

@@ -11,7 +11,7 @@ use lib.ListN.{length}
 use Rattle.decide.specs.Test.{test}
 use Rattle.decide.specs.Refusal.{Fault, first_of, in_order}
 use Rattle.decide.proofs.Hops.{out_exactly}
-use Rattle.decide.proofs.Refusal.{in_order_lem}
+use Rattle.decide.proofs.Given.{in_order_lem}
 use Rattle.settings.specs.Range.{settings_ok}
 use Rattle.settings.specs.Words.{settings_length, settings_at}
 use Rattle.settings.proofs.Range as settings

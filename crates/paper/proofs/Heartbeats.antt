@@ -1,5 +1,8 @@
 -- Heartbeats keep their promises over the host's call: by the laws of `heartbeat` it says what rpr_settle says of the written_out record's summary.
 -- Assumes nothing.
+use Rattle.std.specs.Prelude.{Ok, Err, Some, None}
+use Rattle.decide.specs.Number.{refusal_of}
+use Rattle.decide.proofs.Number.{number_told, refused_alike}
 use Prim.Native.Nat.{ℕ, ◌+◌, ◌*◌, ◌/◌, ◌%◌, ◌^◌, ◌≤◌, ◌<◌}
 use mathlib.Core.Bool.{Bool, true, false}
 use mathlib.Core.List.{List, [], ◌∷◌, ◌++◌}
@@ -19,8 +22,8 @@ use Rattle.shaper.specs.Limits.{limits_ok, most_events}
 use Rattle.shaper.specs.Credit.{Permitted, end_credit}
 use Rattle.shaper.proofs.Ranges.{limits_exactly}
 use Rattle.summary.specs.declared.Summary.{Summary}
-use Rattle.summary.specs.declared.Answer.{Answer}
-use Rattle.summary.specs.declared.Outcome.{Outcome}
+use Rattle.summary.specs.Answer.{Answer}
+use Rattle.summary.specs.Answer.{Outcome}
 use Rattle.summary.specs.Summary.{summary_of}
 use Rattle.summary.specs.Range.{in_range, InRange}
 use Rattle.summary.specs.Answer.{answer_number, and_then, join_next, settle_of}
@@ -98,7 +101,7 @@ module _ (s : Summary) (h : InRange s) (r : ℕ) (fits : r < 2 ^ 64) where
         odd = λ some e d o.
             let is = halves some true (eq-eqb (r % 2) 1 e) in
             record {
-              sum = ap (λ (d : Repeats). d.sum) is ∙ ap (λ (a : Answer). and_then a (λ t. join_next t (Answer.Summed s))) (sym o.sum);
+              sum = ap (λ (d : Repeats). d.sum) is ∙ ap (λ (a : Answer). and_then a (λ t. join_next t (Ok s))) (sym o.sum);
               joins = ap (λ (d : Repeats). d.joins) is ∙ ap (λ (n : ℕ). n + 1) (sym o.joins);
             };
         all = λ n. doubles s range r fits ∙ repeated_made s r range n;
@@ -109,12 +112,12 @@ module _ (s : Summary) (h : InRange s) (r : ℕ) (fits : r < 2 ^ 64) where
 -- ---- the answer as rpr_settle's
 
 told_same : (o : Outcome) → outcome_told o ≡ outcome_answer o
-told_same (Outcome.Permitted c) = refl
-told_same Outcome.NotPermitted = refl
-told_same (Outcome.Refused n) = refl
+told_same (Ok (Some c)) = refl
+told_same (Ok None) = refl
+told_same (Err r) = refl
 
 -- byte 0 of what is told where nothing is refused
-low_permitted : (x : ℕ) → outcome_told (Outcome.Permitted x) % 256 ≡ 0
+low_permitted : (x : ℕ) → outcome_told (Ok (Some x)) % 256 ≡ 0
 low_permitted x = omega arith
 
 -- what a pattern is, in the words of both
@@ -240,10 +243,10 @@ empty_pattern l ok r =
 -- ---- refusals
 
 -- the bytes are refused with a number of the table, or they are a pattern that is repeated often enough to be answered
-answered : (xs : List ℕ) (r : ℕ) → Bytes xs → ((m : ℕ) × (heartbeats_of xs r ≡ Answer.Refused m) × (0 < m) × (m ≤ 9)) ⊎ Beating xs r
+answered : (xs : List ℕ) (r : ℕ) → Bytes xs → ((m : ℕ) × (heartbeats_of xs r ≡ Err (refusal_of m)) × (0 < m) × (m ≤ 9)) ⊎ Beating xs r
 answered xs r b = by (read_pattern xs) refl
   where
-    by : (p : Read) → read_pattern xs ≡ p → ((m : ℕ) × (heartbeats_of xs r ≡ Answer.Refused m) × (0 < m) × (m ≤ 9)) ⊎ Beating xs r
+    by : (p : Read) → read_pattern xs ≡ p → ((m : ℕ) × (heartbeats_of xs r ≡ Err (refusal_of m)) × (0 < m) × (m ≤ 9)) ⊎ Beating xs r
     by (unreadable m) e = let s = rw e at (pattern_small xs) in inl (m, heartbeats_unreadable xs r m e, s.0, omega arith)
     by (whole l es) e =
         let w = read_pattern_lem xs b l es e in
@@ -257,9 +260,9 @@ answered xs r b = by (read_pattern xs) refl
         }))
         (λ n. inl (9, rw w.same (heartbeats_many l w.items w.ok r n), omega arith, omega arith))
 
-told_refused : (xs : List ℕ) (r m : ℕ) → heartbeats_of xs r ≡ Answer.Refused m → heartbeat_answer xs r ≡ m
+told_refused : (xs : List ℕ) (r m : ℕ) → heartbeats_of xs r ≡ Err (refusal_of m) → heartbeat_answer xs r ≡ m
 unfolding heartbeat_answer
-told_refused xs r m e = rw e
+told_refused xs r m e = rw e (number_told m)
 
 beating_low : (xs : List ℕ) (r : ℕ) → Beating xs r → heartbeat_answer xs r % 256 ≡ 0
 beating_low xs r t = rw t.bytes (low_byte t.limits t.items t.pattern r t.few)
@@ -267,7 +270,7 @@ beating_low xs r t = rw t.bytes (low_byte t.limits t.items t.pattern r t.few)
 small : (m : ℕ) → m ≤ 9 → m ≡ m % 256
 small m h = omega arith
 
-not_both : (xs : List ℕ) (r n : ℕ) → Beating xs r → heartbeats_of xs r ≡ Answer.Refused n → ⊥
+not_both : (xs : List ℕ) (r n : ℕ) → Beating xs r → heartbeats_of xs r ≡ Err (refusal_of n) → ⊥
 not_both xs r n t e =
     let s = heartbeats_summed t.limits t.items t.pattern r t.few in
     let both = sym s ∙ ap (λ (ys : List ℕ). heartbeats_of ys r) (sym t.bytes) ∙ e in
@@ -306,11 +309,11 @@ refuses_heartbeat xs r b =
             λ e. by_cases (answered xs r b)
                 (λ m. let is = told_refused xs r m.0 m.1 in
                 let same : m.0 ≡ n = omega (arith, is, e, m.3) in
-                named xs r n p (exact.0 (m.1 ∙ ap Answer.Refused same)))
+                named xs r n p (exact.0 (refusal_of m.0) (number_told m.0 ∙ same) m.1))
                 (λ t. absurd (omega (arith, beating_low xs r t, e))),
             λ c. let told = exact.1 (caused xs r n p c) in
                 by_cases (answered xs r b)
-                (λ m. let same : m.0 ≡ n = cc in omega (arith, told_refused xs r n told, m.3))
+                (λ m. let same : m.0 ≡ n = refused_alike m.0 n (sym m.1 ∙ told) in omega (arith, told_refused xs r n told, m.3))
                 (λ t. absurd (not_both xs r n t told)),
           );
       alone = λ p.
@@ -334,7 +337,7 @@ by_value =
       repeated_3 = λ s r h. repeated_3 s r (not_in s h);
       by_doubling = promises.by_doubling;
       written_out = promises.written_out;
-      faults = λ xs r b n p. let exact = heartbeats_refused_exactly xs r n b p in (λ e. named xs r n p (exact.0 e), λ c. exact.1 (caused xs r n p c));
+      faults = λ xs r b n p. let exact = heartbeats_refused_exactly xs r n b p in (λ e. named xs r n p (exact.0 (refusal_of n) (number_told n) e), λ c. exact.1 (caused xs r n p c));
       once = promises.pattern_once;
       from_low = λ s. refl;
       refused = λ n. refl;

@@ -1,5 +1,6 @@
 -- What the host is told and finds, by the laws of `rpr`: byte 0 is the number of the station's own rows behind the length, and the bytes that a call leaves hold
 -- the station that its step left. Assumes nothing.
+use Rattle.std.specs.Prelude.{Result}
 use Prim.Native.Nat.{ℕ}
 use mathlib.Core.Bool.{true}
 use mathlib.Core.List.{List, [], ◌∷◌, ◌++◌}
@@ -13,7 +14,7 @@ use Rattle.decide.proofs.Tests.{failing}
 use Rattle.advert.specs.Frame.{advert_length}
 use Rattle.heard.specs.Frame.{own_address}
 use Rattle.fair.specs.Advertise.{told_of}
-use Rattle.decide.proofs.Refusal.{refused_exactly}
+use Rattle.decide.proofs.Given.{refused_exactly}
 use Rattle.decide.proofs.Refused.{carried_by}
 use Rattle.wire.specs.Wire.{digits, Bytes}
 use Rattle.settings.specs.Range.{SettingsOk}
@@ -24,9 +25,11 @@ use Rattle.flow.specs.Offer.{queue_for, control_frame}
 use Rattle.station.specs.declared.Station.{Station}
 use Rattle.station.specs.declared.Selected.{Selected}
 use Rattle.station.specs.declared.Client.{Client}
-use Rattle.station.specs.declared.Done.{Done}
+use Rattle.shaper.specs.declared.Refused.{Refused}
+use Rattle.shaper.specs.Refused.{number_said, detail_said, afterwards}
+use Rattle.station.specs.Answers.{Done, origin_said, frame_said, rest_after}
 use Rattle.station.specs.Calls.{tick_faults, select_faults, age_faults, tick_of, select_of, age_of}
-use Rattle.station.specs.Offers.{given_frame, offer_faults, offer_client_faults, staging, taken_of, offer_client_of, offer_transit_of, offer_control_of}
+use Rattle.station.specs.Offers.{given_frame, offer_faults, offer_client_faults, staging, taken_of, mark_told, station_left, offer_client_of, offer_transit_of, offer_control_of}
 use Rattle.station.specs.Hear.{hear_faults, changed_of, hear_of}
 use Rattle.station.proofs.Range.{facts_in_range}
 use Rattle.station.proofs.Calls.{select_done, age_done}
@@ -78,14 +81,14 @@ module _ (xs : List ℕ) (k : Keeps xs (station_at xs)) where
         keeps = keeps;
       }
 
-  ticked : (a b c : ℕ) → Serves (tick_answer xs a b c) (left_by (tick a b c) xs) (tick_of st a b c).number nothing_more (tick_of st a b c).station
+  ticked : (a b c : ℕ) → Serves (tick_answer xs a b c) (left_by (tick a b c) xs) (number_said (tick_of st a b c)) nothing_more (afterwards st (tick_of st a b c))
   unfolding tick_answer
   ticked a b c =
       plainly (tick_faults st a b c) refl (laws.tick_leaves xs a b c).0 refl (call_exactly (history.tick a b c) st) (call_keeps k (tick a b c) _ refl)
 
   transit : (class size hops eligible : ℕ)
       → let r = offer_transit_of st class size hops eligible in
-      Serves (offer_transit_answer xs class size hops eligible) (left_by (offer_transit class size hops eligible) xs) r.number nothing_more r.station
+      Serves (offer_transit_answer xs class size hops eligible) (left_by (offer_transit class size hops eligible) xs) (number_said r) nothing_more (afterwards st r)
   unfolding offer_transit_answer
   transit class size hops eligible =
       let x = given_frame class size hops eligible in
@@ -93,25 +96,25 @@ module _ (xs : List ℕ) (k : Keeps xs (station_at xs)) where
       plainly (offer_faults st l x) refl (laws.offer_leaves xs l x).0 refl (call_exactly (history.offer_transit class size hops eligible) st) (call_keeps k (offer_transit class size hops eligible) _ refl)
 
   control : (size : ℕ)
-      → Serves (offer_control_answer xs size) (left_by (offer_control size) xs) (offer_control_of st size).number nothing_more (offer_control_of st size).station
+      → Serves (offer_control_answer xs size) (left_by (offer_control size) xs) (number_said (offer_control_of st size)) nothing_more (afterwards st (offer_control_of st size))
   unfolding offer_control_answer
   control size =
       let x = control_frame size in
       plainly (offer_faults st Control x) refl (laws.offer_leaves xs Control x).0 refl (call_exactly (history.offer_control size) st) (call_keeps k (offer_control size) _ refl)
 
-  aged : Serves (age_answer xs) (left_by age xs) (age_of st).number nothing_more (age_of st).station
+  aged : Serves (age_answer xs) (left_by age xs) (number_said (age_of st)) nothing_more (afterwards st (age_of st))
   unfolding age_answer
   aged = plainly (age_faults st) refl (laws.age_leaves xs).0 refl (call_exactly history.age st) (call_keeps k age _ refl)
 
   heard : (frame : List ℕ) (b : Bytes frame)
-      → Serves (read_frame_answer xs frame) (left_by (read_frame frame b) xs) (hear_of st frame).number nothing_more (hear_of st frame).station
+      → Serves (read_frame_answer xs frame) (left_by (read_frame frame b) xs) (number_said (hear_of st frame)) nothing_more (afterwards st (hear_of st frame))
   unfolding read_frame_answer
   heard frame b =
       plainly (hear_faults st frame) refl (laws.read_frame_leaves xs frame).0 refl (call_exactly (history.hear frame b) st) (call_keeps k (read_frame frame b) _ refl)
 
   client : (class size hops : ℕ)
       → let r = offer_client_of st class size hops in
-      Serves (offer_client_answer xs class size hops) (left_by (offer_client class size hops) xs) r.number (0 ∷ 0 ∷ 0 ∷ r.mark ∷ 0 ∷ 0 ∷ 0 ∷ []) r.station
+      Serves (offer_client_answer xs class size hops) (left_by (offer_client class size hops) xs) (number_said r) (0 ∷ 0 ∷ 0 ∷ mark_told r ∷ 0 ∷ 0 ∷ 0 ∷ []) (station_left st r)
   client class size hops =
       let fs = offer_client_faults st class size hops in
       let number = number_told fs refl (laws.offer_client_leaves xs class size hops).0.byte_0 (call_exactly (history.offer_client class size hops) st) in
@@ -120,7 +123,7 @@ module _ (xs : List ℕ) (k : Keeps xs (station_at xs)) where
         says = λ z.
             let taken = taken_of st (staging st class size hops) in
             let none = exact_number fs _ _ (refused_exactly fs refl _ refl) (call_exactly (history.offer_client class size hops) st) ∙ z in
-            let marked = ap (λ (r : Client). r.mark) (carried_by _ taken (first_of fs) none)
+            let marked = ap (λ (r : Result Client Refused). mark_told r) (carried_by _ taken (first_of fs) none)
             ∙ laws.client_mark xs class size hops (number ∙ z) in
             laws.offer_client_bytes xs class size hops (number ∙ z) ∙ ap (λ (m : ℕ). 0 ∷ 0 ∷ 0 ∷ 0 ∷ m ∷ 0 ∷ 0 ∷ 0 ∷ []) (sym marked);
         keeps = call_keeps k (offer_client class size hops) _ refl;
@@ -129,7 +132,7 @@ module _ (xs : List ℕ) (k : Keeps xs (station_at xs)) where
   -- refused with 6 it is told what the station said beside it
   barred : (class size hops : ℕ)
       → let r = offer_client_of st class size hops in
-      r.number ≡ 6 → digits 8 (offer_client_answer xs class size hops) ≡ (6 ∷ 0 ∷ 0 ∷ 0 ∷ []) ++ digits 4 r.detail
+      number_said r ≡ 6 → digits 8 (offer_client_answer xs class size hops) ≡ (6 ∷ 0 ∷ 0 ∷ 0 ∷ []) ++ digits 4 (detail_said r)
   barred class size hops e =
       (laws.offer_client_short xs class size hops ((client class size hops).numbered ∙ e)).bytes
       ∙ ap (λ (d : ℕ). (6 ∷ 0 ∷ 0 ∷ 0 ∷ []) ++ digits 4 d) (sym (client_short st class size hops e))
@@ -137,25 +140,25 @@ module _ (xs : List ℕ) (k : Keeps xs (station_at xs)) where
   chosen :
       let r = select_of st in
       Serves (select_answer xs) (left_by select xs) 0
-      ((r.origin ∷ r.frame.class ∷ r.frame.hops ∷ r.frame.mark ∷ 0 ∷ []) ++ digits 2 r.frame.size) r.station
+      ((origin_said r ∷ (frame_said r).class ∷ (frame_said r).hops ∷ (frame_said r).mark ∷ 0 ∷ []) ++ digits 2 (frame_said r).size) (rest_after st r)
   chosen =
       let done = select_done st (facts_in_range st k.in_range_lem) in
-      let number = number_told (select_faults st) refl (laws.select_leaves xs).0.byte_0 (call_exactly history.select st) ∙ ap (λ (r : Selected). r.number) done in
+      let number = number_told (select_faults st) refl (laws.select_leaves xs).0.byte_0 (call_exactly history.select st) ∙ ap (λ (r : Result Selected Refused). number_said r) done in
       record {
         numbered = number;
         says = λ z. laws.select_bytes xs number
-            ∙ ap (λ (r : Selected). (0 ∷ r.origin ∷ r.frame.class ∷ r.frame.hops ∷ r.frame.mark ∷ 0 ∷ []) ++ digits 2 r.frame.size) (sym done);
+            ∙ ap (λ (r : Result Selected Refused). (0 ∷ origin_said r ∷ (frame_said r).class ∷ (frame_said r).hops ∷ (frame_said r).mark ∷ 0 ∷ []) ++ digits 2 (frame_said r).size) (sym done);
         keeps = call_keeps k select _ refl;
       }
 
   -- where nothing goes, nothing is said
-  silent : (select_of st).origin ≡ 0 → select_answer xs ≡ 0
+  silent : origin_said (select_of st) ≡ 0 → select_answer xs ≡ 0
   unfolding select_answer
   silent z =
       let in_range_lem = facts_in_range st k.in_range_lem in
       let number = chosen.numbered in
       (laws.carried_said (select_rows xs) (select_answer xs) _ (laws.select_leaves xs).0 refl number).1
-      ∙ sym (nothing_chosen st in_range_lem (sym (ap (λ (r : Selected). r.origin) (select_done st in_range_lem)) ∙ z)).0
+      ∙ sym (nothing_chosen st in_range_lem (sym (ap origin_said (select_done st in_range_lem)) ∙ z)).0
 
   read_back : (room : List ℕ) → length room ≡ advert_length → {ys : List ℕ} {t : Station} → Keeps ys t → t.settings.ringlet ≡ st.settings.ringlet
       → t.settings.site.stations ≡ st.settings.site.stations
@@ -175,8 +178,8 @@ module _ (xs : List ℕ) (k : Keeps xs (station_at xs)) where
         select = chosen;
         select_nothing = silent;
         age =
-            subst (λ (n : ℕ). Serves (age_answer xs) (age_after xs) n nothing_more (age_of st).station)
-            (ap (λ (r : Done). r.number) (age_done st (facts_in_range st k.in_range_lem))) aged;
+            subst (λ (n : ℕ). Serves (age_answer xs) (age_after xs) n nothing_more (afterwards st (age_of st)))
+            (ap (λ (r : Done). number_said r) (age_done st (facts_in_range st k.in_range_lem))) aged;
         read_frame_lem = heard;
         write_frame_lem = write_frame_done k;
         written_read = read_back;
@@ -226,11 +229,11 @@ path_told stations own target links home = path_bytes stations own target links 
 
 pub choice_refused : ChoiceRefused
 unfolding choose_answer
-choice_refused stations own target links side protection ring n e = ap choice_answer e
+choice_refused stations own target links side protection ring r e = ap choice_answer e
 
 pub path_refused_lem : PathRefused
 unfolding path_answer
-path_refused_lem stations own target links home n e = ap moved_answer e
+path_refused_lem stations own target links home r e = ap moved_answer e
 
 -- ---- a station in bytes
 

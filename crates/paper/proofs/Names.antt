@@ -1,5 +1,16 @@
 -- The definitions say what stands there: nearly all by what they are.
 -- Assumes nothing.
+use Rattle.std.specs.Prelude.{Result, Ok, Err}
+use Rattle.decide.proofs.Number.{number_told}
+use Rattle.shaper.specs.declared.Refused.{Refused}
+use Rattle.shaper.specs.Refused.{number_said, detail_said, afterwards}
+use Rattle.shaper.specs.Shaper.{Charged}
+use Rattle.queue.specs.Frame.{frame_of}
+use Rattle.station.specs.declared.Client.{Client}
+use Rattle.station.specs.declared.Selected.{Selected}
+use Rattle.station.specs.Answers.{Done, origin_said, frame_said}
+use Rattle.station.specs.Offers.{mark_told}
+use Rattle.entry.specs.Brief.{brief_of, charge_brief_of, marked_of, chosen_of}
 use Prim.Native.Nat.{ℕ, ◌+◌, ◌-◌, ◌%◌, ◌<◌}
 use mathlib.Core.Bool.{true}
 use mathlib.Core.List.{List, ◌∷◌}
@@ -9,7 +20,7 @@ use native.Mathlib.Omega.{arith}
 use borrow.Author.Tests.{eq-eqb, ne_eqb, ltb-true, lt-ltb}
 use Rattle.shaper.proofs.Short.{shortfall_least}
 use Rattle.wire.specs.Wire.{le, be, digits, put}
-use Rattle.slots.specs.Slots.{words_at}
+use Rattle.wire.specs.Words.{words_at}
 use Rattle.queue.specs.Queue.{frames_from, frames_of, first_frame, taken, sizes}
 use Rattle.queue.proofs.Laws.{space_left, space_full}
 use Rattle.credits.specs.declared.Which.{Which}
@@ -128,12 +139,37 @@ anew st =
       counters = λ c. refl;
       heard = λ a. refl;
       done = refl;
-      refused = λ n. refl;
-      turned = λ n detail. refl;
+      carried = λ next. (refl, refl, refl);
+      refused = λ n. (number_told n, refl, refl);
+      turned = λ n detail. (number_told n, refl, refl, refl);
+      taken = λ r. (refl, refl, refl, refl);
+      not_chosen = λ n. (number_told n, refl, refl, refl, refl);
+      chosen = λ r. (refl, refl, refl, refl);
+      not_told = λ n. (number_told n, refl, refl);
+      told = λ a. (refl, refl);
+      not_shown = λ n. (number_told n, refl, refl);
+      shown = λ r. (refl, refl);
     }
 
+brief : (r : Done) → (number_said (brief_of r) ≡ number_said r) × (detail_said (brief_of r) ≡ detail_said r)
+brief (Ok st) = (refl, refl)
+brief (Err e) = (refl, refl)
+
+charge : (r : Charged) → (number_said (charge_brief_of r) ≡ number_said r) × (detail_said (charge_brief_of r) ≡ detail_said r)
+charge (Ok s) = (refl, refl)
+charge (Err e) = (refl, refl)
+
+marked : (r : Result Client Refused) → (number_said (marked_of r) ≡ number_said r) × (detail_said (marked_of r) ≡ detail_said r) × (afterwards 0 (marked_of r) ≡ mark_told r)
+marked (Ok r) = (refl, refl, refl)
+marked (Err e) = (refl, refl, refl)
+
+chosen : (r : Result Selected Refused) → (number_said (chosen_of r) ≡ number_said r) × (detail_said (chosen_of r) ≡ detail_said r)
+    × (afterwards (record { origin = 0; frame = frame_of 0 }) (chosen_of r) ≡ record { origin = origin_said r; frame = frame_said r })
+chosen (Ok r) = (refl, refl, refl)
+chosen (Err e) = (refl, refl, refl)
+
 entries : EntryNames
-entries = record { brief = λ r. refl; charge = λ r. refl; marked = λ r. refl; chosen = λ r. refl }
+entries = record { brief = brief; charge = charge; marked = marked; chosen = chosen }
 
 histories : (st : Station) (w : Which) → HistoryNames st w
 histories st w =

@@ -11,4 +11,5 @@ functions =
       less = λ x y. by_equation;
       below = λ a b. by_equation;
       in_ring_lem = λ stations hops. by_equation;
+      refusal_number = λ self. by_equation;
     }

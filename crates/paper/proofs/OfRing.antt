@@ -8,5 +8,5 @@ functions =
     record {
       choose = λ stations own target links side protection ring. by_equation;
       misplaced = λ stations own target links. by_equation;
-      other = λ way. by_equation;
+      way_other = λ self. by_equation;
     }

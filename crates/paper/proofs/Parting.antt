@@ -1,5 +1,9 @@
 -- Where two halls part, by the laws of `apart` and `window`.
 -- Assumes nothing.
+use Rattle.decide.specs.declared.refusal.Refusal.{Refusal}
+use Rattle.std.specs.Prelude.{Ok, Err}
+use Rattle.decide.specs.Number.{refusal_of}
+use Rattle.decide.proofs.Number.{number_told}
 use Prim.Native.Nat.{ℕ, suc, ◌<◌}
 use mathlib.Core.Bool.{Bool, true, false, ◌&&◌}
 use mathlib.Core.List.{List, ◌∷◌}
@@ -8,7 +12,7 @@ use mathlib.Core.Path.{◌≡◌, refl}
 use Rattle.wire.specs.Wire.{Bytes}
 use Rattle.shaper.specs.declared.Event.{Event}
 use Rattle.shaper.specs.Kind.{event_of}
-use Rattle.summary.specs.declared.Answer.{Answer}
+use Rattle.summary.specs.Answer.{Answer}
 use Rattle.record.specs.Read.{unreadable, read_record}
 use Rattle.record.proofs.Written.{items_read}
 use Rattle.account.proofs.Promises.{summarize_unreadable}
@@ -103,7 +107,7 @@ text =
 
 -- a refused record is not read
 not_read : (xs : List ℕ) (n : ℕ) → Bytes xs → 0 < n → RecordRefused xs n → read_record xs ≡ unreadable n
-not_read xs n bytes some why = (summarize_unreadable true xs n).0 ((record_faults xs bytes n some).1 why)
+not_read xs n bytes some why = (summarize_unreadable true xs n).0 (refusal_of n) (number_told n) ((record_faults xs bytes n some).1 why)
 
 compared : Compared
 unfolding compare_of
@@ -117,9 +121,9 @@ compared =
 -- ---- both are fed
 
 -- no answer is the same as a refusal
-not_refused : (a : Answer) (n : ℕ) → same_answer_of a (Answer.Refused n) ≡ false
-not_refused (Answer.Summed s) n = refl
-not_refused (Answer.Refused m) n = refl
+not_refused : (a : Answer) (r : Refusal) → same_answer_of a (Err r) ≡ false
+not_refused (Ok s) r = refl
+not_refused (Err q) r = refl
 
 -- and where not both are true, their and is false
 not_both : (a b : Bool) → b ≡ false → (a && b) ≡ false

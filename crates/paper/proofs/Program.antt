@@ -1,5 +1,6 @@
 -- Text is read and printed so, by the laws of `hex` and `report`.
 -- Assumes nothing.
+use Rattle.std.specs.Prelude.{Ok}
 use Prim.Native.Nat.{ℕ, ◌≤◌}
 use mathlib.Core.Bool.{false}
 use mathlib.Core.Path.{◌≡◌, refl, ap, ◌∙◌}
@@ -12,7 +13,7 @@ use Rattle.decide.specs.Refusal.{first, first_of}
 use Rattle.decide.proofs.Cases.{by_cases, true_or_false}
 use Rattle.wire.specs.Wire.{le}
 use Rattle.shaper.specs.Kind.{event_of}
-use Rattle.summary.specs.declared.Answer.{Answer}
+use Rattle.summary.specs.Answer.{Answer}
 use Rattle.summary.specs.Summary.{summary_of, joined, ceiling_of, need_ℤ}
 use Rattle.record.specs.Read.{is_run, item_faults, item_kind, item_number, item_count, read_items, read_in}
 use Rattle.account.specs.Account.{summarize_in}
@@ -82,7 +83,7 @@ printed =
     }
 
 -- the paper's record as hex text comes to its summary
-example_text : text_of (ascii "0e00 1000 4000 64000000 2c010000 060001009600 060003003c00 060003004000 060002003200") ≡ Answer.Summed example
+example_text : text_of (ascii "0e00 1000 4000 64000000 2c010000 060001009600 060003003c00 060003004000 060002003200") ≡ Ok example
 unfolding text_of glyph_of summarize_in read_in read_items is_run item_faults item_kind item_number item_count event_of first first_of test le summary_of joined ceiling_of need_ℤ
 example_text = refl
 

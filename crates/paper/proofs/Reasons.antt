@@ -11,7 +11,7 @@ use lib.Dec.{eqb, ltb}
 use Rattle.decide.specs.Test.{Test, test, Holds, facts, passes, both, and_i, split, ◌≤?◌}
 use Rattle.decide.specs.Refusal.{Fault, Given, ranked, in_order, chained, first_of}
 use Rattle.decide.proofs.Cases.{by_cases, true_or_false}
-use Rattle.decide.proofs.Refusal.{in_order_lem, first_exact}
+use Rattle.decide.proofs.Given.{in_order_lem, first_exact}
 use Rattle.wire.specs.Wire.{digits}
 use Rattle.rpr.specs.Shape.{Bears}
 use Rattle.paper.specs.Reasons.{RefusedWhen, refused, passed, CarriedOut}

@@ -1,5 +1,8 @@
 -- A mover's answer, read by the host: its number is that of the refusal, or bytes 4 to 7 are the bytes written and these stand at the front of the room.
 -- Assumes nothing.
+use Rattle.std.specs.Prelude.{Ok, Err}
+use Rattle.decide.specs.Number.{refusal_of}
+use Rattle.decide.proofs.Number.{number_told, refused_alike}
 use Prim.Native.Nat.{ℕ, ◌%◌, ◌≤◌, ◌<◌}
 use mathlib.Core.Bool.{true, false}
 use mathlib.Core.List.{List, [], ◌∷◌, ◌++◌}
@@ -16,9 +19,8 @@ use Rattle.record.specs.Items.{items_bytes, written_items, unrolled}
 use Rattle.record.specs.Read.{Read, unreadable, whole, read_in}
 use Rattle.record.proofs.Written.{length_written, items_read, written_read}
 use Rattle.record.proofs.Wrote.{read_items_lem, read_written}
-use Rattle.roll.specs.declared.Moved.TheVariants.{Written, Refused}
 use Rattle.roll.specs.Rolled.{rolled}
-use Rattle.roll.specs.Moved.{Output, bytes, rolled_read, rolled_bytes, unrolled_read, unrolled_bytes, moved_of}
+use Rattle.roll.specs.Moved.{Output, bytes, rolled_read, rolled_bytes, unrolled_read, unrolled_bytes, moved_of, moved_number}
 use Rattle.roll.specs.Exactly as exactly
 use Rattle.roll.specs.Steps.{output_of}
 use Rattle.roll.proofs.Rolled.{rolled_shorter}
@@ -39,11 +41,11 @@ use Rattle.paper.proofs.Earliest.{causes, old_causes}
 
 module _ (room : List ℕ) where
   -- byte 0 is the number of the refusal,
-  number_moved : (o : Output) → OutputNumbered o → (n : ℕ) → 0 < n → (mover_answer o room % 256 ≡ n) ↔ (moved_of o room ≡ Refused n)
+  number_moved : (o : Output) → OutputNumbered o → (n : ℕ) → 0 < n → (mover_answer o room % 256 ≡ n) ↔ (moved_of o room ≡ Err (refusal_of n))
   number_moved (Output.refused m) h n p =
       let said : mover_answer (Output.refused m) room % 256 ≡ m = (mover_leaves room (Output.refused m) h).0.byte_0 ∙ row_fault room m h.0 in
       let row = (row_refused m room).0 in
-      (λ e. row ∙ ap Refused (sym said ∙ e), λ e. let same : m ≡ n = cc in said ∙ same)
+      (λ e. row ∙ ap (λ k. Err (refusal_of k)) (sym said ∙ e), λ e. said ∙ refused_alike m n (sym row ∙ e))
   number_moved (bytes ys) h n p =
       by_cases (le_or (length ys) (length room))
       (λ fits. let said = (mover_leaves room (bytes ys) h).0.byte_0 ∙ row_none room ys fits in
@@ -51,10 +53,10 @@ module _ (room : List ℕ) where
       (λ e. absurd (omega (arith, said, e)), λ e. absurd (let z : ◌≡◌ {A = ℕ} 0 1 = cc in omega arith)))
       (λ short. let said = (mover_leaves room (bytes ys) h).0.byte_0 ∙ row_no_room room ys short in
       let row = (row_short ys room short).0 in
-      (λ e. row ∙ ap Refused (sym said ∙ e), λ e. let same : 12 ≡ n = cc in said ∙ same))
+      (λ e. row ∙ ap (λ k. Err (refusal_of k)) (sym said ∙ e), λ e. said ∙ refused_alike 12 n (sym row ∙ e)))
 
   -- and 0 where it is carried out
-  zero_moved : (o : Output) → OutputNumbered o → mover_answer o room % 256 ≡ 0 → moved_of o room ≡ Written (length (output_of o))
+  zero_moved : (o : Output) → OutputNumbered o → mover_answer o room % 256 ≡ 0 → moved_of o room ≡ Ok (length (output_of o))
   zero_moved (Output.refused m) h z = absurd (omega (arith, h.0, (mover_leaves room (Output.refused m) h).0.byte_0, row_fault room m h.0))
   zero_moved (bytes ys) h z =
       by_cases (le_or (length ys) (length room))
@@ -89,15 +91,15 @@ pub record OutputWritten (o : Output) (room after : List ℕ) (n : ℕ) : Type 0
   pub front : take n after ≡ output
 
 module _ (o : Output) (h : OutputNumbered o) (room : List ℕ) where
-  moved_told : moved_of o room ≡ Written (length (output_of o)) → mover_answer o room ≡ packed (written_bytes (length (output_of o)))
+  moved_told : moved_of o room ≡ Ok (length (output_of o)) → mover_answer o room ≡ packed (written_bytes (length (output_of o)))
   moved_told e = sym (mover_gives room o h).0 ∙ rw e
 
-  wrote_moved : length (output_of o) < 4294967296 → (n : ℕ) → Wrote (mover_answer o room) n → moved_of o room ≡ Written n
+  wrote_moved : length (output_of o) < 4294967296 → (n : ℕ) → Wrote (mover_answer o room) n → moved_of o room ≡ Ok n
   wrote_moved few n w =
       let m = zero_moved room o h (first_zero (mover_answer o room) n w) in
       let k = length (output_of o) in
       let same = once n k w.fits few (last_four n k (sym w.bytes ∙ ap (digits 8) (moved_told m) ∙ written_bytes_lem k)) in
-      m ∙ ap Written (sym same)
+      m ∙ ap Ok (sym same)
 
   written_out : length (output_of o) < 4294967296 → (n : ℕ) → Wrote (mover_answer o room) n → OutputWritten o room (mover_after o room) n
   written_out few n w =
@@ -207,14 +209,15 @@ module _ (xs room : List ℕ) (b : Bytes xs) where
       rw twelve (exactly.no_room (record { limits = l; events = unrolled is; reads = ap (read_in true) e ∙ items_read true l is f; shorter = short }))
 
   -- a mover whose output is o refuses for these reasons
-  refuses_for : (o : Output) → OutputNumbered o → {given : ℕ → Type 0} → ((n : ℕ) → 0 < n → (moved_of o room ≡ Refused n) ↔ given n)
+  refuses_for : (o : Output) → OutputNumbered o → {given : ℕ → Type 0}
+      → ((n : ℕ) → 0 < n → (moved_number (moved_of o room) ≡ n → given n) × (given n → moved_of o room ≡ Err (refusal_of n)))
       → RefusesMover given (mover_answer o room) room (mover_after o room)
   refuses_for o h why =
       let leaves = mover_leaves room o h in
       record {
         number = λ n p.
             let told = number_moved room o h n p in
-            (λ e. (why n p).0 (told.0 e), λ c. told.1 ((why n p).1 c));
+            (λ e. (why n p).0 (ap moved_number (told.0 e) ∙ number_told n), λ c. told.1 ((why n p).1 c));
         alone = refuses_alone leaves.0;
         stays = λ p. leaves.1 (subst (λ (n : ℕ). 0 < n) leaves.0.byte_0 p);
       }

@@ -26,8 +26,7 @@ use Rattle.ring.proofs.Bits.{ahead_exactly}
 use Rattle.ring.proofs.Rows as ring
 use Rattle.ring.proofs.Pairs.{pair_together}
 use Rattle.wrap.proofs.Courses as course
-use Rattle.wrap.specs.declared.Outcome as wrap
-use Rattle.wrap.specs.Walking.{at_home, course_of, side_of, path_of}
+use Rattle.wrap.specs.Walking.{at_home, course_of, side_of, journey, path_of}
 use Rattle.wrap.proofs.Answers.{found}
 use Rattle.wrap.proofs.Exactly.{home_exactly}
 use Rattle.ring.proofs.Faults.{placed_free}
@@ -178,7 +177,7 @@ sends stations own target links r =
 -- no row of a path applies between two places of a ring
 walked : (stations own target links home : ℕ) → Placed stations own target links → (home ≡ 1) ⊎ (home ≡ 2)
     → let course = course_of stations links target (side_of home) (2 * stations) at_home own in
-    path_of stations own target links home ≡ wrap.Outcome.Moved course.delivered (length course.links)
+    path_of stations own target links home ≡ journey course.delivered (length course.links)
 walked stations own target links home place side =
     sym (found stations own target links home (placed_free stations own target links place) ((home_exactly home).1 side))
 

@@ -1,5 +1,7 @@
 -- Records and summaries follow the paper's words: most of it is what the definitions say, and need and end credit are never negative.
 -- Assumes nothing.
+use Rattle.std.specs.Prelude.{Err}
+use Rattle.decide.specs.Number.{refusal_of}
 use Prim.Native.Nat.{◌%◌, ℕ, ◌+◌, ◌≤◌}
 use mathlib.Core.Bool.{true, false}
 use mathlib.Core.List.{List, [], ◌∷◌, ◌++◌, map, append_assoc, append-nil}
@@ -10,7 +12,7 @@ use lib.IntN.{ℤ, pos, nat_abs, ◌-ℤ◌}
 use lib.Signed.{lt_z}
 use Rattle.decide.specs.Test.{test, facts, passes}
 use Rattle.decide.specs.Refusal.{refused_or}
-use Rattle.decide.proofs.Refusal.{in_order_lem}
+use Rattle.decide.proofs.Given.{in_order_lem}
 use Rattle.decide.proofs.Cases.{by_cases, true_or_false, le_or}
 use Rattle.decide.proofs.Tests.{failing}
 use Rattle.wire.specs.Wire.{le, digits}
@@ -32,8 +34,8 @@ use Rattle.summary.specs.Range.{in_range, InRange}
 use Rattle.summary.proofs.Range.{in_range_exactly}
 use Rattle.summary.proofs.Paper.{need_signed, end_signed, same_signed, in_range_plain}
 use Rattle.summary.proofs.Promises.{join_associative, join_empty_left, join_empty_right}
-use Rattle.summary.specs.declared.Answer.{Answer}
-use Rattle.summary.specs.declared.Outcome.{Outcome}
+use Rattle.summary.specs.Answer.{Answer}
+use Rattle.summary.specs.Answer.{Outcome}
 use Rattle.summary.specs.Answer.{empty_faults, empty_answer, single_faults, single_answer, join_of, settle_of}
 use Rattle.summary.proofs.Rows as rows
 use Rattle.summary.proofs.Rows.{settles, settles_not}
@@ -225,13 +227,13 @@ one_shaper s =
       refused = λ z h. rw (in_order_lem (charge_faults s) refl, le-ltb s.limits.lo s.credit h);
     }
 
-join_out : (a b : Summary) → (InRange a × InRange b → ⊥) → join_of a b ≡ Answer.Refused 3
+join_out : (a b : Summary) → (InRange a × InRange b → ⊥) → join_of a b ≡ Err (refusal_of 3)
 join_out a b n =
     by_cases (true_or_false (in_range a))
     (λ e. rows.join_3_second a b e (denied_by (in_range_exactly b).0 (λ h. n ((in_range_exactly a).0 e, h))))
     (λ e. rows.join_3_first a b e)
 
-settle_out : (s : Summary) (c : ℕ) → (InRange s × (c ≤ s.limits.hi) → ⊥) → settle_of s c ≡ Outcome.Refused 3
+settle_out : (s : Summary) (c : ℕ) → (InRange s × (c ≤ s.limits.hi) → ⊥) → settle_of s c ≡ Err (refusal_of 3)
 settle_out s c n =
     by_cases (true_or_false (in_range s))
     (λ e. by_cases (le_or c s.limits.hi) (λ h. absurd (n ((in_range_exactly s).0 e, h))) (λ h. rows.settle_3_credit s c e h))

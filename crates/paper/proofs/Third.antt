@@ -1,5 +1,9 @@
 -- The third condition holds: a record's bytes are a writer's, so what is proved of its events holds of them.
 -- Assumes nothing.
+use Rattle.std.specs.Prelude.{Ok, Err, Some}
+use Rattle.decide.specs.Number.{refusal_of}
+use Rattle.decide.proofs.Number.{number_told, refused_alike}
+use Rattle.record.specs.Step.{placed}
 use Prim.Native.Nat.{suc, ℕ, ◌+◌, ◌≤◌, ◌<◌}
 use mathlib.Core.Bool.{true, false}
 use mathlib.Core.List.{List, [], ◌∷◌, ◌++◌}
@@ -15,12 +19,11 @@ use Rattle.shaper.specs.declared.Limits.{Limits}
 use Rattle.shaper.specs.declared.Event.{Event}
 use Rattle.shaper.specs.Credit.{Valid}
 use Rattle.shaper.specs.Kind.{kind_of, number_of, event_of}
-use Rattle.summary.specs.declared.Answer.{Answer}
-use Rattle.summary.specs.declared.Outcome.{Outcome}
+use Rattle.summary.specs.Answer.{Answer}
+use Rattle.summary.specs.Answer.{Outcome}
 use Rattle.summary.specs.Answer.{answer_number}
 use Rattle.summary.specs.Summary.{summary_of}
 use Rattle.summary.proofs.Promises.{settle_exact, sent_below, summary_events, summary_accrued, summary_sent}
-use Rattle.record.specs.declared.Step.TheVariants.{Stands}
 use Rattle.record.specs.Record.{written, event_bytes, WellFormed}
 use Rattle.record.specs.Items.{Item, one, run, item_of, run_bytes, item_bytes, written_items, unrolled, ItemOk, Formed}
 use Rattle.record.specs.Read.{Events, faulty, events, limits_at, under}
@@ -99,7 +102,7 @@ module _ (l : Limits) (is : List Item) (f : Formed true l is) where
       let holds = items_room l is f room h in
       record {
         carried = summarize_carried (written_items l is) room l is f refl h;
-        summarized = summarize_items true l is f ∙ ap Answer.Summed (sym (ap summary_at holds ∙ sheet_back l (unrolled is) formed));
+        summarized = summarize_items true l is f ∙ ap Ok (sym (ap summary_at holds ∙ sheet_back l (unrolled is) formed));
         permitted = λ c most p. rw holds (sheet_permitted l (unrolled is) formed c most p);
         not_permitted = λ c most p. rw holds (sheet_not_permitted l (unrolled is) formed c most p);
       }
@@ -141,17 +144,17 @@ behind_one : (l : Limits) (is : List Item) (i : Item) → length (written_items 
 behind_one l is i = ap length ((writes_items l).next is i) ∙ length-append (written_items l is) (item_bytes i)
 
 event_found : (l : Limits) (is : List Item) → Formed true l is → (e : Event) (rest : List ℕ) → Valid l e → length (unrolled is) < most_events
-    → next_at (written_items l is ++ (event_bytes e ++ rest)) (place_behind l is) ≡ Stands (kind_of e) (number_of e) 1 (length (written_items l is) + 6)
+    → next_at (written_items l is ++ (event_bytes e ++ rest)) (place_behind l is) ≡ Ok (Some (placed (kind_of e) (number_of e) 1 (length (written_items l is) + 6)))
 event_found l is w e rest v few =
     found_item l is w (one e) rest v (omega arith)
-    ∙ ap (Stands (kind_of e) (number_of e) 1) (behind_one l is (one e) ∙ ap (λ (k : ℕ). length (written_items l is) + k) (length_event e))
+    ∙ ap (λ (n : ℕ). Ok (Some (placed (kind_of e) (number_of e) 1 n))) (behind_one l is (one e) ∙ ap (λ (k : ℕ). length (written_items l is) + k) (length_event e))
 
 run_found : (l : Limits) (is : List Item) → Formed true l is → (e : Event) (count : ℕ) (rest : List ℕ) → ItemOk true l (run e count)
     → length (unrolled is) + count ≤ most_events
-    → next_at (written_items l is ++ (run_bytes e count ++ rest)) (place_behind l is) ≡ Stands (kind_of e) (number_of e) count (length (written_items l is) + 10)
+    → next_at (written_items l is ++ (run_bytes e count ++ rest)) (place_behind l is) ≡ Ok (Some (placed (kind_of e) (number_of e) count (length (written_items l is) + 10)))
 run_found l is w e count rest v few =
     rw (length-replicate count e) at (found_item l is w (run e count) rest v (rw (length-replicate count e) few))
-    ∙ ap (Stands (kind_of e) (number_of e) count) (behind_one l is (run e count) ∙ ap (λ (k : ℕ). length (written_items l is) + k) (length_run e count))
+    ∙ ap (λ (n : ℕ). Ok (Some (placed (kind_of e) (number_of e) count n))) (behind_one l is (run e count) ∙ ap (λ (k : ℕ). length (written_items l is) + k) (length_run e count))
 
 walking : Walking
 unfolding walk_of event_of
@@ -167,7 +170,7 @@ walking =
       at_end = λ r l is w here at. rw (here, at) (found_items_end l is w);
       at_header = λ r n p g. (next_refused_exactly r.bytes.now r.place n p).1 (in_header ((header_given r.bytes.now n p).1 g));
       at_item = λ r l is rest n w few some here at p g.
-          rw (here, at) (found_items_faulty l is w rest n few ((item_refused_exactly true l.mtu rest 0 n some p).1 ((item_given l.mtu rest n p).1 g)));
+          rw (here, at) (found_items_faulty l is w rest (refusal_of n) few ((item_refused_exactly true l.mtu rest 0 n some p).1 ((item_given l.mtu rest n p).1 g)));
       at_million = λ r l is rest w full some here at. rw (here, at) (found_items_over l is w rest full some);
       past_million = λ r l is rest w some free four over here at.
           rw (here, at) (found_items_passes l is w rest _ _ _ _ ((finds rest).run l.mtu 0 some free four) over);
@@ -187,10 +190,10 @@ walking =
     }
 
 -- what a walk comes to as a record is refused exactly where it ends with a fault
-ends_refused : (l : Limits) (m : ℕ) → 0 < m → (told : Events) → (summarized (under l told) ≡ Answer.Refused m) ↔ (told ≡ faulty m)
-ends_refused l m p (faulty n) = (λ e. ap faulty (ap answer_number e), λ e. ap (λ (t : Events). summarized (under l t)) e)
+ends_refused : (l : Limits) (m : ℕ) → 0 < m → (told : Events) → (summarized (under l told) ≡ Err (refusal_of m)) ↔ (told ≡ faulty m)
+ends_refused l m p (faulty n) = (λ e. ap faulty (refused_alike n m e), λ e. ap (λ (t : Events). summarized (under l t)) e)
 ends_refused l m p (events es) =
-    (λ e. let z = ap answer_number e in absurd (omega arith), λ e. ap (λ (t : Events). summarized (under l t)) e)
+    (λ e. let z = ap answer_number e ∙ number_told m in absurd (omega arith), λ e. ap (λ (t : Events). summarized (under l t)) e)
 
 walks_faults : (s : Bor (List ℕ)) (n : ℕ) → Bytes s.now → most_events ≤ n → (m : ℕ) → 0 < m
     → (walk_of (suc n) (new_of s) ≡ faulty m) ↔ RecordRefused s.now m
@@ -236,7 +239,7 @@ night {s} ok w {credit} {events} r few =
     record {
       summary = summary_of l events;
       summarized = summarize_written true l events formed;
-      settled = (says l events formed lo most).permitted r.permitted ∙ ap Outcome.Permitted (sym r.ends);
+      settled = (says l events formed lo most).permitted r.permitted ∙ ap (λ (x : ℕ). Ok (Some x)) (sym r.ends);
       carried = λ room h. summarize_carried (written l events) room l (ones events) (ones_formed true l events formed) (sym (ones_written l events)) h;
       ends =
           λ room h. subst (EndsAt (settle_answer (summarize_after (written l events) room) lo)) (sym r.ends)

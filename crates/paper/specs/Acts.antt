@@ -1,6 +1,6 @@
 -- How a station starts, what each call but hearing (`Listens`) makes of a station in range (which rule is applied to which of its parts), for a client's frame
 -- also where it gets 5, 6 or 7, and what each call is to a shaper's record, for the second condition. Assumes nothing.
-use Rattle.std.specs.Prelude.{ℕ, ◌+◌, ◌*◌, ◌-◌, ◌/◌, ◌%◌, ◌≤◌, ◌<◌, min, true, false, List, [], ◌∷◌, ◌++◌, ◌⊎◌, ◌≡◌, eqb, replicate}
+use Rattle.std.specs.Prelude.{ℕ, ◌+◌, ◌*◌, ◌-◌, ◌/◌, ◌%◌, ◌≤◌, ◌<◌, min, true, false, List, [], ◌∷◌, ◌++◌, ◌⊎◌, ◌≡◌, eqb, replicate, Ok}
 use Rattle.decide.specs.Test.{test}
 use Rattle.shaper.specs.Credit as shaper
 use Rattle.settings.specs.declared.Bucket.{Bucket}
@@ -29,8 +29,8 @@ use Rattle.fair.specs.Age as interval
 use Rattle.fair.specs.Count.{count_of}
 use Rattle.fair.specs.Advertise.{told_of}
 use Rattle.station.specs.declared.Station.{Station}
-use Rattle.station.specs.declared.Done.{Done}
-use Rattle.station.specs.Answers.{with_flow, with_fair, refused_of, done_of}
+use Rattle.shaper.specs.Refused.{number_said, detail_said, afterwards}
+use Rattle.station.specs.Answers.{with_flow, with_fair, Done, refused_of, done_of}
 use Rattle.station.specs.Calls.{fresh_of, start_of, tick_of, select_of, age_of, amount_for}
 use Rattle.station.specs.Offers.{turned_of, offer_transit_of, offer_control_of, offer_client_of}
 use Rattle.station.specs.Hear.{tell_of}
@@ -82,17 +82,17 @@ pub record Starts (s : Settings) : Type 0 where
   pub settings : (fresh_of s).settings ≡ s
   -- It is so whatever the station was.
   pub whatever : (st : Station) → SettingsOk s → start_of st s ≡ done_of (fresh_of s)
-  pub refused : (st : Station) → (SettingsOk s → ⊥) → start_of st s ≡ refused_of st 1
+  pub refused : (st : Station) → (SettingsOk s → ⊥) → start_of st s ≡ refused_of 1
 
 -- ---- calls on a station in range
 
 -- the frame stands last in the queue, and nothing else changes
 pub record Brings (st : Station) (l : Line) (x : Frame) (r : Done) : Type 0 where
-  pub number : (r.number ≡ 0) × (r.detail ≡ 0)
-  pub last : frames_of (queue_of r.station.flow l) ≡ frames_of (queue_of st.flow l) ++ (x ∷ [])
-  pub others : (k : Line) → (k ≡ l → ⊥) → queue_of r.station.flow k ≡ queue_of st.flow k
-  pub kept : (r.station.flow.credits ≡ st.flow.credits) × (r.station.flow.stage ≡ st.flow.stage)
-      × (r.station.fair ≡ st.fair) × (r.station.settings ≡ st.settings)
+  pub number : (number_said r ≡ 0) × (detail_said r ≡ 0)
+  pub last : frames_of (queue_of (afterwards st r).flow l) ≡ frames_of (queue_of st.flow l) ++ (x ∷ [])
+  pub others : (k : Line) → (k ≡ l → ⊥) → queue_of (afterwards st r).flow k ≡ queue_of st.flow k
+  pub kept : ((afterwards st r).flow.credits ≡ st.flow.credits) × ((afterwards st r).flow.stage ≡ st.flow.stage)
+      × ((afterwards st r).fair ≡ st.fair) × ((afterwards st r).settings ≡ st.settings)
 
 -- each shaper that a client's frame needs, going in this way, permits
 abbrev pub Permits : Station → Way → Type 0
@@ -105,23 +105,21 @@ Passes f size hops = ((f.received.downstream ≡ 1) × (256 - f.received.ttl < h
 -- A client's frame in range, its hops within the ring, where it goes in this way. A client gives no mark.
 pub record Stages (st : Station) (class size hops : ℕ) (way : Way) : Type 0 where
   -- The stage holds one client frame.
-  pub full : Staged st.flow → offer_client_of st class size hops ≡ turned_of st 5 0
+  pub full : Staged st.flow → offer_client_of st class size hops ≡ turned_of 5 0
   -- Client A needs .. A. Client B needs .. B and D .. Excess B and C need C and D. A turn-down carries the bytes missing.
   pub barred : (Staged st.flow → ⊥) → (Permits st way → ⊥)
-      → offer_client_of st class size hops ≡ turned_of st 6 (short_all st.settings st.flow.credits (needs_of way))
+      → offer_client_of st class size hops ≡ turned_of 6 (short_all st.settings st.flow.credits (needs_of way))
   -- If downstream congested, an eligible client frame with hops > hopsToCongestion gets 7 when addRateCongested + size > allowedRateCongested.
-  pub passing : (Staged st.flow → ⊥) → Permits st way → mark_of way ≡ 1 → Passes st.fair size hops → offer_client_of st class size hops ≡ turned_of st 7 0
+  pub passing : (Staged st.flow → ⊥) → Permits st way → mark_of way ≡ 1 → Passes st.fair size hops → offer_client_of st class size hops ≡ turned_of 7 0
   -- Else the frame lies in the stage, with its mark, and each needed shaper has one send of its size.
   pub taken : (Staged st.flow → ⊥) → Permits st way → ((mark_of way ≡ 1) × Passes st.fair size hops → ⊥)
       → offer_client_of st class size hops
-      ≡ record {
-        number = 0;
-        detail = 0;
+      ≡ Ok (record {
         mark = mark_of way;
         station =
             with_flow st
             (with_stage (with_credits st.flow (fed st.settings st.flow.credits (sends (needs_of way) size))) (word_of (client_frame way class size hops)));
-      }
+      })
 
 -- Yes or no: 1 or 0.
 abbrev pub YesNo : ℕ → Type 0
@@ -130,7 +128,7 @@ YesNo x = (x ≡ 0) ⊎ (x ≡ 1)
 pub record Acts (st : Station) : Type 0 where
   -- A tick changes credits alone.
   pub tick : (a b c : ℕ) → YesNo a × YesNo b × YesNo c
-      → tick_of st a b c ≡ done_of (with_flow st (with_credits st.flow (tick_of st a b c).station.flow.credits))
+      → tick_of st a b c ≡ done_of (with_flow st (with_credits st.flow (afterwards st (tick_of st a b c)).flow.credits))
   -- Transit A goes to the primary queue, B and C to the secondary.
   pub transit : (class size hops eligible : ℕ)
       → let x : Frame = record { size = size; hops = hops; class = class; mark = eligible } in
@@ -148,9 +146,7 @@ pub record Acts (st : Station) : Type 0 where
   -- The selected frame is counted by where it came from, its mark, hops and size.
   pub select :
       let r = selection.select_of st.settings st.flow in
-      select_of st ≡ record {
-        number = 0;
-        detail = 0;
+      select_of st ≡ Ok (record {
         origin = r.origin;
         frame = r.frame;
         station = record {
@@ -158,12 +154,12 @@ pub record Acts (st : Station) : Type 0 where
           flow = r.flow;
           fair = count_of st.settings st.fair r.origin r.frame.mark r.frame.hops r.frame.size;
         };
-      }
+      })
   -- An aging interval looks at the bytes of the secondary queue.
   pub age : age_of st ≡ done_of (with_fair st (interval.age_of st.fair st.settings (sizes (frames_of st.flow.secondary))))
   -- What is told is told of the station's own fair rates.
-  pub tell : tell_of st ≡ record { number = 0; detail = 0; advert = told_of st.fair st.settings }
-  pub show : show_of st ≡ record { number = 0; detail = 0; reading = reading_of st }
+  pub tell : tell_of st ≡ Ok (told_of st.fair st.settings)
+  pub show : show_of st ≡ Ok (reading_of st)
 
 -- ---- a shaper's record: what a call with this answer is to it
 

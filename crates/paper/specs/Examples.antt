@@ -1,19 +1,18 @@
 -- Document 01, "Proved examples": P1 to P12, P7 as document 02 has it, together in one statement.
 -- Assumes nothing.
+use Rattle.std.specs.Prelude.{Ok, Some, None}
 use Rattle.std.specs.Prelude.{true, false, List, [], ◌∷◌, ◌≡◌, pos}
 use Rattle.shaper.specs.declared.Limits.{Limits}
 use Rattle.shaper.specs.declared.Event.{Event}
 use Rattle.shaper.specs.declared.Event.TheVariants.{Waiting, Send}
 use Rattle.shaper.specs.Credit.{permits}
 use Rattle.summary.specs.declared.Summary.{Summary}
-use Rattle.summary.specs.declared.Outcome.{Outcome}
+use Rattle.summary.specs.Answer.{Outcome}
 use Rattle.summary.specs.Summary.{summary_of}
 use Rattle.summary.specs.Answer.{settle_of}
 use Rattle.rates.specs.Rates.{smoothed_of, shown_of, aged_of, own_rate_of}
-use Rattle.ring.specs.declared.Choice.{Choice}
-use Rattle.ring.specs.Choosing.{choose_of}
-use Rattle.wrap.specs.declared.Outcome as wrap
-use Rattle.wrap.specs.Walking.{path_of, whole_of}
+use Rattle.ring.specs.Choosing.{chosen_as, no_choice, choose_of}
+use Rattle.wrap.specs.Walking.{journey, path_of, whole_of}
 
 -- mtu 64, loLimit 100, hiLimit 300
 abbrev settings : Limits
@@ -49,8 +48,8 @@ pub record Examples : Type 0 where
   -- P3 P2 then send 64: ceiling 176, need 11. From 11 permitted, from 10 not.
   pub p3_ceiling : (of p3).ceiling ≡ pos 176
   pub p3_need : (of p3).need ≡ 11
-  pub p3_from_11 : settle_of (of p3) 11 ≡ Outcome.Permitted 37
-  pub p3_from_10 : settle_of (of p3) 10 ≡ Outcome.NotPermitted
+  pub p3_from_11 : settle_of (of p3) 11 ≡ Ok (Some 37)
+  pub p3_from_10 : settle_of (of p3) 10 ≡ Ok None
   -- P4 send 60 twice: ceiling 180, need 161.
   pub p4_ceiling : (of p4).ceiling ≡ pos 180
   pub p4_need : (of p4).need ≡ 161
@@ -69,11 +68,11 @@ pub record Examples : Type 0 where
   -- P9 local 1,000, weight 2, unit 4: own 125.
   pub p9 : own_rate_of 1000 2 4 ≡ 125
   -- P10 five stations, 0 to 2, default: right, distance 2; link 1 down: left, 3.
-  pub p10 : choose_of 5 0 2 31 3 0 0 ≡ Choice.Chosen 2 2 2 false
-  pub p10_down : choose_of 5 0 2 29 3 0 0 ≡ Choice.Chosen 1 3 3 false
+  pub p10 : choose_of 5 0 2 31 3 0 0 ≡ chosen_as 2 2 2 false
+  pub p10_down : choose_of 5 0 2 29 3 0 0 ≡ chosen_as 1 3 3 false
   -- P11 links 1 and 3 down, protected: 8.
-  pub p11 : choose_of 5 0 2 21 3 1 0 ≡ Choice.Refused 8
+  pub p11 : choose_of 5 0 2 21 3 1 0 ≡ no_choice 8
   -- P12 wrap-marked from 0 to 2, home side right, link 1 down: path of 5 hops. The frame takes link 0 to station 1, where link 1 is down; turns, goes
   -- back over link 0 and on over links 4, 3 and 2 to station 2, where link 1 is down again; turns, and is on its home side at the target.
-  pub p12 : path_of 5 0 2 29 2 ≡ wrap.Outcome.Moved true 5
+  pub p12 : path_of 5 0 2 29 2 ≡ journey true 5
   pub p12_links : (whole_of 5 0 2 29 2).links ≡ 0 ∷ 0 ∷ 4 ∷ 3 ∷ 2 ∷ []

@@ -1,5 +1,8 @@
 -- Request A12 of document 02, "Heartbeats that always fit": what rpr_heartbeat says of a pattern, repeated, for the third condition. Why it refuses is in `Reasons`.
 -- Assumes nothing.
+use Rattle.decide.specs.declared.refusal.Refusal.{Refusal}
+use Rattle.std.specs.Prelude.{Ok, Err}
+use Rattle.decide.specs.Number.{refusal_of}
 use Rattle.std.specs.Prelude.{ℕ, suc, ◌+◌, ◌*◌, ◌/◌, ◌%◌, ◌^◌, ◌≤◌, ◌<◌, List, [], ◌++◌, ◌↔◌, ◌≡◌, length}
 use Rattle.wire.specs.Wire.{Bytes}
 use Rattle.shaper.specs.declared.Limits.{Limits}
@@ -7,8 +10,8 @@ use Rattle.shaper.specs.declared.Event.{Event}
 use Rattle.shaper.specs.Limits.{LimitsOk}
 use Rattle.shaper.specs.Credit.{Permitted, end_credit}
 use Rattle.summary.specs.declared.Summary.{Summary}
-use Rattle.summary.specs.declared.Answer.{Answer}
-use Rattle.summary.specs.declared.Outcome.{Outcome}
+use Rattle.summary.specs.Answer.{Answer}
+use Rattle.summary.specs.Answer.{Outcome}
 use Rattle.summary.specs.Summary.{empty_of, joined, summary_of}
 use Rattle.summary.specs.Range.{InRange}
 use Rattle.summary.specs.Answer.{join_of, and_then, settle_of}
@@ -43,12 +46,12 @@ pub record OneMore (d : Repeats) (a : Answer) (after : Repeats) : Type 0 where
 
 -- r repeats of a summary: none by no join; else half as many, joined with themselves, and with the summary once more where r is odd.
 pub record Doubles (s : Summary) (r : ℕ) : Type 0 where
-  pub none : r ≡ 0 → ((doubling_of s r).sum ≡ Answer.Summed (empty_of s.limits)) × ((doubling_of s r).joins ≡ 0)
+  pub none : r ≡ 0 → ((doubling_of s r).sum ≡ Ok (empty_of s.limits)) × ((doubling_of s r).joins ≡ 0)
   pub even : 0 < r → r % 2 ≡ 0 → OneMore (doubling_of s (r / 2)) (doubling_of s (r / 2)).sum (doubling_of s r)
-  pub odd : 0 < r → r % 2 ≡ 1 → (d : Repeats) → OneMore (doubling_of s (r / 2)) (doubling_of s (r / 2)).sum d → OneMore d (Answer.Summed s) (doubling_of s r)
+  pub odd : 0 < r → r % 2 ≡ 1 → (d : Repeats) → OneMore (doubling_of s (r / 2)) (doubling_of s (r / 2)).sum d → OneMore d (Ok s) (doubling_of s r)
   -- They are the joins one after the other, or 9 where they are too many.
-  pub all : r * s.events ≤ 1000000 → (doubling_of s r).sum ≡ Answer.Summed (power_of s r)
-  pub many : 1000000 < r * s.events → (doubling_of s r).sum ≡ Answer.Refused 9
+  pub all : r * s.events ≤ 1000000 → (doubling_of s r).sum ≡ Ok (power_of s r)
+  pub many : 1000000 < r * s.events → (doubling_of s r).sum ≡ Err (refusal_of 9)
   -- At most 2⌈log2(r + 1)⌉ joins: ⌈log2(r + 1)⌉ is the least k with r + 1 ≤ 2 ^ k.
   pub few_joins : (k : ℕ) → r + 1 ≤ 2 ^ k → (doubling_of s r).joins ≤ 2 * k
 
@@ -72,9 +75,9 @@ pub record Beats (xs : List ℕ) (l : Limits) (es : List Event) (r : ℕ) : Type
 -- The same by value.
 pub record ByValue : Type 0 where
   -- a summary in range or out of it, repeated
-  pub repeated : (s : Summary) (r : ℕ) → InRange s → r * s.events ≤ 1000000 → repeated_of s r ≡ Answer.Summed (power_of s r)
-  pub repeated_9 : (s : Summary) (r : ℕ) → InRange s → 1000000 < r * s.events → repeated_of s r ≡ Answer.Refused 9
-  pub repeated_3 : (s : Summary) (r : ℕ) → (InRange s → ⊥) → repeated_of s r ≡ Answer.Refused 3
+  pub repeated : (s : Summary) (r : ℕ) → InRange s → r * s.events ≤ 1000000 → repeated_of s r ≡ Ok (power_of s r)
+  pub repeated_9 : (s : Summary) (r : ℕ) → InRange s → 1000000 < r * s.events → repeated_of s r ≡ Err (refusal_of 9)
+  pub repeated_3 : (s : Summary) (r : ℕ) → (InRange s → ⊥) → repeated_of s r ≡ Err (refusal_of 3)
   -- a pattern: by joining its summary with itself, doubling,
   pub by_doubling : (l : Limits) (is : List Item) → PatternOk l is → (r : ℕ) → r < 2 ^ 64
       → heartbeats_of (written_items l is) r ≡ (doubling_of (summary_of l (unrolled is)) r).sum
@@ -82,12 +85,12 @@ pub record ByValue : Type 0 where
   pub written_out : (l : Limits) (is : List Item) → PatternOk l is → (r : ℕ)
       → heartbeats_of (written_items l is) r ≡ summarize_of (written l (times_over r (unrolled is)))
   -- or the number of its refusal;
-  pub faults : (xs : List ℕ) (r : ℕ) → Bytes xs → (n : ℕ) → 0 < n → (heartbeats_of xs r ≡ Answer.Refused n) ↔ HeartbeatRefused xs r n
+  pub faults : (xs : List ℕ) (r : ℕ) → Bytes xs → (n : ℕ) → 0 < n → (heartbeats_of xs r ≡ Err (refusal_of n)) ↔ HeartbeatRefused xs r n
   -- once alone is the pattern, and
   pub once : (xs : List ℕ) → Bytes xs → pattern_of xs ≡ heartbeats_of xs 1
   -- what it does from loLimit is what the host is told.
-  pub from_low : (s : Summary) → from_low_of (Answer.Summed s) ≡ settle_of s s.limits.lo
-  pub refused : (n : ℕ) → from_low_of (Answer.Refused n) ≡ Outcome.Refused n
+  pub from_low : (s : Summary) → from_low_of (Ok s) ≡ settle_of s s.limits.lo
+  pub refused : (r : Refusal) → from_low_of (Err r) ≡ Err r
   pub told : (xs : List ℕ) (r : ℕ) → heartbeat_answer xs r ≡ outcome_answer (from_low_of (heartbeats_of xs r))
 
 -- these bytes are a pattern, and the repeats have at most 1,000,000 events

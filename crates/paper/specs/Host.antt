@@ -2,7 +2,9 @@
 -- The rules that make a station of another (`tick_of`, `select_of`, `hear_of` and so on) are said in `Acts` and `ByValue`; why a call is refused is the first
 -- condition's, and calls on records and summaries are the third's.
 -- Assumes nothing.
-use Rattle.std.specs.Prelude.{ℕ, ◌+◌, ◌%◌, Bool, List, [], ◌∷◌, ◌++◌, ◌↔◌, ◌≡◌, length}
+use Rattle.std.specs.Prelude.{ℕ, ◌+◌, ◌%◌, Bool, List, [], ◌∷◌, ◌++◌, ◌↔◌, ◌≡◌, length, Err}
+use Rattle.decide.specs.Number.{number_in}
+use Rattle.decide.specs.declared.refusal.Refusal.{Refusal}
 use Rattle.wire.specs.Wire.{le, digits, Bytes}
 use Rattle.settings.specs.declared.Settings.{Settings}
 use Rattle.settings.specs.declared.Bucket.{Bucket}
@@ -10,13 +12,13 @@ use Rattle.settings.specs.Words.{settings_at}
 use Rattle.advert.specs.Frame.{advert_length, advert_bytes}
 use Rattle.fair.specs.Advertise.{told_of}
 use Rattle.answer.specs.Bytes.{bit_of}
-use Rattle.ring.specs.declared.Choice.{Choice}
-use Rattle.ring.specs.Choosing.{choose_of}
-use Rattle.wrap.specs.declared.Outcome.{Outcome}
-use Rattle.wrap.specs.Walking.{path_of}
+use Rattle.ring.specs.Choosing.{chosen_as, choose_of}
+use Rattle.wrap.specs.Walking.{journey, path_of}
 use Rattle.station.specs.declared.Station.{Station}
+use Rattle.shaper.specs.Refused.{number_said, detail_said, afterwards}
+use Rattle.station.specs.Answers.{origin_said, frame_said, rest_after}
 use Rattle.station.specs.Calls.{fresh_of, tick_of, select_of, age_of}
-use Rattle.station.specs.Offers.{offer_client_of, offer_transit_of, offer_control_of}
+use Rattle.station.specs.Offers.{mark_told, station_left, offer_client_of, offer_transit_of, offer_control_of}
 use Rattle.station.specs.Hear.{changed_of, hear_of}
 use Rattle.station.specs.Range.{StationOk}
 use Rattle.layout.specs.Layout.{station_length, station_at, station_bytes, StationFits}
@@ -41,29 +43,29 @@ nothing_more = 0 ∷ 0 ∷ 0 ∷ 0 ∷ 0 ∷ 0 ∷ 0 ∷ []
 
 -- Bytes xs are lent that hold the station st, which is in range.
 pub record Hosts (xs : List ℕ) (st : Station) : Type 0 where
-  pub tick : (a b c : ℕ) → Serves (tick_answer xs a b c) (tick_after xs a b c) (tick_of st a b c).number nothing_more (tick_of st a b c).station
+  pub tick : (a b c : ℕ) → Serves (tick_answer xs a b c) (tick_after xs a b c) (number_said (tick_of st a b c)) nothing_more (afterwards st (tick_of st a b c))
   -- Byte 4: the mark that the frame got, eligible or not.
   pub offer_client_lem : (class size hops : ℕ)
       → let r = offer_client_of st class size hops in
-      Serves (offer_client_answer xs class size hops) (offer_client_after xs class size hops) r.number (0 ∷ 0 ∷ 0 ∷ r.mark ∷ 0 ∷ 0 ∷ 0 ∷ []) r.station
+      Serves (offer_client_answer xs class size hops) (offer_client_after xs class size hops) (number_said r) (0 ∷ 0 ∷ 0 ∷ mark_told r ∷ 0 ∷ 0 ∷ 0 ∷ []) (station_left st r)
   -- Refused with 6, bytes 4 to 7: the shortfall.
   pub offer_client_short : (class size hops : ℕ)
       → let r = offer_client_of st class size hops in
-      r.number ≡ 6 → digits 8 (offer_client_answer xs class size hops) ≡ (6 ∷ 0 ∷ 0 ∷ 0 ∷ []) ++ digits 4 r.detail
+      number_said r ≡ 6 → digits 8 (offer_client_answer xs class size hops) ≡ (6 ∷ 0 ∷ 0 ∷ 0 ∷ []) ++ digits 4 (detail_said r)
   pub offer_transit_lem : (class size hops eligible : ℕ)
       → let r = offer_transit_of st class size hops eligible in
-      Serves (offer_transit_answer xs class size hops eligible) (offer_transit_after xs class size hops eligible) r.number nothing_more r.station
+      Serves (offer_transit_answer xs class size hops eligible) (offer_transit_after xs class size hops eligible) (number_said r) nothing_more (afterwards st r)
   pub offer_control_lem : (size : ℕ)
-      → Serves (offer_control_answer xs size) (offer_control_after xs size) (offer_control_of st size).number nothing_more (offer_control_of st size).station
+      → Serves (offer_control_answer xs size) (offer_control_after xs size) (number_said (offer_control_of st size)) nothing_more (afterwards st (offer_control_of st size))
   -- Byte 1 origin, 2 class, 3 hops, 4 eligible, 5 is 0, 6 and 7 size; all 0 for nothing.
   pub select :
       let r = select_of st in
       Serves (select_answer xs) (select_after xs) 0
-      ((r.origin ∷ r.frame.class ∷ r.frame.hops ∷ r.frame.mark ∷ 0 ∷ []) ++ digits 2 r.frame.size) r.station
-  pub select_nothing : (select_of st).origin ≡ 0 → select_answer xs ≡ 0
-  pub age : Serves (age_answer xs) (age_after xs) 0 nothing_more (age_of st).station
+      ((origin_said r ∷ (frame_said r).class ∷ (frame_said r).hops ∷ (frame_said r).mark ∷ 0 ∷ []) ++ digits 2 (frame_said r).size) (rest_after st r)
+  pub select_nothing : origin_said (select_of st) ≡ 0 → select_answer xs ≡ 0
+  pub age : Serves (age_answer xs) (age_after xs) 0 nothing_more (afterwards st (age_of st))
   pub read_frame_lem : (frame : List ℕ) → Bytes frame
-      → Serves (read_frame_answer xs frame) (read_frame_after xs frame) (hear_of st frame).number nothing_more (hear_of st frame).station
+      → Serves (read_frame_answer xs frame) (read_frame_after xs frame) (number_said (hear_of st frame)) nothing_more (afterwards st (hear_of st frame))
   -- The room of 12 bytes holds the frame that the station advertises.
   pub write_frame_lem : (room : List ℕ) → length room ≡ advert_length
       → (write_frame_answer xs room ≡ 0) × (write_frame_after xs room ≡ advert_bytes (told_of st.fair st.settings))
@@ -109,25 +111,25 @@ Begins settings xs = (start_answer settings xs ≡ 0) × Keeps (start_after sett
 abbrev pub ChoiceTold : Type 0
 ChoiceTold =
     (stations own target links side protection ring code distance ttl : ℕ) (mark : Bool)
-    → choose_of stations own target links side protection ring ≡ Choice.Chosen code distance ttl mark
+    → choose_of stations own target links side protection ring ≡ chosen_as code distance ttl mark
     → digits 8 (choose_answer stations own target links side protection ring) ≡ 0 ∷ code ∷ distance ∷ ttl ∷ bit_of mark ∷ 0 ∷ 0 ∷ 0 ∷ []
 
 -- and where there is no choice, the number alone
 abbrev pub ChoiceRefused : Type 0
 ChoiceRefused =
-    (stations own target links side protection ring n : ℕ) → choose_of stations own target links side protection ring ≡ Choice.Refused n
-    → choose_answer stations own target links side protection ring ≡ n
+    (stations own target links side protection ring : ℕ) (r : Refusal) → choose_of stations own target links side protection ring ≡ Err r
+    → choose_answer stations own target links side protection ring ≡ number_in r
 
 -- rpr_path where the path is walked: byte 1 delivered, 2 hops.
 abbrev pub PathTold : Type 0
 PathTold =
-    (stations own target links home : ℕ) (delivered : Bool) (hops : ℕ) → path_of stations own target links home ≡ Outcome.Moved delivered hops
+    (stations own target links home : ℕ) (delivered : Bool) (hops : ℕ) → path_of stations own target links home ≡ journey delivered hops
     → digits 8 (path_answer stations own target links home) ≡ 0 ∷ bit_of delivered ∷ hops ∷ 0 ∷ 0 ∷ 0 ∷ 0 ∷ 0 ∷ []
 
 -- and where it is not, the number alone
 abbrev pub PathRefused : Type 0
 PathRefused =
-    (stations own target links home n : ℕ) → path_of stations own target links home ≡ Outcome.Refused n → path_answer stations own target links home ≡ n
+    (stations own target links home : ℕ) (r : Refusal) → path_of stations own target links home ≡ Err r → path_answer stations own target links home ≡ number_in r
 
 -- ---- a station in bytes
 

@@ -1,5 +1,8 @@
 -- The small definitions of lent memory, of pieces, of summaries in bytes and of what a selection sees, said outright.
 -- Assumes nothing.
+use Rattle.decide.specs.declared.refusal.Refusal.{Refusal}
+use Rattle.std.specs.Prelude.{Ok, Err}
+use Rattle.decide.specs.Number.{number_in}
 use Rattle.std.specs.Prelude.{ℕ, suc, ◌-◌, ◌*◌, ◌≤◌, true, List, [], ◌∷◌, ◌++◌, ◌⊎◌, ◌↔◌, ◌≡◌, pos, negsuc, ◌-ℤ◌, length, take, drop, replicate}
 use Rattle.plain.specs.declared.Plain.{Plain}
 use Rattle.summary.specs.Plain.{signed_from}
@@ -8,7 +11,7 @@ use Rattle.wire.specs.Signed.{unsigned_of}
 use Rattle.shaper.specs.declared.Event.{Event}
 use Rattle.shaper.specs.declared.Limits.{Limits}
 use Rattle.summary.specs.declared.Summary.{Summary}
-use Rattle.summary.specs.declared.Answer.{Answer}
+use Rattle.summary.specs.Answer.{Answer}
 use Rattle.summary.specs.Answer.{join_of, and_then, answer_number}
 use Rattle.record.specs.Items.{Item, written_items, unrolled, ItemsOk}
 use Rattle.account.specs.Account.{summarize_of}
@@ -162,8 +165,8 @@ pub record SheetNames : Type 0 where
       → signed_from p
       ≡ record { limits = p.limits; events = p.events; accrued = p.accrued; sent = p.sent; ceiling = pos p.limits.hi -ℤ pos p.depth; need = p.need }
   -- A summary is handed over to the room; a refusal leaves the room, and is its number.
-  pub summed : (room : List ℕ) (s : Summary) → (handed room (Answer.Summed s) ≡ sheet_of s) × (answer_number (Answer.Summed s) ≡ 0)
-  pub refused : (room : List ℕ) (n : ℕ) → (handed room (Answer.Refused n) ≡ room) × (answer_number (Answer.Refused n) ≡ n)
+  pub summed : (room : List ℕ) (s : Summary) → (handed room (Ok s) ≡ sheet_of s) × (answer_number (Ok s) ≡ 0)
+  pub refused : (room : List ℕ) (r : Refusal) → (handed room (Err r) ≡ room) × (answer_number (Err r) ≡ number_in r)
 
 -- ---- what a selection sees
 

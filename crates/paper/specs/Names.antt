@@ -1,8 +1,8 @@
 -- The small definitions that the conditions speak through, said outright: a statement that names one of these says no more than stands here.
 -- Assumes nothing.
-use Rattle.std.specs.Prelude.{ℕ, suc, ◌+◌, ◌*◌, ◌-◌, ◌/◌, ◌%◌, ◌^◌, ◌≤◌, ◌<◌, min, Bool, true, false, List, [], ◌∷◌, ◌++◌, ◌↔◌, ◌≡◌, get_or, set, length, take, drop}
+use Rattle.std.specs.Prelude.{ℕ, suc, ◌+◌, ◌*◌, ◌-◌, ◌/◌, ◌%◌, ◌^◌, ◌≤◌, ◌<◌, min, Bool, true, false, List, [], ◌∷◌, ◌++◌, ◌↔◌, ◌≡◌, get_or, set, length, take, drop, Result, Ok}
 use Rattle.wire.specs.Wire.{le, be, digits, put, Bytes}
-use Rattle.slots.specs.Slots.{words_at}
+use Rattle.wire.specs.Words.{words_at}
 use Rattle.rpr.specs.Reading.{words_from, frames_held}
 use Rattle.rpr.specs.Told.{answer_byte}
 use Rattle.rpr.specs.Pairs.{links_told}
@@ -36,8 +36,7 @@ use Rattle.rates.specs.Rates.{smoothed_of, shown_of, aged_of, ramped_of, reduced
 use Rattle.rates.specs.Steady.{steady_of, gap_of}
 use Rattle.heard.specs.Range.{hops_of}
 use Rattle.fair.specs.declared.Fair.{Fair}
-use Rattle.fair.specs.declared.Four.{Four}
-use Rattle.fair.specs.declared.Stored.{Stored}
+use Rattle.fair.specs.Four.{Four, Stored}
 use Rattle.fair.specs.Age.{shown_four}
 use Rattle.fair.specs.Advertise.{heard_of}
 use Rattle.fair.specs.Count.{with_counters}
@@ -49,13 +48,15 @@ use Rattle.ring.specs.Choosing.{code_of, tie_of, Placed}
 use Rattle.ring.specs.Pairs.{links_of}
 use Rattle.wrap.specs.Walking.{Course, ended, across, side_of}
 use Rattle.station.specs.declared.Station.{Station}
-use Rattle.station.specs.Answers.{with_flow, with_fair, refused_of, done_of}
-use Rattle.station.specs.Offers.{turned_of, offer_client_of, offer_transit_of, offer_control_of}
-use Rattle.station.specs.Hear.{changed_of, hear_of, tell_of}
+use Rattle.station.specs.Answers.{with_flow, with_fair, Done, refused_of, done_of, not_chosen_of, origin_said, frame_said, rest_after}
+use Rattle.station.specs.Offers.{turned_of, mark_told, station_left, offer_client_of, offer_transit_of, offer_control_of}
+use Rattle.station.specs.Hear.{changed_of, hear_of, not_told_of, advert_said, tell_of}
 use Rattle.station.specs.Hops.{HopsBelow}
-use Rattle.station.specs.Show.{held_in, held_on, reading_of, blank_of, show_of}
-use Rattle.shaper.specs.declared.Charged.{Charged}
-use Rattle.station.specs.declared.Done.{Done}
+use Rattle.station.specs.Show.{held_in, held_on, reading_of, blank_of, not_shown_of, reading_said, show_of}
+use Rattle.shaper.specs.declared.Refused.{Refused}
+use Rattle.shaper.specs.Refused.{number_said, detail_said, afterwards}
+use Rattle.shaper.specs.Shaper.{Charged}
+use Rattle.station.specs.declared.Reading.{Reading}
 use Rattle.station.specs.declared.Client.{Client}
 use Rattle.station.specs.declared.Selected as station
 use Rattle.station.specs.Calls.{tick_of, select_of, age_of}
@@ -226,16 +227,31 @@ pub record PartNames (st : Station) : Type 0 where
       → with_counters c st.fair
       ≡ record { counters = c; smoothed = st.fair.smoothed; decided = st.fair.decided; since = st.fair.since; received = st.fair.received }
   pub heard : (a : Advert) → changed_of st a ≡ with_fair st (heard_of st.fair a)
-  pub done : done_of st ≡ record { number = 0; detail = 0; station = st }
-  pub refused : (n : ℕ) → refused_of st n ≡ record { number = n; detail = 0; station = st }
-  pub turned : (n detail : ℕ) → turned_of st n detail ≡ record { number = n; detail = detail; mark = 0; station = st }
+  -- A call that is carried out answers the station; a refusal is its number and what is said beside it, and leaves the station as it was.
+  pub done : done_of st ≡ Ok st
+  pub carried : (next : Station) → (number_said (done_of next) ≡ 0) × (detail_said (done_of next) ≡ 0) × (afterwards st (done_of next) ≡ next)
+  pub refused : (n : ℕ) → (number_said (refused_of n) ≡ n) × (detail_said (refused_of n) ≡ 0) × (afterwards st (refused_of n) ≡ st)
+  pub turned : (n detail : ℕ) → (number_said (turned_of n detail) ≡ n) × (detail_said (turned_of n detail) ≡ detail)
+      × (mark_told (turned_of n detail) ≡ 0) × (station_left st (turned_of n detail) ≡ st)
+  pub taken : (r : Client) → (number_said {A = Client} (Ok r) ≡ 0) × (detail_said {A = Client} (Ok r) ≡ 0) × (mark_told (Ok r) ≡ r.mark) × (station_left st (Ok r) ≡ r.station)
+  -- of a selection, telling and showing: where nothing is answered, nothing is said
+  pub not_chosen : (n : ℕ) → (number_said (not_chosen_of n) ≡ n) × (detail_said (not_chosen_of n) ≡ 0) × (origin_said (not_chosen_of n) ≡ 0)
+      × (frame_said (not_chosen_of n) ≡ frame_of 0) × (rest_after st (not_chosen_of n) ≡ st)
+  pub chosen : (r : station.Selected) → (number_said {A = station.Selected} (Ok r) ≡ 0) × (origin_said (Ok r) ≡ r.origin) × (frame_said (Ok r) ≡ r.frame) × (rest_after st (Ok r) ≡ r.station)
+  pub not_told : (n : ℕ) → (number_said (not_told_of n) ≡ n) × (detail_said (not_told_of n) ≡ 0)
+      × (advert_said (not_told_of n) ≡ record { ringlet = 0; ttl = 0; high = 0; low = 0; rate = 0 })
+  pub told : (a : Advert) → (number_said {A = Advert} (Ok a) ≡ 0) × (advert_said (Ok a) ≡ a)
+  pub not_shown : (n : ℕ) → (number_said (not_shown_of n) ≡ n) × (detail_said (not_shown_of n) ≡ 0) × (reading_said (not_shown_of n) ≡ blank_of)
+  pub shown : (r : Reading) → (number_said {A = Reading} (Ok r) ≡ 0) × (reading_said (Ok r) ≡ r)
 
 -- What an entry point answers, beside the station behind the reference.
 pub record EntryNames : Type 0 where
-  pub brief : (r : Done) → brief_of r ≡ record { number = r.number; detail = r.detail }
-  pub charge : (r : Charged) → charge_brief_of r ≡ record { number = r.number; detail = r.detail }
-  pub marked : (r : Client) → marked_of r ≡ record { number = r.number; detail = r.detail; mark = r.mark }
-  pub chosen : (r : station.Selected) → chosen_of r ≡ record { number = r.number; detail = r.detail; origin = r.origin; frame = r.frame }
+  pub brief : (r : Done) → (number_said (brief_of r) ≡ number_said r) × (detail_said (brief_of r) ≡ detail_said r)
+  pub charge : (r : Charged) → (number_said (charge_brief_of r) ≡ number_said r) × (detail_said (charge_brief_of r) ≡ detail_said r)
+  pub marked : (r : Result Client Refused) → (number_said (marked_of r) ≡ number_said r) × (detail_said (marked_of r) ≡ detail_said r)
+      × (afterwards 0 (marked_of r) ≡ mark_told r)
+  pub chosen : (r : Result station.Selected Refused) → (number_said (chosen_of r) ≡ number_said r) × (detail_said (chosen_of r) ≡ detail_said r)
+      × (afterwards (record { origin = 0; frame = frame_of 0 }) (chosen_of r) ≡ record { origin = origin_said r; frame = frame_said r })
 
 -- ---- histories: each call is lent what the one before left
 
@@ -243,21 +259,21 @@ pub record HistoryNames (st : Station) (w : Which) : Type 0 where
   pub no_call : (after st [] ≡ st) × (record_of w st [] ≡ [])
   pub a_call : (c : Call) (cs : List Call)
       → (after st (c ∷ cs) ≡ after (step c st).station cs) × (record_of w st (c ∷ cs) ≡ trace w c (step c st).answer st ++ record_of w (step c st).station cs)
-  pub tick : (a b c : ℕ) → step (tick a b c) st ≡ of_done (tick_of st a b c)
-  pub client : (class size hops : ℕ) → step (offer_client class size hops) st ≡ of_client (offer_client_of st class size hops)
-  pub transit : (class size hops eligible : ℕ) → step (offer_transit class size hops eligible) st ≡ of_done (offer_transit_of st class size hops eligible)
-  pub control : (size : ℕ) → step (offer_control size) st ≡ of_done (offer_control_of st size)
-  pub select : step select st ≡ of_selected (select_of st)
-  pub age : step age st ≡ of_done (age_of st)
-  pub hear : (frame : List ℕ) (bytes : Bytes frame) → step (hear frame bytes) st ≡ of_done (hear_of st frame)
-  pub tell : step tell st ≡ record { answer = record { number = (tell_of st).number; mark = 0; origin = 0; frame = frame_of 0 }; station = st }
-  pub show : step show st ≡ record { answer = record { number = (show_of st).number; mark = 0; origin = 0; frame = frame_of 0 }; station = st }
+  pub tick : (a b c : ℕ) → step (tick a b c) st ≡ of_done st (tick_of st a b c)
+  pub client : (class size hops : ℕ) → step (offer_client class size hops) st ≡ of_client st (offer_client_of st class size hops)
+  pub transit : (class size hops eligible : ℕ) → step (offer_transit class size hops eligible) st ≡ of_done st (offer_transit_of st class size hops eligible)
+  pub control : (size : ℕ) → step (offer_control size) st ≡ of_done st (offer_control_of st size)
+  pub select : step select st ≡ of_selected st (select_of st)
+  pub age : step age st ≡ of_done st (age_of st)
+  pub hear : (frame : List ℕ) (bytes : Bytes frame) → step (hear frame bytes) st ≡ of_done st (hear_of st frame)
+  pub tell : step tell st ≡ record { answer = record { number = number_said (tell_of st); mark = 0; origin = 0; frame = frame_of 0 }; station = st }
+  pub show : step show st ≡ record { answer = record { number = number_said (show_of st); mark = 0; origin = 0; frame = frame_of 0 }; station = st }
   -- what a call answered, and the station afterwards
-  pub of_done_lem : (r : Done) → of_done r ≡ record { answer = record { number = r.number; mark = 0; origin = 0; frame = frame_of 0 }; station = r.station }
-  pub of_client_lem : (r : Client)
-      → of_client r ≡ record { answer = record { number = r.number; mark = r.mark; origin = 0; frame = frame_of 0 }; station = r.station }
-  pub of_selected_lem : (r : station.Selected)
-      → of_selected r ≡ record { answer = record { number = r.number; mark = 0; origin = r.origin; frame = r.frame }; station = r.station }
+  pub of_done_lem : (r : Done) → of_done st r ≡ record { answer = record { number = number_said r; mark = 0; origin = 0; frame = frame_of 0 }; station = afterwards st r }
+  pub of_client_lem : (r : Result Client Refused)
+      → of_client st r ≡ record { answer = record { number = number_said r; mark = mark_told r; origin = 0; frame = frame_of 0 }; station = station_left st r }
+  pub of_selected_lem : (r : Result station.Selected Refused)
+      → of_selected st r ≡ record { answer = record { number = number_said r; mark = 0; origin = origin_said r; frame = frame_said r }; station = rest_after st r }
 
 -- ---- the ring
 

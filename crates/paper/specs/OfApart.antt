@@ -13,12 +13,13 @@ use Rattle.apart.specs.declared.Stand.{Stand}
 use Rattle.apart.specs.declared.Turn.{Turn}
 use Rattle.apart.specs.declared.Walk.{Walk}
 use Rattle.decide.specs.Test.{test}
+use Rattle.decide.specs.declared.refusal.Refusal.{Refusal}
 use Rattle.record.specs.Read.{good}
 use Rattle.shaper.specs.Kind.{event_of}
 use Rattle.shaper.specs.declared.Event.{Event}
 use Rattle.shaper.specs.declared.Limits.{Limits}
-use Rattle.std.specs.Prelude.{Bool, List, length, ℕ, ◌+◌, ◌≡◌}
-use Rattle.summary.specs.declared.Answer.{Answer}
+use Rattle.std.specs.Prelude.{Bool, List, Result, length, ℕ, ◌+◌, ◌≡◌}
+use Rattle.summary.specs.declared.Summary.{Summary}
 use Rattle.wire.specs.Wire.{le, put}
 use Rattle.paper.specs.Determined.{Determined, Determined²}
 
@@ -28,7 +29,7 @@ pub record Functions : Type 0 where
   -- page (a leaf: it asks that (walk.position ≤ most_events) × (440000 ≤ length room.old))
   pub page : (first second : List ℕ) (a b : Side) (walk : Walk) (room : List ℕ) → Determined² (λ (r : Reached) (after-room : List ℕ). (r ≡ page_of a b first second walk) × (after-room ≡ put room 0 (walk_text most_turns a b first second walk)))
   -- closing
-  pub closing : (first second : Answer) (room : List ℕ) → Determined² (λ (r : ℕ) (after-room : List ℕ). (r ≡ length (closing_text first second)) × (after-room ≡ put room 0 (closing_text first second)))
+  pub closing : (first second : Result Summary Refusal) (room : List ℕ) → Determined² (λ (r : ℕ) (after-room : List ℕ). (r ≡ length (closing_text first second)) × (after-room ≡ put room 0 (closing_text first second)))
   -- line::put_setting (a leaf: it asks that at + length (setting_text words.now a b) ≤ length s.old)
   pub line_put_setting : (s : List ℕ) (at : ℕ) (words : List ℕ) (a b : ℕ) → Determined² (λ (r : ℕ) (after-s : List ℕ). (r ≡ at + length (setting_text words a b)) × (after-s ≡ put s at (setting_text words a b)))
   -- line::put_line (a leaf: it asks that at + length (line_text n line) ≤ length s.old)

@@ -1,7 +1,9 @@
 -- Public functions of `decide`, by name: two answers that meet the contract are equal.
 -- Assumes nothing.
 use Rattle.decide.specs.Hops.{in_ring}
+use Rattle.decide.specs.Number.{number_in}
 use Rattle.decide.specs.Test.{test}
+use Rattle.decide.specs.declared.refusal.Refusal.{Refusal}
 use Rattle.std.specs.Prelude.{Bool, ltb, max, min, ℕ, ◌-◌, ◌≡◌}
 use Rattle.paper.specs.Determined.{Determined}
 
@@ -16,3 +18,5 @@ pub record Functions : Type 0 where
   pub below : (a b : ℕ) → Determined (λ (r : Bool). r ≡ ltb a b)
   -- in_ring
   pub in_ring_lem : (stations hops : ℕ) → Determined (λ (r : Bool). r ≡ test (in_ring stations hops))
+  -- Refusal::number
+  pub refusal_number : (self : Refusal) → Determined (λ (r : ℕ). r ≡ number_in self)

@@ -5,13 +5,12 @@ use Rattle.decide.specs.Test.{test}
 use Rattle.fair.specs.Advertise.{heard_of, told_of}
 use Rattle.fair.specs.Age.{age_of, shown_four}
 use Rattle.fair.specs.Count.{beyond, count_of, over}
+use Rattle.fair.specs.Four.{Four, Stored}
 use Rattle.fair.specs.Methods.{adjust_of}
 use Rattle.fair.specs.Range.{fair_ok, four_ok}
 use Rattle.fair.specs.Start.{start_of}
 use Rattle.fair.specs.declared.Adjusted.{Adjusted}
 use Rattle.fair.specs.declared.Fair.{Fair}
-use Rattle.fair.specs.declared.Four.{Four}
-use Rattle.fair.specs.declared.Stored.{Stored}
 use Rattle.rates.specs.Rates.{share_of}
 use Rattle.settings.specs.declared.Settings.{Settings}
 use Rattle.std.specs.Prelude.{Bool, ℕ, ◌≡◌}

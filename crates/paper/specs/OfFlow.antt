@@ -8,13 +8,13 @@ use Rattle.flow.specs.Parts.{bounds_of, stage_holds}
 use Rattle.flow.specs.Range.{flow_ok, stage_ok}
 use Rattle.flow.specs.Tick.{start_of, tick_of}
 use Rattle.flow.specs.declared.Client.{Client}
-use Rattle.flow.specs.declared.Entered.{Entered}
 use Rattle.flow.specs.declared.Flow.{Flow}
 use Rattle.flow.specs.declared.Line.{Line}
 use Rattle.queue.specs.declared.Bounds.{Bounds}
 use Rattle.queue.specs.declared.Frame.{Frame}
 use Rattle.settings.specs.declared.Settings.{Settings}
-use Rattle.std.specs.Prelude.{Bool, ℕ, ◌≡◌}
+use Rattle.shaper.specs.declared.Refused.{Refused}
+use Rattle.std.specs.Prelude.{Bool, Result, ℕ, ◌≡◌}
 use Rattle.paper.specs.Determined.{Determined}
 
 pub record Functions : Type 0 where
@@ -33,10 +33,10 @@ pub record Functions : Type 0 where
   -- stage_ok
   pub stage_ok_lem : (bounds : Bounds) (word : ℕ) → Determined (λ (r : Bool). r ≡ test (stage_ok bounds word))
   -- Flow::transit (a leaf: it asks that Offered settings self frame)
-  pub flow_transit : (self : Flow) (settings : Settings) (frame : Frame) → Determined (λ (r : Entered). r ≡ transit_of settings self frame)
+  pub flow_transit : (self : Flow) (settings : Settings) (frame : Frame) → Determined (λ (r : Result Flow Refused). r ≡ transit_of settings self frame)
   -- Flow::control (a leaf: it asks that Offered settings self (control_frame size))
-  pub flow_control : (self : Flow) (settings : Settings) (size : ℕ) → Determined (λ (r : Entered). r ≡ control_of settings self size)
+  pub flow_control : (self : Flow) (settings : Settings) (size : ℕ) → Determined (λ (r : Result Flow Refused). r ≡ control_of settings self size)
   -- Flow::client
-  pub flow_client : (self : Flow) (settings : Settings) (class size hops : ℕ) (over : Bool) → Determined (λ (r : Client). r ≡ client_of settings self class size hops over)
+  pub flow_client : (self : Flow) (settings : Settings) (class size hops : ℕ) (over : Bool) → Determined (λ (r : Result Client Refused). r ≡ client_of settings self class size hops over)
   -- Line::queue_for
   pub line_queue_for : (settings : Settings) (class : ℕ) → Determined (λ (r : Line). r ≡ queue_for settings class)

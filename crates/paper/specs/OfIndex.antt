@@ -1,12 +1,12 @@
 -- Public functions of `index`, by name: two answers that meet the contract are equal.
 -- Assumes nothing.
+use Rattle.decide.specs.declared.refusal.Refusal.{Refusal}
 use Rattle.excerpt.specs.declared.Place.{Place}
 use Rattle.index.specs.Entry.{entry_bytes, place_in, summary_in}
 use Rattle.index.specs.Index.{index_of, length_answer}
 use Rattle.roll.specs.Moved.{left_of, moved_of}
-use Rattle.roll.specs.declared.Moved.{Moved}
 use Rattle.shaper.specs.declared.Limits.{Limits}
-use Rattle.std.specs.Prelude.{List, ℕ, ◌≡◌}
+use Rattle.std.specs.Prelude.{List, Result, ℕ, ◌≡◌}
 use Rattle.summary.specs.declared.Summary.{Summary}
 use Rattle.wire.specs.Wire.{put}
 use Rattle.paper.specs.Determined.{Determined, Determined²}
@@ -19,6 +19,6 @@ pub record Functions : Type 0 where
   -- entries::place_at (a leaf: it asks that at + 40 ≤ length s.now)
   pub entries_place_at : (s : List ℕ) (at : ℕ) → Determined (λ (r : Place). r ≡ place_in s at)
   -- length
-  pub length : (events : ℕ) → Determined (λ (r : Moved). r ≡ length_answer events)
+  pub length : (events : ℕ) → Determined (λ (r : Result ℕ Refusal). r ≡ length_answer events)
   -- fill
-  pub fill : (s room : List ℕ) → Determined² (λ (r : Moved) (after-room : List ℕ). (r ≡ moved_of (index_of s) room) × (after-room ≡ left_of (index_of s) room))
+  pub fill : (s room : List ℕ) → Determined² (λ (r : Result ℕ Refusal) (after-room : List ℕ). (r ≡ moved_of (index_of s) room) × (after-room ≡ left_of (index_of s) room))

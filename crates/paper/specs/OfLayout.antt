@@ -2,16 +2,15 @@
 -- Assumes nothing.
 use Rattle.credits.specs.declared.Credits.{Credits}
 use Rattle.decide.specs.Test.{test}
+use Rattle.fair.specs.Four.{Four}
 use Rattle.fair.specs.Range.{fair_ok}
 use Rattle.fair.specs.declared.Decided.{Decided}
 use Rattle.fair.specs.declared.Fair.{Fair}
-use Rattle.fair.specs.declared.Four.{Four}
 use Rattle.flow.specs.declared.Line.{Line}
 use Rattle.heard.specs.declared.Received.{Received}
 use Rattle.layout.specs.Layout.{credits_words, decided_words, fair_at, fair_bytes, fair_place, four_words, pushed_at, received_words, stage_place, station_at, station_bytes, taken_from}
 use Rattle.layout.specs.Reading.{reading_bytes}
 use Rattle.settings.specs.declared.Settings.{Settings}
-use Rattle.slots.specs.Slots.{words_bytes}
 use Rattle.station.specs.Offers.{given_frame}
 use Rattle.station.specs.Pick.{pick_of}
 use Rattle.station.specs.Range.{station_ok}
@@ -20,6 +19,7 @@ use Rattle.station.specs.declared.Reading.{Reading}
 use Rattle.station.specs.declared.Station.{Station}
 use Rattle.std.specs.Prelude.{Bool, List, ℕ, ◌≡◌}
 use Rattle.wire.specs.Wire.{digits, put}
+use Rattle.wire.specs.Words.{words_bytes}
 use Rattle.paper.specs.Determined.{Determined}
 
 pub record Functions : Type 0 where

@@ -4,10 +4,10 @@ use Rattle.decide.specs.Test.{test}
 use Rattle.shaper.specs.Limits.{limits_ok, same_limits}
 use Rattle.shaper.specs.Shaper.{charge_of, fresh_of, ticked_of}
 use Rattle.shaper.specs.Short.{shortfall}
-use Rattle.shaper.specs.declared.Charged.{Charged}
 use Rattle.shaper.specs.declared.Limits.{Limits}
+use Rattle.shaper.specs.declared.Refused.{Refused}
 use Rattle.shaper.specs.declared.Shaper.{Shaper}
-use Rattle.std.specs.Prelude.{Bool, ℕ, ◌≡◌}
+use Rattle.std.specs.Prelude.{Bool, Result, ℕ, ◌≡◌}
 use Rattle.paper.specs.Determined.{Determined}
 
 pub record Functions : Type 0 where
@@ -22,4 +22,4 @@ pub record Functions : Type 0 where
   -- Shaper::tick
   pub shaper_tick : (self : Shaper) (waiting : Bool) (amount : ℕ) → Determined (λ (r : Shaper). r ≡ ticked_of self waiting amount)
   -- Shaper::charge
-  pub shaper_charge : (self : Shaper) (size : ℕ) → Determined (λ (r : Charged). r ≡ charge_of self size)
+  pub shaper_charge : (self : Shaper) (size : ℕ) → Determined (λ (r : Result Shaper Refused). r ≡ charge_of self size)

@@ -1,8 +1,9 @@
 -- Public functions of `wire`, by name: two answers that meet the contract are equal.
 -- Assumes nothing.
-use Rattle.std.specs.Prelude.{List, ℕ, ℤ, ◌≡◌}
+use Rattle.std.specs.Prelude.{List, length, ℕ, ℤ, ◌≡◌}
 use Rattle.wire.specs.Signed.{signed_of, unsigned_of}
 use Rattle.wire.specs.Wire.{be, digits, digits_be, le, put}
+use Rattle.wire.specs.Words.{words_at, words_bytes}
 use Rattle.paper.specs.Determined.{Determined}
 
 pub record Functions : Type 0 where
@@ -26,6 +27,10 @@ pub record Functions : Type 0 where
   pub put16be : (s : List ℕ) (at v : ℕ) → Determined (λ (after-s : List ℕ). after-s ≡ put s at (digits_be 2 v))
   -- put48be (a leaf: it asks that at + 6 ≤ length s.old)
   pub put48be : (s : List ℕ) (at v : ℕ) → Determined (λ (after-s : List ℕ). after-s ≡ put s at (digits_be 6 v))
+  -- read_words (a leaf: it asks that at + 4 * N ≤ length s.now)
+  pub read_words : (N : ℕ) (s : List ℕ) (at : ℕ) → Determined (λ (r : List ℕ). r ≡ words_at N s at)
+  -- write_words (a leaf: it asks that at + 4 * N ≤ length s.old)
+  pub write_words : (N : ℕ) (words s : List ℕ) (at : ℕ) → Determined (λ (after-s : List ℕ). (after-s ≡ put s at (words_bytes words)) × (length words ≡ N))
   -- signed64
   pub signed64 : (x : ℕ) → Determined (λ (r : ℤ). r ≡ signed_of x)
   -- unsigned64

@@ -1,6 +1,9 @@
 -- Request A3 of document 02, "List where two halls part": what the program `compare` prints of two record files, each in either form (A8), for the third
 -- condition.
 -- Assumes nothing.
+use Rattle.decide.specs.declared.refusal.Refusal.{Refusal}
+use Rattle.std.specs.Prelude.{Ok, Err, Some, None}
+use Rattle.record.specs.Step.{placed}
 use Rattle.std.specs.Prelude.{ℕ, suc, ◌+◌, ◌-◌, ◌≤◌, ◌<◌, min, true, false, ◌⊎◌, ◌↔◌, ◌≡◌, length, drop}
 use mathlib.Core.List.{List, [], ◌∷◌, ◌++◌, flatten}
 use Rattle.wire.specs.Wire.{Bytes}
@@ -9,9 +12,8 @@ use Rattle.shaper.specs.declared.Event.{Event}
 use Rattle.shaper.specs.declared.Event.TheVariants.{Waiting, Idle, Send}
 use Rattle.shaper.specs.Kind.{kind_of, number_of, event_of}
 use Rattle.summary.specs.declared.Summary.{Summary}
-use Rattle.summary.specs.declared.Answer.{Answer}
+use Rattle.summary.specs.Answer.{Answer}
 use Rattle.summary.specs.Summary.{summary_of}
-use Rattle.record.specs.declared.Step.TheVariants.{Stands, End, Faulty}
 use Rattle.record.specs.Items.{Item, items_bytes, written_items, unrolled, ItemsOk, Formed}
 use Rattle.record.specs.Step.{step_at}
 use Rattle.account.specs.Account.{summarize_of}
@@ -102,7 +104,7 @@ pub record Compared : Type 0 where
   pub parting : (l m : Limits) (is js : List Item) → Formed true l is → Formed true m js
       → compare_of (written_items l is) (written_items m js)
       ≡ opening_text l m ++ list_text (list_of (unrolled is) (unrolled js))
-      ++ closing_text (Answer.Summed (summary_of l (unrolled is))) (Answer.Summed (summary_of m (unrolled js)))
+      ++ closing_text (Ok (summary_of l (unrolled is))) (Ok (summary_of m (unrolled js)))
   -- "Refusals: as for one record, the first file's before the second's."
   pub refused_first : (xs ys : List ℕ) (n : ℕ) → Bytes xs → 0 < n → RecordRefused xs n → compare_of xs ys ≡ line (ascii "refused ") (numeral n)
   pub refused_second : (l : Limits) (is : List Item) (ys : List ℕ) (n : ℕ) → Formed true l is → Bytes ys → 0 < n → RecordRefused ys n
@@ -128,20 +130,20 @@ pub record BothFed : Type 0 where
   pub parting : (p : Pair) (w v : List ℕ) → (w ≡ v → ⊥) → both_fed p w v ≡ record { first = fed_of p.first w; second = fed_of p.second v; same = false }
   pub alike : (w v : List ℕ) → (alike_of w v ≡ true) ↔ (w ≡ v)
   -- The second reading's summaries must equal the first's.
-  pub equal : (s t : Summary) → (same_answer_of (Answer.Summed s) (Answer.Summed t) ≡ true) ↔ (s ≡ t)
-  pub not_equal : (a : Answer) (n : ℕ) → (same_answer_of (Answer.Refused n) a ≡ false) × (same_answer_of a (Answer.Refused n) ≡ false)
+  pub equal : (s t : Summary) → (same_answer_of (Ok s) (Ok t) ≡ true) ↔ (s ≡ t)
+  pub not_equal : (a : Answer) (r : Refusal) → (same_answer_of (Err r) a ≡ false) × (same_answer_of a (Err r) ≡ false)
 
 -- Then to list them: two windows are walked together, from a place in each. A place is where an item begins, and how many of its events have gone by.
 pub record Placed (side : Side) (w : List ℕ) (p : Place) : Type 0 where
   -- the item that stands there, an event or a run,
-  pub item : (kind number count next : ℕ) → step_at side.mtu w p.at ≡ Stands kind number count next → p.gone < count
+  pub item : (kind number count next : ℕ) → step_at side.mtu w p.at ≡ Ok (Some (placed kind number count next)) → p.gone < count
       → stand_of side w p ≡ stand.Events kind number count next
   -- behind the last byte of the last window the file's end,
-  pub ended : step_at side.mtu w p.at ≡ End → side.last ≡ true → stand_of side w p ≡ stand.Ended
+  pub ended : step_at side.mtu w p.at ≡ Ok None → side.last ≡ true → stand_of side w p ≡ stand.Ended
   -- and else no whole item of this window.
-  pub more : step_at side.mtu w p.at ≡ End → side.last ≡ false → stand_of side w p ≡ stand.Unread
-  pub cut : (n : ℕ) → step_at side.mtu w p.at ≡ Faulty n → stand_of side w p ≡ stand.Unread
-  pub passed : (kind number count next : ℕ) → step_at side.mtu w p.at ≡ Stands kind number count next → count ≤ p.gone → stand_of side w p ≡ stand.Unread
+  pub more : step_at side.mtu w p.at ≡ Ok None → side.last ≡ false → stand_of side w p ≡ stand.Unread
+  pub cut : (r : Refusal) → step_at side.mtu w p.at ≡ Err r → stand_of side w p ≡ stand.Unread
+  pub passed : (kind number count next : ℕ) → step_at side.mtu w p.at ≡ Ok (Some (placed kind number count next)) → count ≤ p.gone → stand_of side w p ≡ stand.Unread
   -- the place behind m more events of an item of so many, behind which the next begins
   pub within : (m count next : ℕ) → p.gone + m < count → moved_of p m count next ≡ record { at = p.at; gone = p.gone + m }
   pub behind : (m count next : ℕ) → count ≤ p.gone + m → moved_of p m count next ≡ record { at = next; gone = 0 }
@@ -202,12 +204,12 @@ pub record Paged : Type 0 where
       × (line_text n (finding.Second f) ≡ told_text (second_only n f))
   -- Write after write it is what the two files are to print, however their bytes are cut into windows: where both have summaries, the pages go through both files.
   pub printed : (xs ys : List ℕ) (ps : List Page)
-      → ((s t : Summary) → summarize_of xs ≡ Answer.Summed s → summarize_of ys ≡ Answer.Summed t → InTurn s.limits t.limits 0 (drop 14 xs) 0 (drop 14 ys) 0 ps)
+      → ((s t : Summary) → summarize_of xs ≡ Ok s → summarize_of ys ≡ Ok t → InTurn s.limits t.limits 0 (drop 14 xs) 0 (drop 14 ys) 0 ps)
       → printed_by (summarize_of xs) (summarize_of ys) ps ≡ compare_of xs ys
-  pub refusal : (n : ℕ) (b : Answer) (ps : List Page) → printed_by (Answer.Refused n) b ps ≡ printed_of (Answer.Refused n)
-  pub other_refusal : (s : Summary) (n : ℕ) (ps : List Page) → printed_by (Answer.Summed s) (Answer.Refused n) ps ≡ printed_of (Answer.Refused n)
+  pub refusal : (r : Refusal) (b : Answer) (ps : List Page) → printed_by (Err r) b ps ≡ printed_of (Err r)
+  pub other_refusal : (s : Summary) (r : Refusal) (ps : List Page) → printed_by (Ok s) (Err r) ps ≡ printed_of (Err r)
   pub writes : (s t : Summary) (ps : List Page)
-      → printed_by (Answer.Summed s) (Answer.Summed t) ps ≡ opening_text s.limits t.limits ++ pages_text ps ++ closing_text (Answer.Summed s) (Answer.Summed t)
+      → printed_by (Ok s) (Ok t) ps ≡ opening_text s.limits t.limits ++ pages_text ps ++ closing_text (Ok s) (Ok t)
   pub no_page : pages_text [] ≡ []
   pub a_page : (p : Page) (ps : List Page) → pages_text (p ∷ ps) ≡ page_text p ++ pages_text ps
   -- A page is so many turns of a walk; or the same items stand in both files, which list nothing.

@@ -1,5 +1,8 @@
 -- The commands `rpr summarize` and `rpr join`: hex text, read in chunks of any sizes, summaries in files, and what is printed of them, for the third condition.
 -- Assumes nothing.
+use Rattle.decide.specs.declared.refusal.Refusal.{Refusal}
+use Rattle.std.specs.Prelude.{Ok, Err, Some, None}
+use Rattle.decide.specs.Number.{number_in, refusal_of}
 use Rattle.std.specs.Prelude.{ℕ, ◌+◌, ◌*◌, ◌-◌, ◌/◌, ◌%◌, ◌≤◌, ◌<◌, Bool, true, false, ◌&&◌, ◌≡◌, eqb, pos, negsuc, length}
 use Prim.Native.Char.{Char, code}
 use Prim.Native.String.{String}
@@ -7,8 +10,8 @@ use Prim.Native.String.{[] as end, ◌∷◌ as ◌before◌}
 use mathlib.Core.List.{List, [], ◌∷◌, ◌++◌, map, flatten}
 use Rattle.shaper.specs.declared.Limits.{Limits}
 use Rattle.summary.specs.declared.Summary.{Summary}
-use Rattle.summary.specs.declared.Answer.{Answer}
-use Rattle.summary.specs.declared.Outcome.{Outcome}
+use Rattle.summary.specs.Answer.{Answer}
+use Rattle.summary.specs.Answer.{Outcome}
 use Rattle.summary.specs.Answer.{join_of, settle_of}
 use Rattle.summary.specs.Range.{in_range}
 use Rattle.record.specs.Items.{Item, written_items, unrolled, Formed}
@@ -66,13 +69,13 @@ pub record Printed : Type 0 where
       ≡ line (ascii "events ") (numeral s.events) ++ line (ascii "accrued ") (numeral s.accrued) ++ line (ascii "sent ") (numeral s.sent)
       ++ line (ascii "ceiling ") (signed_numeral s.ceiling) ++ line (ascii "need ") (numeral s.need)
   -- the start is loLimit; if need is larger the last line is `start 100 not permitted`.
-  pub permitted : (s : Summary) (credit : ℕ) → settle_of s s.limits.lo ≡ Outcome.Permitted credit
-      → printed_of (Answer.Summed s) ≡ counts_text s ++ (ascii "start " ++ numeral s.limits.lo) ++ line (ascii " permitted end ") (numeral credit)
-  pub not_permitted : (s : Summary) → settle_of s s.limits.lo ≡ Outcome.NotPermitted
-      → printed_of (Answer.Summed s) ≡ counts_text s ++ (ascii "start " ++ numeral s.limits.lo) ++ ascii " not permitted\n"
+  pub permitted : (s : Summary) (credit : ℕ) → settle_of s s.limits.lo ≡ Ok (Some credit)
+      → printed_of (Ok s) ≡ counts_text s ++ (ascii "start " ++ numeral s.limits.lo) ++ line (ascii " permitted end ") (numeral credit)
+  pub not_permitted : (s : Summary) → settle_of s s.limits.lo ≡ Ok None
+      → printed_of (Ok s) ≡ counts_text s ++ (ascii "start " ++ numeral s.limits.lo) ++ ascii " not permitted\n"
   -- A refusal prints only `refused N`.
-  pub refused : (n : ℕ) → printed_of (Answer.Refused n) ≡ line (ascii "refused ") (numeral n)
-  pub not_settled : (s : Summary) (n : ℕ) → settle_of s s.limits.lo ≡ Outcome.Refused n → printed_of (Answer.Summed s) ≡ printed_of (Answer.Refused n)
+  pub refused : (r : Refusal) → printed_of (Err r) ≡ line (ascii "refused ") (numeral (number_in r))
+  pub not_settled : (s : Summary) (r : Refusal) → settle_of s s.limits.lo ≡ Err r → printed_of (Ok s) ≡ printed_of (Err r)
 
 -- ---- bytes in chunks
 
@@ -91,20 +94,20 @@ pub record FedBytes : Type 0 where
 -- What the command `rpr join` answers of files of bytes, in the order given.
 pub record JoinsFiles : Type 0 where
   -- A file of another number of bytes than 48 is 2, one whose summary is outside its range is 3, and any other holds its summary.
-  pub other_length : (xs : List ℕ) → (length xs ≡ 48 → ⊥) → opened_of xs ≡ Answer.Refused 2
-  pub out_of_range : (xs : List ℕ) → length xs ≡ 48 → in_range (summary_at xs) ≡ false → opened_of xs ≡ Answer.Refused 3
-  pub opened : (xs : List ℕ) → length xs ≡ 48 → in_range (summary_at xs) ≡ true → opened_of xs ≡ Answer.Summed (summary_at xs)
+  pub other_length : (xs : List ℕ) → (length xs ≡ 48 → ⊥) → opened_of xs ≡ Err (refusal_of 2)
+  pub out_of_range : (xs : List ℕ) → length xs ≡ 48 → in_range (summary_at xs) ≡ false → opened_of xs ≡ Err (refusal_of 3)
+  pub opened : (xs : List ℕ) → length xs ≡ 48 → in_range (summary_at xs) ≡ true → opened_of xs ≡ Ok (summary_at xs)
   -- Each is joined to those before it; a refusal stands, whatever follows.
   pub no_more : (a : Answer) → joined_from a [] ≡ a
-  pub joins : (s t : Summary) (xs : List ℕ) (files : List (List ℕ)) → opened_of xs ≡ Answer.Summed t
-      → joined_from (Answer.Summed s) (xs ∷ files) ≡ joined_from (join_of s t) files
-  pub refuses : (s : Summary) (n : ℕ) (xs : List ℕ) (files : List (List ℕ)) → opened_of xs ≡ Answer.Refused n
-      → joined_from (Answer.Summed s) (xs ∷ files) ≡ joined_from (Answer.Refused n) files
-  pub stands : (n : ℕ) (xs : List ℕ) (files : List (List ℕ)) → joined_from (Answer.Refused n) (xs ∷ files) ≡ joined_from (Answer.Refused n) files
+  pub joins : (s t : Summary) (xs : List ℕ) (files : List (List ℕ)) → opened_of xs ≡ Ok t
+      → joined_from (Ok s) (xs ∷ files) ≡ joined_from (join_of s t) files
+  pub refuses : (s : Summary) (r : Refusal) (xs : List ℕ) (files : List (List ℕ)) → opened_of xs ≡ Err r
+      → joined_from (Ok s) (xs ∷ files) ≡ joined_from (Err r) files
+  pub stands : (r : Refusal) (xs : List ℕ) (files : List (List ℕ)) → joined_from (Err r) (xs ∷ files) ≡ joined_from (Err r) files
   -- The first is opened, and the others are joined to it.
   pub all : (xs : List ℕ) (files : List (List ℕ)) → joined_of xs files ≡ joined_from (opened_of xs) files
   -- What --sheet writes is a summary's 48 bytes, and of a refusal nothing.
-  pub written_file : (s : Summary) (n : ℕ) → (file_of (Answer.Summed s) ≡ sheet_of s) × (file_of (Answer.Refused n) ≡ [])
+  pub written_file : (s : Summary) (r : Refusal) → (file_of (Ok s) ≡ sheet_of s) × (file_of (Err r) ≡ [])
   -- A record in either form cut between events into pieces, each in either form, summarized on its own from its bytes and written to a file: joined in their
   -- order, the files give the summary of the whole.
   pub pieces : (l : Limits) (whole is : List Item) (rest : List (List Item)) → Formed true l whole → Formed true l (is ++ flatten rest)
@@ -122,10 +125,10 @@ pub record Program : Type 0 where
   pub no_character : (x : Hex) → read_text x [] ≡ x
   pub a_character : (x : Hex) (c : ℕ) (cs : List ℕ) → read_text x (c ∷ cs) ≡ read_text (read_char x c) cs
   -- Where a text can only come to 2 the rest need not be read.
-  pub ends : (x : Hex) → ends_of x ≡ true → (cs : List ℕ) → finish_of (read_text x cs) ≡ Answer.Refused 2
+  pub ends : (x : Hex) → ends_of x ≡ true → (cs : List ℕ) → finish_of (read_text x cs) ≡ Err (refusal_of 2)
   -- other text or an odd digit, anywhere, is 2 before all else, and else its bytes are a record.
   pub text : HexText
-  pub other : (text : List ℕ) → is_hex text ≡ false → text_of text ≡ Answer.Refused 2
+  pub other : (text : List ℕ) → is_hex text ≡ false → text_of text ≡ Err (refusal_of 2)
   pub hex : (text : List ℕ) → is_hex text ≡ true → text_of text ≡ summarize_of (pairs (digits_of text))
   pub fed : FedBytes
   pub files : JoinsFiles

@@ -1,6 +1,6 @@
 -- Rules of document 01 for shapers, frames in, counting and fairness frames, row by row, for the second condition.
 -- Assumes nothing.
-use Rattle.std.specs.Prelude.{ℕ, ◌+◌, ◌*◌, ◌-◌, ◌/◌, ◌%◌, ◌≤◌, ◌<◌, min, max, true, false, ◌&&◌, List, [], ◌∷◌, ◌⊎◌, ◌↔◌, ◌≡◌, eqb, length}
+use Rattle.std.specs.Prelude.{ℕ, ◌+◌, ◌*◌, ◌-◌, ◌/◌, ◌%◌, ◌≤◌, ◌<◌, min, max, true, false, ◌&&◌, List, [], ◌∷◌, ◌⊎◌, ◌↔◌, ◌≡◌, eqb, length, Ok, Err}
 use Rattle.decide.specs.Test.{test}
 use Rattle.settings.specs.declared.Settings.{Settings}
 use Rattle.credits.specs.declared.Credits.{Credits}
@@ -18,13 +18,14 @@ use Rattle.heard.specs.declared.Received.{Received}
 use Rattle.fair.specs.declared.Fair.{Fair}
 use Rattle.wire.specs.Wire.{be}
 use Rattle.advert.specs.declared.Advert.{Advert}
-use Rattle.advert.specs.declared.Parsed.{Parsed}
+use Rattle.decide.specs.Number.{refusal_of}
 use Rattle.advert.specs.Frame.{whole, advert_in, parsed_of, advert_bytes}
 use Rattle.rates.specs.Rates.{counted_of}
 use Rattle.fair.specs.Count.{beyond, count_of, with_counters}
 use Rattle.heard.specs.Frame.{own_frame}
 use Rattle.fair.specs.Advertise.{passed_on_of, with_received, told_of, heard_of}
 use Rattle.station.specs.declared.Station.{Station}
+use Rattle.shaper.specs.Refused.{afterwards}
 use Rattle.station.specs.Calls.{tick_of, amount_for}
 
 -- ---- shapers: a tick of a station in range
@@ -44,9 +45,9 @@ pub record Ticks (st : Station) (a b c : ℕ) : Type 0 where
   pub set_amount : (w : Which) → (w ≡ C → ⊥) → amount_for st w ≡ (bucket_of st.settings w).amount
   -- A tick adds the amount; while traffic waits the sum is cut to hiLimit, otherwise to loLimit.
   pub waiting : (w : Which) → waits st.flow (eqb a 1) (eqb b 1) (eqb c 1) w ≡ true
-      → credit_of (tick_of st a b c).station.flow.credits w ≡ min (credit_of st.flow.credits w + amount_for st w) (bucket_of st.settings w).hi
+      → credit_of (afterwards st (tick_of st a b c)).flow.credits w ≡ min (credit_of st.flow.credits w + amount_for st w) (bucket_of st.settings w).hi
   pub idle : (w : Which) → waits st.flow (eqb a 1) (eqb b 1) (eqb c 1) w ≡ false
-      → credit_of (tick_of st a b c).station.flow.credits w ≡ min (credit_of st.flow.credits w + amount_for st w) (bucket_of st.settings w).lo
+      → credit_of (afterwards st (tick_of st a b c)).flow.credits w ≡ min (credit_of st.flow.credits w + amount_for st w) (bucket_of st.settings w).lo
 
 -- ---- shapers: a send
 
@@ -136,8 +137,8 @@ pub record Reads (xs : List ℕ) : Type 0 where
   pub address : ((advert_in xs).high ≡ be 6 xs 2 / 4294967296) × ((advert_in xs).low ≡ be 6 xs 2 % 4294967296)
   pub rate : (advert_in xs).rate ≡ be 2 xs 10
   -- Another length, type or header kind: 2.
-  pub parsed : test (whole xs) ≡ true → parsed_of xs ≡ Parsed.Frame (advert_in xs)
-  pub not_parsed : test (whole xs) ≡ false → parsed_of xs ≡ Parsed.Refused 2
+  pub parsed : test (whole xs) ≡ true → parsed_of xs ≡ Ok (advert_in xs)
+  pub not_parsed : test (whole xs) ≡ false → parsed_of xs ≡ Err (refusal_of 2)
 
 pub record Writes (a : Advert) : Type 0 where
   -- A written frame is read so,

@@ -31,12 +31,10 @@ use Rattle.fair.specs.Range.{FairOk}
 use Rattle.fair.specs.ReadBack.{ReadBack}
 use Rattle.ring.specs.declared.Way.{Way}
 use Rattle.ring.specs.declared.Way.TheVariants.{Left, Right}
-use Rattle.ring.specs.declared.Choice.TheVariants.{Chosen, Refused}
 use Rattle.ring.specs.Links.{other_of, next_of, link_of, ahead_of, reach_of, station_after}
-use Rattle.ring.specs.Choosing.{code_of, distance_of, tie_of, reaches_of, along_of, choose_of, Placed}
+use Rattle.ring.specs.Choosing.{code_of, distance_of, tie_of, reaches_of, along_of, choose_of, chosen_as, no_choice, Placed}
 use Rattle.ring.specs.Pairs.{Together}
-use Rattle.wrap.specs.declared.Outcome as wrap
-use Rattle.wrap.specs.Walking.{ended, across, at_home, opposite, course_of, side_of, path_of}
+use Rattle.wrap.specs.Walking.{ended, across, at_home, opposite, course_of, side_of, journey, path_of}
 use Rattle.station.specs.declared.Station.{Station}
 use Rattle.station.specs.Range.{StationOk}
 use Rattle.station.specs.History as history
@@ -193,7 +191,7 @@ pub record Chooses (stations own target links ring : ℕ) : Type 0 where
   pub other : (way : Way) → reaches_of way stations own target links ≡ false → reaches_of (other_of way) stations own target links ≡ true
       → choose_of stations own target links (code_of way) 1 ring ≡ along_of (other_of way) stations own target 1 ring
   pub neither : (way : Way) → reaches_of way stations own target links ≡ false → reaches_of (other_of way) stations own target links ≡ false
-      → choose_of stations own target links (code_of way) 1 ring ≡ Refused 8
+      → choose_of stations own target links (code_of way) 1 ring ≡ no_choice 8
   -- Unprotected: that side regardless.
   pub regardless : (way : Way) → choose_of stations own target links (code_of way) 2 ring ≡ along_of way stations own target 2 ring
   -- Default: the shorter side that reaches (unprotected: the shorter), 8 if none; on a tie right if the own index is lower than the target's, otherwise
@@ -205,7 +203,7 @@ pub record Chooses (stations own target links ring : ℕ) : Type 0 where
   pub tie : distance_of Left stations own target ≡ distance_of Right stations own target → reaches_of (tie_of own target) stations own target links ≡ true
       → choose_of stations own target links 3 1 ring ≡ along_of (tie_of own target) stations own target 1 ring
   pub none : reaches_of Left stations own target links ≡ false → reaches_of Right stations own target links ≡ false
-      → choose_of stations own target links 3 1 ring ≡ Refused 8
+      → choose_of stations own target links 3 1 ring ≡ no_choice 8
   pub unprotected_tie : distance_of Left stations own target ≡ distance_of Right stations own target
       → choose_of stations own target links 3 2 ring ≡ along_of (tie_of own target) stations own target 2 ring
   pub unprotected_shorter : (way : Way) → distance_of way stations own target < distance_of (other_of way) stations own target
@@ -217,9 +215,9 @@ pub record Sends (stations own target links ring : ℕ) : Type 0 where
   pub side : (protection : ℕ) → choose_of stations own target links 0 protection ring ≡ choose_of stations own target links 3 protection ring
   pub protection : (s : ℕ) → choose_of stations own target links s 0 ring ≡ choose_of stations own target links s 1 ring
   -- ttl: the distance on a steering ring, 63 on a wrapping one. Wrap mark: protected on a wrapping ring.
-  pub steering : (way : Way) (p : ℕ) → along_of way stations own target p 0 ≡ Chosen (code_of way) (distance_of way stations own target) (distance_of way stations own target) false
-  pub wrapping : (way : Way) → along_of way stations own target 1 1 ≡ Chosen (code_of way) (distance_of way stations own target) 63 true
-  pub wrapping_unprotected : (way : Way) → along_of way stations own target 2 1 ≡ Chosen (code_of way) (distance_of way stations own target) 63 false
+  pub steering : (way : Way) (p : ℕ) → along_of way stations own target p 0 ≡ chosen_as (code_of way) (distance_of way stations own target) (distance_of way stations own target) false
+  pub wrapping : (way : Way) → along_of way stations own target 1 1 ≡ chosen_as (code_of way) (distance_of way stations own target) 63 true
+  pub wrapping_unprotected : (way : Way) → along_of way stations own target 2 1 ≡ chosen_as (code_of way) (distance_of way stations own target) 63 false
 
 -- ---- all together
 
@@ -318,7 +316,7 @@ pub record Condition2 : Type 0 where
   -- The answer holds the hops moved, equal to the path's length, from the station on with 2 × stations hops left.
   pub path : (stations own target links home : ℕ) → Placed stations own target links → (home ≡ 1) ⊎ (home ≡ 2)
       → let course = course_of stations links target (side_of home) (2 * stations) at_home own in
-      path_of stations own target links home ≡ wrap.Outcome.Moved course.delivered (length course.links)
+      path_of stations own target links home ≡ journey course.delivered (length course.links)
   -- Whether delivery or the hop limit is tested first cannot be seen: one hop more delivers no other frame, on either ringlet,
   -- and on the home side a delivered path is shorter than the limit.
   pub early : (stations own target links : ℕ) (home : Way) → Placed stations own target links

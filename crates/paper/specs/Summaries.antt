@@ -1,5 +1,9 @@
 -- Shaper records and summaries in the paper's words, for the third condition: what events do to a credit, how they are written, the summary of none and of one,
 -- what joins and settling say, and the same by the host's calls. Assumes nothing.
+use Rattle.decide.specs.declared.refusal.Refusal.{Refusal}
+use Rattle.std.specs.Prelude.{Ok, Err, Some, None}
+use Rattle.decide.specs.Number.{refusal_of}
+use Rattle.std.specs.Prelude.{Ok, Err}
 use Rattle.std.specs.Prelude.{◌%◌, ℕ, ◌+◌, ◌-◌, ◌≤◌, ◌<◌, min, true, false, List, [], ◌∷◌, ◌++◌, map, ◌⊎◌, ◌↔◌, ◌≡◌, ℤ, pos, negsuc, ◌+ℤ◌, ◌-ℤ◌, length, replicate}
 use Rattle.std.specs.Int.Signed.{le_z, lt_z}
 use Rattle.wire.specs.Wire.{le, digits}
@@ -9,11 +13,12 @@ use Rattle.shaper.specs.declared.Event.TheVariants.{Waiting, Idle, Send}
 use Rattle.shaper.specs.declared.Shaper.{Shaper}
 use Rattle.shaper.specs.Limits.{LimitsOk}
 use Rattle.shaper.specs.Kind.{kind_of}
+use Rattle.shaper.specs.Refused.{refused}
 use Rattle.shaper.specs.Shaper.{fresh_of, ticked_of, charge_of}
 use Rattle.shaper.specs.Credit.{Valid, AllValid, Permitted, end_credit, accrued_of, sent_of}
 use Rattle.summary.specs.declared.Summary.{Summary}
-use Rattle.summary.specs.declared.Answer.{Answer}
-use Rattle.summary.specs.declared.Outcome.{Outcome}
+use Rattle.summary.specs.Answer.{Answer}
+use Rattle.summary.specs.Answer.{Outcome}
 use Rattle.summary.specs.Summary.{smaller_ℤ, larger_ℤ, gain, empty_of, single_of, joined, summary_of}
 use Rattle.summary.specs.Range.{InRange}
 use Rattle.summary.specs.Answer.{empty_answer, single_answer, counted_answer, join_of, and_then, settle_of}
@@ -46,8 +51,8 @@ pub record OneShaper (s : Shaper) : Type 0 where
   pub waiting : (x : ℕ) → ticked_of s true x ≡ record { limits = s.limits; credit = min (s.credit + x) s.limits.hi }
   pub idle : (x : ℕ) → ticked_of s false x ≡ record { limits = s.limits; credit = min (s.credit + x) s.limits.lo }
   -- A send is permitted exactly when credit > loLimit, then the size is taken off; else 6, and the bytes missing.
-  pub charged : (z : ℕ) → s.limits.lo < s.credit → charge_of s z ≡ record { number = 0; detail = 0; shaper = record { limits = s.limits; credit = s.credit - z } }
-  pub refused : (z : ℕ) → s.credit ≤ s.limits.lo → charge_of s z ≡ record { number = 6; detail = s.limits.lo + 1 - s.credit; shaper = s }
+  pub charged : (z : ℕ) → s.limits.lo < s.credit → charge_of s z ≡ Ok (record { limits = s.limits; credit = s.credit - z })
+  pub refused : (z : ℕ) → s.credit ≤ s.limits.lo → charge_of s z ≡ Err (refused 6 (s.limits.lo + 1 - s.credit))
 
 -- The bytes that ticks brought, and the bytes that were sent.
 pub record Sums (es : List Event) : Type 0 where
@@ -126,19 +131,19 @@ Together e count = (1 ≤ count) × ((count ≡ 1) ⊎ (kind_of e < 3))
 
 -- The constructors: 1 where a setting is outside its range, then 3 where the event's number is.
 pub record Constructs (l : Limits) : Type 0 where
-  pub empty : LimitsOk l → empty_answer l ≡ Answer.Summed (empty_of l)
-  pub empty_refused : (LimitsOk l → ⊥) → empty_answer l ≡ Answer.Refused 1
-  pub single : (e : Event) → LimitsOk l → Valid l e → single_answer l e ≡ Answer.Summed (single_of l e)
-  pub settings_refused : (e : Event) → (LimitsOk l → ⊥) → single_answer l e ≡ Answer.Refused 1
-  pub number_refused : (e : Event) → LimitsOk l → (Valid l e → ⊥) → single_answer l e ≡ Answer.Refused 3
+  pub empty : LimitsOk l → empty_answer l ≡ Ok (empty_of l)
+  pub empty_refused : (LimitsOk l → ⊥) → empty_answer l ≡ Err (refusal_of 1)
+  pub single : (e : Event) → LimitsOk l → Valid l e → single_answer l e ≡ Ok (single_of l e)
+  pub settings_refused : (e : Event) → (LimitsOk l → ⊥) → single_answer l e ≡ Err (refusal_of 1)
+  pub number_refused : (e : Event) → LimitsOk l → (Valid l e → ⊥) → single_answer l e ≡ Err (refusal_of 3)
   -- Of so many equal events, as an item stands for them: one event, or ticks. Then 3 where the count is 0 or a send comes more than once, and 9 where it is
   -- over 1,000,000 events.
   pub counted : (e : Event) (count : ℕ) → LimitsOk l → Valid l e → Together e count → count ≤ 1000000
-      → counted_answer l e count ≡ Answer.Summed (summary_of l (replicate count e))
-  pub counted_settings : (e : Event) (count : ℕ) → (LimitsOk l → ⊥) → counted_answer l e count ≡ Answer.Refused 1
-  pub counted_number : (e : Event) (count : ℕ) → LimitsOk l → (Valid l e → ⊥) → counted_answer l e count ≡ Answer.Refused 3
-  pub counted_apart : (e : Event) (count : ℕ) → LimitsOk l → Valid l e → (Together e count → ⊥) → counted_answer l e count ≡ Answer.Refused 3
-  pub counted_many : (e : Event) (count : ℕ) → LimitsOk l → Valid l e → Together e count → 1000000 < count → counted_answer l e count ≡ Answer.Refused 9
+      → counted_answer l e count ≡ Ok (summary_of l (replicate count e))
+  pub counted_settings : (e : Event) (count : ℕ) → (LimitsOk l → ⊥) → counted_answer l e count ≡ Err (refusal_of 1)
+  pub counted_number : (e : Event) (count : ℕ) → LimitsOk l → (Valid l e → ⊥) → counted_answer l e count ≡ Err (refusal_of 3)
+  pub counted_apart : (e : Event) (count : ℕ) → LimitsOk l → Valid l e → (Together e count → ⊥) → counted_answer l e count ≡ Err (refusal_of 3)
+  pub counted_many : (e : Event) (count : ℕ) → LimitsOk l → Valid l e → Together e count → 1000000 < count → counted_answer l e count ≡ Err (refusal_of 9)
 
 -- Join of 1 then 2, which are in range and have the same settings.
 pub record JoinsTwo (a b : Summary) : Type 0 where
@@ -155,19 +160,19 @@ pub record JoinsTwo (a b : Summary) : Type 0 where
 
 -- From credit c, which is 0 to hiLimit, of a summary in range: permitted throughout exactly if c ≥ need, ending at min(c + gain, ceiling).
 pub record SettlesFrom (s : Summary) (c : ℕ) : Type 0 where
-  pub permitted : s.need ≤ c → (end : ℕ) × (settle_of s c ≡ Outcome.Permitted end) × (pos end ≡ smaller_ℤ (pos c +ℤ gain s) s.ceiling)
-  pub not_permitted : c < s.need → settle_of s c ≡ Outcome.NotPermitted
+  pub permitted : s.need ≤ c → (end : ℕ) × (settle_of s c ≡ Ok (Some end)) × (pos end ≡ smaller_ℤ (pos c +ℤ gain s) s.ceiling)
+  pub not_permitted : c < s.need → settle_of s c ≡ Ok None
 
 -- Join is associative, with the empty summary neutral, for in-range summaries of the same settings; both groupings give 9 or neither does.
 pub record Groups : Type 0 where
   pub associative : (a b c : Summary) → InRange a → InRange b → InRange c → a.limits ≡ b.limits → b.limits ≡ c.limits
       → and_then (join_of a b) (λ z. join_of z c) ≡ and_then (join_of b c) (λ z. join_of a z)
-  pub few : (a b : Summary) → InRange a → InRange b → a.limits ≡ b.limits → a.events + b.events ≤ 1000000 → join_of a b ≡ Answer.Summed (joined a b)
-  pub out : (a b : Summary) → (InRange a × InRange b → ⊥) → join_of a b ≡ Answer.Refused 3
-  pub apart : (a b : Summary) → InRange a → InRange b → (a.limits ≡ b.limits → ⊥) → join_of a b ≡ Answer.Refused 10
-  pub many : (a b : Summary) → InRange a → InRange b → a.limits ≡ b.limits → 1000000 < a.events + b.events → join_of a b ≡ Answer.Refused 9
-  pub empty_left : (a : Summary) → InRange a → join_of (empty_of a.limits) a ≡ Answer.Summed a
-  pub empty_right : (a : Summary) → InRange a → join_of a (empty_of a.limits) ≡ Answer.Summed a
+  pub few : (a b : Summary) → InRange a → InRange b → a.limits ≡ b.limits → a.events + b.events ≤ 1000000 → join_of a b ≡ Ok (joined a b)
+  pub out : (a b : Summary) → (InRange a × InRange b → ⊥) → join_of a b ≡ Err (refusal_of 3)
+  pub apart : (a b : Summary) → InRange a → InRange b → (a.limits ≡ b.limits → ⊥) → join_of a b ≡ Err (refusal_of 10)
+  pub many : (a b : Summary) → InRange a → InRange b → a.limits ≡ b.limits → 1000000 < a.events + b.events → join_of a b ≡ Err (refusal_of 9)
+  pub empty_left : (a : Summary) → InRange a → join_of (empty_of a.limits) a ≡ Ok a
+  pub empty_right : (a : Summary) → InRange a → join_of a (empty_of a.limits) ≡ Ok a
 
 -- ---- by the host's calls
 
@@ -177,9 +182,9 @@ pub record LentSummaries : Type 0 where
   pub join : (first second room : List ℕ) → join_answer first second room % 256 ≡ 0
       → (join_answer first second room ≡ 0) × (summary_at (join_after first second room) ≡ joined (summary_at first) (summary_at second))
   pub ends : (answer end : ℕ) → EndsAt answer end ↔ ((digits 8 answer ≡ 0 ∷ 1 ∷ 0 ∷ 0 ∷ digits 4 end) × (end < 4294967296))
-  pub permitted : (summary : List ℕ) (start end : ℕ) → length summary ≡ sheet_length → settle_of (summary_at summary) start ≡ Outcome.Permitted end
+  pub permitted : (summary : List ℕ) (start end : ℕ) → length summary ≡ sheet_length → settle_of (summary_at summary) start ≡ Ok (Some end)
       → EndsAt (settle_answer summary start) end
-  pub not_permitted : (summary : List ℕ) (start : ℕ) → length summary ≡ sheet_length → settle_of (summary_at summary) start ≡ Outcome.NotPermitted
+  pub not_permitted : (summary : List ℕ) (start : ℕ) → length summary ≡ sheet_length → settle_of (summary_at summary) start ≡ Ok None
       → settle_answer summary start ≡ 0
 
 -- Where each field of a summary stands in its 48 bytes; the ceiling is two's complement.
@@ -209,8 +214,8 @@ pub record SummaryRules : Type 0 where
   pub smaller : (x y : ℤ) → (le_z x y ≡ true → smaller_ℤ x y ≡ x) × (le_z x y ≡ false → smaller_ℤ x y ≡ y)
   pub larger : (x y : ℤ) → (le_z x y ≡ true → larger_ℤ x y ≡ y) × (le_z x y ≡ false → larger_ℤ x y ≡ x)
   -- one answer after another: the first refusal counts
-  pub in_turn : (s : Summary) (then : Summary → Answer) → and_then (Answer.Summed s) then ≡ then s
-  pub refused_first : (n : ℕ) (then : Summary → Answer) → and_then (Answer.Refused n) then ≡ Answer.Refused n
+  pub in_turn : (s : Summary) (then : Summary → Answer) → and_then (Ok s) then ≡ then s
+  pub refused_first : (r : Refusal) (then : Summary → Answer) → and_then (Err r) then ≡ Err r
   pub singles : (l : Limits) → Singles l
   pub constructs : (l : Limits) → Constructs l
   pub shapers : (s : Shaper) → OneShaper s
@@ -218,7 +223,7 @@ pub record SummaryRules : Type 0 where
   pub one_by_one : (l : Limits) → (summary_of l [] ≡ empty_of l) × ((e : Event) (es : List Event) → summary_of l (e ∷ es) ≡ joined (single_of l e) (summary_of l es))
   pub joins : (a b : Summary) → InRange a → InRange b → a.limits ≡ b.limits → JoinsTwo a b
   pub settles : (s : Summary) (c : ℕ) → InRange s → c ≤ s.limits.hi → SettlesFrom s c
-  pub not_settled : (s : Summary) (c : ℕ) → (InRange s × (c ≤ s.limits.hi) → ⊥) → settle_of s c ≡ Outcome.Refused 3
+  pub not_settled : (s : Summary) (c : ℕ) → (InRange s × (c ≤ s.limits.hi) → ⊥) → settle_of s c ≡ Err (refusal_of 3)
   pub groups : Groups
   pub lent : LentSummaries
   pub places : (xs : List ℕ) → SummaryPlaces xs (summary_at xs)

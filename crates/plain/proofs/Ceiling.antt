@@ -2,14 +2,12 @@
 -- Assumes nothing.
 use Prim.Native.Nat.{ℕ, suc, ◌+◌, ◌-◌, ◌≤◌, ◌<◌}
 use mathlib.Core.Bool.{true}
-use mathlib.Core.Path.{◌≡◌, sym, ap, ◌∙◌}
+use mathlib.Core.Path.{◌≡◌, ap, ◌∙◌}
 use native.Mathlib.Omega.{arith}
 use borrow.Author.Tests.{lt-ltb, le-ltb, leb-true}
 use lib.IntN.{ℤ, pos, negsuc, sub_ℕ}
 use lib.Signed.{mag, le_z}
 use Rattle.decide.proofs.Cases.{by_cases, le_or}
-use Rattle.wire.specs.Signed.{signed_of, unsigned_of}
-use Rattle.wire.proofs.Signs.{signed_low, signed_high}
 use Rattle.plain.specs.Ceiling.{depth_below}
 
 -- ---- a difference, by its sign
@@ -36,29 +34,7 @@ ceiling_depth hi (pos n) h =
     sub_pos hi (hi - n) (omega arith) ∙ ap pos (omega arith)
 ceiling_depth hi (negsuc n) h = sub_neg hi (hi + n + 1) (omega arith) ∙ ap negsuc (omega arith)
 
--- ---- by the number that stands for a ceiling in 8 bytes
-
-module _ (hi : ℕ) where
-  pub depth_low : (z : ℤ) → mag z < 9223372036854775808 → unsigned_of z < 9223372036854775808 → depth_below hi z ≡ hi - unsigned_of z
-  unfolding depth_below unsigned_of
-  depth_low (pos n) f h = omega arith
-  depth_low (negsuc n) f h = omega arith
-
-  pub depth_high : (z : ℤ) → mag z < 9223372036854775808 → 9223372036854775808 ≤ unsigned_of z → depth_below hi z ≡ hi + 1 + (18446744073709551615 - unsigned_of z)
-  unfolding depth_below unsigned_of
-  depth_high (pos n) f h = omega arith
-  depth_high (negsuc n) f h = omega arith
-
-  pub ceiling_low : (d : ℕ) → d ≤ hi → hi < 9223372036854775808 → signed_of (hi - d) ≡ sub_ℕ hi d
-  ceiling_low d h f = signed_low (hi - d) (omega arith) ∙ sym (sub_pos hi d h)
-
-  pub ceiling_high : (d : ℕ) → hi < d → d ≤ 9223372036854775807 → signed_of (18446744073709551615 - (d - hi - 1)) ≡ sub_ℕ hi d
-  ceiling_high d h f =
-      signed_high (18446744073709551615 - (d - hi - 1)) (omega arith)
-      ∙ ap negsuc (omega arith)
-      ∙ sym (sub_neg hi d h)
-
-  -- such a ceiling fits 8 bytes
-  pub ceiling_fits : (d : ℕ) → hi < 9223372036854775808 → d ≤ 9223372036854775807 → mag (sub_ℕ hi d) < 9223372036854775808
-  ceiling_fits d f g =
-      by_cases (le_or d hi) (λ h. rw (sub_pos hi d h) (omega arith)) (λ h. rw (sub_neg hi d h) (omega arith))
+-- a ceiling at such a depth fits 8 bytes
+pub ceiling_fits : (hi d : ℕ) → hi < 9223372036854775808 → d ≤ 9223372036854775807 → mag (sub_ℕ hi d) < 9223372036854775808
+ceiling_fits hi d f g =
+    by_cases (le_or d hi) (λ h. rw (sub_pos hi d h) (omega arith)) (λ h. rw (sub_neg hi d h) (omega arith))

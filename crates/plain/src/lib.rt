@@ -33,20 +33,10 @@ impl Plain {
     pub fn in_range(self) -> bool
         ensures { result ≡ test (plain_range self) }
     {
-        let limits = self.limits;
-        if !limits.in_range() {
-            return false;
-        }
-        if Plain::MAX_EVENTS < self.events {
-            return false;
-        }
-        if !self.is_bounded() {
-            return false;
-        }
-        if !self.is_usable() {
-            return false;
-        }
-        true
+        self.limits.in_range()
+            && self.events <= Plain::MAX_EVENTS
+            && self.is_bounded()
+            && self.is_usable()
     }
 
     // Whether the counts, the ceiling and need are each within their bounds.
@@ -55,22 +45,11 @@ impl Plain {
         ensures { result ≡ test (plain_bounded self) }
     {
         let hi = self.limits.hi as u64;
-        if Plain::MAX_AMOUNT * self.events < self.accrued {
-            return false;
-        }
-        if Plain::MAX_SIZE * self.events < self.sent {
-            return false;
-        }
-        if hi + Plain::MAX_SIZE * self.events < self.depth {
-            return false;
-        }
-        if self.accrued + self.depth < self.sent {
-            return false;
-        }
-        if hi + 1 < self.need {
-            return false;
-        }
-        true
+        self.accrued <= Plain::MAX_AMOUNT * self.events
+            && self.sent <= Plain::MAX_SIZE * self.events
+            && self.depth <= hi + Plain::MAX_SIZE * self.events
+            && self.sent <= self.accrued + self.depth
+            && self.need <= hi + 1
     }
 
     // Whether, if some credit suffices, neither the ceiling nor need + gain is negative.
@@ -79,16 +58,7 @@ impl Plain {
         ensures { result ≡ test (plain_usable self) }
     {
         let hi = self.limits.hi as u64;
-        if hi < self.need {
-            return true;
-        }
-        if hi < self.depth {
-            return false;
-        }
-        if self.need + self.accrued < self.sent {
-            return false;
-        }
-        true
+        hi < self.need || (self.depth <= hi && self.sent <= self.need + self.accrued)
     }
 
     // The summary of this one's events and then the other's.
@@ -103,25 +73,25 @@ impl Plain {
         let depth = joined_depth(self, other);
         let need = joined_need(self, other);
         Plain {
-            limits: limits,
-            events: events,
-            accrued: accrued,
-            sent: sent,
-            depth: depth,
-            need: need,
+            limits,
+            events,
+            accrued,
+            sent,
+            depth,
+            need,
         }
     }
 
     // The credit at the end, from a starting credit that permits throughout.
+    #[tactic(auto, unfolding(crate::specs::Plain::plain_end_of))]
     pub fn end(self, start: u64) -> u64
         requires { Small self × (start ≤ self.limits.hi) }
         ensures { result ≡ plain_end_of self start }
     {
-        let hi = self.limits.hi as u64;
-        decide::lesser(
-            decide::less(start + self.accrued, self.sent),
-            decide::less(hi, self.depth),
-        )
+        let ceiling = (self.limits.hi as u64).saturating_sub(self.depth);
+        (start + self.accrued)
+            .saturating_sub(self.sent)
+            .min(ceiling)
     }
 }
 
@@ -130,11 +100,11 @@ pub fn depth_of(hi: u32, ceiling: i64) -> u64
     ensures { result ≡ depth_below hi ceiling }
 {
     let hi = hi as u64;
-    let bits = wire::unsigned64(ceiling);
-    if bits < 9223372036854775808 {
-        return decide::less(hi, bits);
+    if ceiling < 0 {
+        hi + ceiling.unsigned_abs()
+    } else {
+        hi.saturating_sub(ceiling as u64)
     }
-    hi + 1 + (18446744073709551615 - bits)
 }
 
 // The ceiling that lies this far below hi.
@@ -142,14 +112,11 @@ pub fn ceiling_of(hi: u32, depth: u64) -> i64
     requires { depth ≤ 9223372036854775807 }
     ensures { result ≡ sub_ℕ hi depth }
 {
-    let hi = hi as u64;
-    if hi < depth {
-        return wire::signed64(18446744073709551615 - (depth - hi - 1));
-    }
-    wire::signed64(hi - depth)
+    hi as i64 - depth as i64
 }
 
 // The least credit from which a's events and then b's are permitted, or hi + 1 where none suffices.
+#[tactic(auto, unfolding(crate::specs::Plain::plain_need))]
 fn joined_need(a: Plain, b: Plain) -> u64
     requires { Small a × Small b }
     ensures { result ≡ plain_need a b }
@@ -158,16 +125,15 @@ fn joined_need(a: Plain, b: Plain) -> u64
     if hi < b.need + a.depth {
         return hi + 1;
     }
-    decide::lesser(
-        decide::larger(a.need, decide::less(b.need + a.sent, a.accrued)),
-        hi + 1,
-    )
+    let before = (b.need + a.sent).saturating_sub(a.accrued);
+    a.need.max(before).min(hi + 1)
 }
 
 // How far the ceiling of a's events and then b's lies below hi.
+#[tactic(auto, unfolding(crate::specs::Plain::plain_depth))]
 fn joined_depth(a: Plain, b: Plain) -> u64
     requires { Small a × Small b }
     ensures { result ≡ plain_depth a b }
 {
-    decide::larger(decide::less(a.depth + b.sent, b.accrued), b.depth)
+    (a.depth + b.sent).saturating_sub(b.accrued).max(b.depth)
 }

@@ -16,6 +16,7 @@ pub struct Bounds {
 }
 
 // A frame. Its class is A 0, B 1 or C 2; its mark is 1 where it is fairness eligible, else 0.
+// Both are numbers and no enum: a lent word may hold a class or a mark that there is none of, and `in_range` has to see it.
 #[derive(Clone, Copy)]
 pub struct Frame {
     pub size: u32,
@@ -25,7 +26,7 @@ pub struct Frame {
 }
 
 // A queue: its slots, the slot of its first frame, how many frames it holds, and their bytes. Slots from head to head + count, round the ring,
-// hold frames; the others are empty.
+// hold frames; the others are empty. An array with a head and a count, and no VecDeque: no call uses the heap, and a host lends these very bytes.
 #[derive(Clone, Copy)]
 pub struct Queue {
     pub slots: [u32; 128],
@@ -112,7 +113,7 @@ impl Front {
         if 128 <= self.count {
             return 0;
         }
-        decide::less(capacity as u64, self.held as u64) as u32
+        capacity.saturating_sub(self.held)
     }
 
     // Whether a queue with this front holds a frame.
@@ -130,7 +131,7 @@ impl Queue {
     {
         let slots = [EMPTY; 128];
         Self {
-            slots: slots,
+            slots,
             head: 0,
             count: 0,
             held: 0,
@@ -174,8 +175,8 @@ impl Queue {
         let mut next = self;
         next.slots[at] = EMPTY;
         next.head = ((self.head as u32 + 1) % 128) as u8;
-        next.count = decide::less(self.count as u64, 1) as u8;
-        next.held = decide::less(self.held as u64, f.size as u64) as u32;
+        next.count = self.count.saturating_sub(1);
+        next.held = self.held.saturating_sub(f.size);
         Taken {
             frame: f,
             queue: next,
@@ -211,10 +212,8 @@ impl Queue {
         ensures { result ≡ test (empty_ok self.slots 0 128) }
     {
         let mut good = true;
-        let mut i: usize = 0;
-        while i < 128 {
-            good = good & (self.slots[i] == EMPTY);
-            i += 1;
+        for word in &self.slots {
+            good = good & (*word == EMPTY);
         }
         good
     }
@@ -232,13 +231,10 @@ impl Queue {
         let mut good = true;
         let mut sum: u32 = 0;
         let mut turn: u8 = (128 - head) % 128;
-        let mut i: usize = 0;
-        while i < 128 {
-            let w = self.slots[i];
-            good = good & slot_ok(bounds, turn % 128 < count, w);
-            sum += w % 16384;
+        for word in &self.slots {
+            good = good & slot_ok(bounds, turn % 128 < count, *word);
+            sum += *word % 16384;
             turn += 1;
-            i += 1;
         }
         (count <= 128) & good & (held == sum) & (held <= capacity)
     }
@@ -260,7 +256,7 @@ pub fn word_ok(bounds: Bounds, w: u32) -> bool
     let mtu = bounds.mtu;
     let size = w % 16384;
     let low = w % 1048576;
-    let end = decide::lesser(bounds.stations as u64, 64) as u32 * 16384;
+    let end = bounds.stations.min(64) * 16384;
     let kind = w / 1048576;
     (16 <= size)
         & (size <= mtu)

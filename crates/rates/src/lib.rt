@@ -7,7 +7,7 @@ ghost use Rattle.decide.specs.Test.{test};
 ghost use Rattle.rates.specs.Rates.{part_of, smoothed_of, shown_of, shown_ok_of, aged_of, ramped_of, reduced_of, allowance_of, own_rate_of, counted_of, share_of};
 
 // The largest number that a counter holds.
-const MOST_COUNTED: u64 = 2147483647;
+const MOST_COUNTED: u32 = 2147483647;
 
 // The first number above every rate.
 const ABOVE_RATES: u64 = 2147483648;
@@ -15,15 +15,12 @@ const ABOVE_RATES: u64 = 2147483648;
 // The largest own rate: 65,535 is FULL_RATE.
 const MOST_OWN: u64 = 65534;
 
-// The largest number of 32 bits.
-const MOST_WORD: u64 = 4294967295;
-
 // x divided by a coefficient (ageCoef, lpCoef, rampUp or rampDn) and rounded down: by a shift where the coefficient is a power of two, as each in range is, and the long way
 // where it is not. Neither has a divide.
 pub fn part(x: u64, coef: u32) -> u64
     ensures { result ≡ part_of x coef }
 {
-    let places = u32::trailing_zeros(coef) as u64;
+    let places = coef.trailing_zeros() as u64;
     if 1u64 << places == coef as u64 {
         x >> places
     } else {
@@ -40,6 +37,7 @@ pub fn smoothed(coef: u32, stored: u64, rate: u32) -> u64
 }
 
 // The smoothed rate that a stored number stands for.
+#[tactic(auto, unfolding(crate::specs::Rates::shown_of))]
 pub fn shown(coef: u32, stored: u64) -> u64
     ensures { result ≡ shown_of coef stored }
 {
@@ -54,22 +52,25 @@ pub fn shown_ok(coef: u32, stored: u64) -> bool
 }
 
 // A counter after an interval, by ageCoef.
+#[tactic(auto, using(crate::proofs::Bounds::aged_within), unfolding(crate::specs::Rates::aged_of))]
 pub fn aged(counter: u32, coef: u32) -> u32
     ensures { result ≡ aged_of counter coef }
 {
-    let kept = counter as u64 * decide::less(coef as u64, 1);
+    let kept = counter as u64 * coef.saturating_sub(1) as u64;
     part(kept, coef) as u32
 }
 
 // An allowed rate after an interval without congestion, or localFairRate after a step up: one step nearer to unreservedRate, by rampUp.
+#[tactic(auto, using(crate::proofs::Bounds::part_le))]
 pub fn ramped(value: u32, unreserved: u32, coef: u32) -> u32
     ensures { result ≡ ramped_of value unreserved coef }
 {
-    let distance = decide::less(unreserved as u64, value as u64);
-    (value as u64 + part(distance, coef)) as u32
+    let distance = unreserved.saturating_sub(value);
+    value + part(distance as u64, coef) as u32
 }
 
 // localFairRate after a step down: less its part by rampDn.
+#[tactic(auto, using(crate::proofs::Bounds::part_le), unfolding(crate::specs::Rates::reduced_of))]
 pub fn reduced(rate: u32, coef: u32) -> u32
     ensures { result ≡ reduced_of rate coef }
 {
@@ -81,26 +82,29 @@ pub fn allowance(received: u32, weight: u32, unit: u32, unreserved: u32) -> u32
     ensures { result ≡ allowance_of received weight unit unreserved }
 {
     // More than 32 bits of a factor make no difference: no rate is above 32 bits.
-    let factor = decide::lesser(weight as u64 * unit as u64, MOST_WORD);
-    decide::lesser(unreserved as u64, received as u64 * factor) as u32
+    let factor = (weight as u64 * unit as u64).min(u32::MAX as u64);
+    (unreserved as u64).min(received as u64 * factor) as u32
 }
 
 // The rate that a station advertises for itself, from localFairRate, its weight and its rate unit.
+#[tactic(auto, unfolding(crate::specs::Rates::own_rate_of))]
 pub fn own_rate(local: u32, weight: u32, unit: u32) -> u16
     ensures { result ≡ own_rate_of local weight unit }
 {
     let rate = quotient(local as u64, weight as u64 * unit as u64);
-    decide::lesser(rate, MOST_OWN) as u16
+    rate.min(MOST_OWN) as u16
 }
 
 // A counter after a frame of this size.
+#[tactic(auto, unfolding(crate::specs::Rates::counted_of))]
 pub fn counted(counter: u32, size: u32) -> u32
     ensures { result ≡ counted_of counter size }
 {
-    decide::lesser(counter as u64 + size as u64, MOST_COUNTED) as u32
+    counter.saturating_add(size).min(MOST_COUNTED)
 }
 
 // What a tick may give to shaper C of allowedRate, by ageCoef and the ticks of an interval.
+#[tactic(auto, unfolding(crate::specs::Rates::share_of))]
 pub fn share(allowed: u32, coef: u32, ticks: u32) -> u32
     ensures { result ≡ share_of allowed coef ticks }
 {

@@ -4,7 +4,7 @@ use Prim.Native.Nat.{ℕ}
 use mathlib.Core.List.{List}
 use mathlib.Core.Path.{◌≡◌, sym, ◌∙◌}
 use denote.Ref.{Bor}
-use Rattle.record.specs.declared.Step.{Step}
+use Rattle.record.specs.Step.{Step}
 use Rattle.reader.specs.declared.Reader.{Reader}
 use Rattle.reader.specs.Walk.{new_of, next_of, moved_of}
 

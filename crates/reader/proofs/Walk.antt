@@ -8,21 +8,20 @@ use native.Mathlib.Omega.{arith}
 use lib.ListN.{length, drop, replicate, length-append, length-replicate}
 use lib.Seq.{drop_at}
 use denote.Ref.{Bor}
+use Rattle.std.specs.Prelude.{Some, None, Ok, Err}
 use Rattle.decide.specs.Test.{Holds}
+use Rattle.decide.specs.declared.refusal.Refusal.{Refusal}
+use Rattle.decide.specs.Number.{number_in, refusal_of}
 use Rattle.shaper.specs.declared.Limits.{Limits}
 use Rattle.shaper.specs.declared.Event.{Event}
 use Rattle.wire.specs.Wire.{Bytes}
 use Rattle.shaper.specs.Limits.{limits_ok, most_events}
 use Rattle.shaper.specs.Kind.{kind_of, number_of, event_of}
 use Rattle.shaper.proofs.Kind.{event_of_lem}
-use Rattle.record.specs.declared.Header.{Header}
-use Rattle.record.specs.declared.Header.TheVariants.{Settings, Unreadable}
-use Rattle.record.specs.declared.Step.{Step}
-use Rattle.record.specs.declared.Step.TheVariants.{Stands, End, Faulty}
 use Rattle.record.specs.Record.{header_bytes, event_bytes, written, WellFormed}
 use Rattle.record.specs.Items.{Item, one, run, run_bytes, item_bytes, items_bytes, written_items, unrolled_item, unrolled, ItemOk, ItemsOk, Formed}
 use Rattle.record.specs.Read.{limits_at, Events, faulty, events, ahead, read_from, under, read_record}
-use Rattle.record.specs.Step.{header_of_of, step_within}
+use Rattle.record.specs.Step.{Header, Step, placed, header_of_of, step_within}
 use Rattle.record.proofs.Steps.{read_by, read_header, header_stands, read_end, stood_within, end_within, failed_within}
 use Rattle.record.proofs.Written.{length_header, length_event, length_run, header_back, behind, behind_events, ahead_behind, items_then, ones, ones_unrolled, ones_formed, ones_written}
 use Rattle.record.proofs.Wrote.{WroteWhole, read_items_lem, formed_events}
@@ -34,22 +33,22 @@ use Rattle.reader.proofs.Rows.{next_unreadable, next_settings, next_item, next_e
 use Rattle.reader.proofs.There.{event_in, item_there}
 
 -- a reader of s at a place
-abbrev placed : Bor (List ℕ) → Place → Reader
-placed s p = record { bytes = s; place = p }
+abbrev reader_at : Bor (List ℕ) → Place → Reader
+reader_at s p = record { bytes = s; place = p }
 
 -- ---- a turn, by what stands at the place
 
 module _ (s : Bor (List ℕ)) (n : ℕ) (p : Place) where
-  turn_end : next_at s.now p ≡ End → walk_of (suc n) (placed s p) ≡ events []
+  turn_end : next_at s.now p ≡ Ok None → walk_of (suc n) (reader_at s p) ≡ events []
   unfolding walk_of
   turn_end e = rw e
 
-  turn_faulty : (f : ℕ) → next_at s.now p ≡ Faulty f → walk_of (suc n) (placed s p) ≡ faulty f
+  turn_faulty : (r : Refusal) → next_at s.now p ≡ Err r → walk_of (suc n) (reader_at s p) ≡ faulty (number_in r)
   unfolding walk_of
-  turn_faulty f e = rw e
+  turn_faulty r e = rw e
 
-  turn_stands : (k v c next : ℕ) → next_at s.now p ≡ Stands k v c next →
-      walk_of (suc n) (placed s p) ≡ told (Stands k v c next) (walk_of n (placed s (after (Stands k v c next) p)))
+  turn_stands : (k v c next : ℕ) → next_at s.now p ≡ Ok (Some (placed k v c next)) →
+      walk_of (suc n) (reader_at s p) ≡ told (Ok (Some (placed k v c next))) (walk_of n (reader_at s (after (Ok (Some (placed k v c next))) p)))
   unfolding walk_of
   turn_stands k v c next e = rw e
 
@@ -57,26 +56,26 @@ module _ (s : Bor (List ℕ)) (n : ℕ) (p : Place) where
 
 -- turns enough from any place on, past the last event that may come, come to what stands there
 abbrev Reaches : Bor (List ℕ) → ℕ → ℕ → Type 0
-Reaches s mtu n = (p : Place) → p.done ≤ most_events → most_events < p.done + n → walk_of n (placed s p) ≡ read_from 9 mtu (most_events - p.done) 0 (drop p.at s.now)
+Reaches s mtu n = (p : Place) → p.done ≤ most_events → most_events < p.done + n → walk_of n (reader_at s p) ≡ read_from 9 mtu (most_events - p.done) 0 (drop p.at s.now)
 
-module _ (s : Bor (List ℕ)) (l : Limits) (e : header_of_of s.now ≡ Settings l) where
+module _ (s : Bor (List ℕ)) (l : Limits) (e : header_of_of s.now ≡ Ok l) where
   one_more : (n : ℕ) → Reaches s l.mtu n → Reaches s l.mtu (suc n)
-  one_more n rest p few h = by (step_within 9 (most_events - p.done) l.mtu s.now p.at) refl
+  one_more n rest p few h = by (step_within (refusal_of 9) (most_events - p.done) l.mtu s.now p.at) refl
     where
-      by : (t : Step) → step_within 9 (most_events - p.done) l.mtu s.now p.at ≡ t →
-          walk_of (suc n) (placed s p) ≡ read_from 9 l.mtu (most_events - p.done) 0 (drop p.at s.now)
-      by End f =
+      by : (t : Step) → step_within (refusal_of 9) (most_events - p.done) l.mtu s.now p.at ≡ t →
+          walk_of (suc n) (reader_at s p) ≡ read_from 9 l.mtu (most_events - p.done) 0 (drop p.at s.now)
+      by (Ok None) f =
           turn_end s n p (next_settings s.now p l e ∙ f)
-          ∙ sym (read_end true 9 l.mtu (most_events - p.done) s.now p.at (end_within true 9 (most_events - p.done) l.mtu s.now p.at f))
-      by (Faulty m) f =
-          turn_faulty s n p m (next_settings s.now p l e ∙ f)
-          ∙ sym (failed_within true 9 (most_events - p.done) l.mtu s.now p.at m f).1
-      by (Stands k v c next) f =
-          let t = stood_within true 9 (most_events - p.done) l.mtu s.now p.at k v c next f in
-          let left : most_events - p.done ≡ c + (most_events - (p.done + c)) = omega (arith, t.1) in
-          turn_stands s n p k v c next (next_settings s.now p l e ∙ f)
-          ∙ ap (told (Stands k v c next)) (rest (after (Stands k v c next) p) (omega (arith, t.1)) (omega (arith, t.0.some)))
-          ∙ sym (rw left (t.0.goes_on 9 (most_events - (p.done + c))))
+          ∙ sym (read_end true 9 l.mtu (most_events - p.done) s.now p.at (end_within true (refusal_of 9) (most_events - p.done) l.mtu s.now p.at f))
+      by (Err r) f =
+          turn_faulty s n p r (next_settings s.now p l e ∙ f)
+          ∙ sym (failed_within true (refusal_of 9) (most_events - p.done) l.mtu s.now p.at r f).1
+      by (Ok (Some i)) f =
+          let t = stood_within true (refusal_of 9) (most_events - p.done) l.mtu s.now p.at i.kind i.number i.count i.next f in
+          let left : most_events - p.done ≡ i.count + (most_events - (p.done + i.count)) = omega (arith, t.1) in
+          turn_stands s n p i.kind i.number i.count i.next (next_settings s.now p l e ∙ f)
+          ∙ ap (told (Ok (Some i))) (rest (after (Ok (Some i)) p) (omega (arith, t.1)) (omega (arith, t.0.some)))
+          ∙ sym (rw left (t.0.goes_on 9 (most_events - (p.done + i.count))))
 
   walk_from : (n : ℕ) → Reaches s l.mtu n
   walk_from zero p few h = absurd (omega arith)
@@ -89,8 +88,8 @@ pub walk_reads : (s : Bor (List ℕ)) (n : ℕ) → most_events ≤ n → under 
 walk_reads s n h = by (header_of_of s.now) refl ∙ sym (read_header true s.now)
   where
     by : (t : Header) → header_of_of s.now ≡ t → under (limits_at s.now) (walk_of (suc n) (new_of s)) ≡ read_by true s.now t
-    by (Settings l) e = ap (under (limits_at s.now)) (walk_from s l e (suc n) start (omega arith) (omega arith)) ∙ rw (← (header_stands s.now l e).settings)
-    by (Unreadable m) e = ap (under (limits_at s.now)) (turn_faulty s n start m (next_unreadable s.now start m e))
+    by (Ok l) e = ap (under (limits_at s.now)) (walk_from s l e (suc n) start (omega arith) (omega arith)) ∙ rw (← (header_stands s.now l e).settings)
+    by (Err r) e = ap (under (limits_at s.now)) (turn_faulty s n start r (next_unreadable s.now start r e))
 
 -- what records say, apart from their settings
 same_told : (l m : Limits) (v w : Events) → under l v ≡ under m w → v ≡ w
@@ -111,10 +110,10 @@ told_item : (i : Item) (r : Events) → ahead (length (unrolled_item i)) (event_
 told_item (one e) r = rw (event_of_lem e)
 told_item (run e count) r = rw (event_of_lem e, length-replicate count e) (ahead_behind count e r)
 
-module _ (s : Bor (List ℕ)) (l : Limits) (ok : Holds (limits_ok l)) (e : header_of_of s.now ≡ Settings l) where
+module _ (s : Bor (List ℕ)) (l : Limits) (ok : Holds (limits_ok l)) (e : header_of_of s.now ≡ Ok l) where
   -- behind any bytes: items in range are told, in a turn for each and one for the end
   items_from : (is : List Item) (p : List ℕ) (done n : ℕ) → s.now ≡ p ++ items_bytes is → ItemsOk true l is → done + length (unrolled is) ≤ most_events → length is ≤ n →
-      walk_of (suc n) (placed s (record { at = length p; done = done })) ≡ events (unrolled is)
+      walk_of (suc n) (reader_at s (record { at = length p; done = done })) ≡ events (unrolled is)
   items_from [] p done n same v few h =
       let here : Place = record { at = length p; done = done } in
       turn_end s n here (next_end s.now here l e (rw (same, append-nil) (omega arith)))
@@ -129,7 +128,7 @@ module _ (s : Bor (List ℕ)) (l : Limits) (ok : Holds (limits_ok l)) (e : heade
       let there = rw (← same) at (item_there l ok p (items_bytes is) i v.0) in
       let rest = items_from is (p ++ item_bytes i) (done + count) n (same ∙ sym (append_assoc p (item_bytes i) (items_bytes is))) v.1 (omega (arith, size)) (omega arith) in
       turn_stands s (suc n) here k x count next (next_item s.now here l e k x count next there (omega (arith, size)))
-      ∙ ap (told (Stands k x count next)) (rw (length-append p (item_bytes i)) at rest)
+      ∙ ap (told (Ok (Some (placed k x count next)))) (rw (length-append p (item_bytes i)) at rest)
       ∙ told_item i (events (unrolled is))
       ∙ behind_events (unrolled_item i) (unrolled is)
 

@@ -1,10 +1,10 @@
 -- A reader walks the lent bytes of a record, in either form, and remembers its place.
 -- Assumes nothing.
-use Rattle.std.specs.Prelude.{ℕ, zero, suc, List, []}
+use Rattle.std.specs.Prelude.{ℕ, zero, suc, List, [], Some, None, Ok, Err}
 use Rattle.std.specs.Borrow.{Bor}
+use Rattle.decide.specs.Number.{number_in}
 use Rattle.shaper.specs.Kind.{event_of}
-use Rattle.record.specs.declared.Step.{Step}
-use Rattle.record.specs.declared.Step.TheVariants.{Stands, End, Faulty}
+use Rattle.record.specs.Step.{Step}
 use Rattle.record.specs.Read.{Events, faulty, events, ahead}
 use Rattle.reader.specs.declared.Reader.{Reader}
 use Rattle.reader.specs.Place.{start, next_at, after_at}
@@ -20,9 +20,9 @@ moved_of r = record { bytes = r.bytes; place = after_at r.bytes.now r.place }
 
 -- an item's events stand before those of the walk behind it; the end and a fault end the walk
 abbrev pub told : Step → Events → Events
-told (Stands kind number count next) rest = ahead count (event_of kind number) rest
-told End rest = events []
-told (Faulty n) rest = faulty n
+told (Ok (Some i)) rest = ahead i.count (event_of i.kind i.number) rest
+told (Ok None) rest = events []
+told (Err r) rest = faulty (number_in r)
 
 -- The walk: what `next` tells, then the walk of the reader moved on, for at most so many turns.
 unfoldable pub walk_of : ℕ → Reader → Events

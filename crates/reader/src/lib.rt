@@ -5,7 +5,8 @@ ghost use Rattle.std.specs.Prelude.{◌≡◌};
 ghost use Rattle.reader.specs.Place.{next_at, after_at};
 ghost use Rattle.reader.specs.Walk.{new_of, next_of, moved_of};
 
-use record::{Header, Step};
+use decide::Refusal;
+use record::Placed;
 
 // Where the first item begins, behind the header.
 pub const START: usize = 14;
@@ -30,16 +31,16 @@ impl<'a> Reader<'a> {
         ensures { result ≡ new_of bytes.entry }
     {
         Reader {
-            bytes: bytes,
+            bytes,
             place: Place { at: START, done: 0 },
         }
     }
 
-    // The item at the reader's place, an event or a run, the end, or the number of what is wrong.
-    pub fn next(self) -> Step
+    // The item at the reader's place, an event or a run; none at the end; or what is wrong.
+    pub fn next(self) -> Result<Option<Placed>, Refusal>
         ensures { result ≡ next_of self.entry }
     {
-        next_at(self.bytes, self.place)
+        read_at(self.bytes, self.place)
     }
 
     // The reader behind the item at its place; at the end and at a fault it stays.
@@ -53,45 +54,25 @@ impl<'a> Reader<'a> {
     }
 }
 
-// What a reader finds at a place, for callers that keep the place themselves: behind an item its `next` and its `count` lead on.
-pub fn read_at(bytes: &[u8], place: Place) -> Step
+// What a reader finds at a place, for callers that keep the place themselves: behind an item its `next` and its `count` lead on. The record's header counts first; behind the
+// millionth event only the end may stand, and no run may pass it.
+pub fn read_at(bytes: &[u8], place: Place) -> Result<Option<Placed>, Refusal>
     ensures { result ≡ next_at bytes.now place }
 {
-    Reader {
-        bytes: bytes,
-        place: place,
-    }
-    .next()
-}
-
-// What stands at a place of a record, its header first; behind the millionth event only the end may, and no run may pass it.
-fn next_at(bytes: &[u8], place: Place) -> Step
-    ensures { result ≡ next_at bytes.now place }
-{
-    match record::header_of(bytes) {
-        Header::Settings(limits) => {
-            let left = record::may_come(place.done);
-            record::event_within(bytes, place.at, limits.mtu, left, 9, true)
-        }
-        Header::Unreadable(fault) => Step::Faulty(fault),
-    }
+    let limits = record::header_of(bytes)?;
+    let left = record::may_come(place.done);
+    record::event_within(bytes, place.at, limits.mtu, left, Refusal::TooMany, true)
 }
 
 // The place behind the item at a place.
 fn after_at(bytes: &[u8], place: Place) -> Place
     ensures { result ≡ after_at bytes.now place }
 {
-    match next_at(bytes, place) {
-        Step::Stands {
-            kind: _,
-            number: _,
-            count,
-            next,
-        } => Place {
-            at: next,
-            done: place.done + count as u64,
+    match read_at(bytes, place) {
+        Ok(Some(item)) => Place {
+            at: item.next,
+            done: place.done + item.count as u64,
         },
-        Step::End => place,
-        Step::Faulty(_) => place,
+        _ => place,
     }
 }

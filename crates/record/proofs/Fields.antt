@@ -9,7 +9,7 @@ use borrow.Author.Tests.{le-leb, lt-leb, le-ltb, lt-ltb, eq-eqb, ne_eqb}
 use Rattle.decide.specs.Test.{◌≡?◌, test, Holds, facts, passes, decided, split}
 use Rattle.decide.specs.Size.{size_ok}
 use Rattle.decide.proofs.Cases.{by_cases, le_or}
-use Rattle.decide.proofs.Refusal.{in_order_lem}
+use Rattle.decide.proofs.Given.{in_order_lem}
 use Rattle.shaper.specs.declared.Limits.{Limits}
 use Rattle.shaper.specs.declared.Event.{Event}
 use Rattle.shaper.specs.declared.Event.TheVariants.{Waiting, Idle, Send}

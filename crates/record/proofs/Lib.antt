@@ -5,6 +5,7 @@ pub mod Written
 pub mod Wrote
 pub mod Earliest
 pub mod Refused
+pub mod Named
 pub mod Answers
 pub mod Means
 pub mod Examples

@@ -1,9 +1,10 @@
 -- What stands at the front of a record and at each place, row by row: faults are tried in the order in which they are written.
 -- Assumes nothing.
+use Rattle.std.specs.Prelude.{Ok, Err, Some, None}
 use Prim.Native.Nat.{ℕ, zero, suc, ◌+◌, ◌≤◌, ◌<◌}
 use mathlib.Core.Bool.{Bool, true, false, ◌&&◌, and-false}
 use mathlib.Core.List.{List}
-use mathlib.Core.Path.{◌≡◌, refl, sym, ◌∙◌}
+use mathlib.Core.Path.{◌≡◌, refl, sym, ◌∙◌, ap}
 use native.Mathlib.Omega.{arith}
 use native.Mathlib.Nat.{add-zero}
 use borrow.Author.Tests.{le-leb, lt-leb, eq-eqb, ne_eqb, eqb-true, le-ltb, lt-ltb}
@@ -12,42 +13,42 @@ use lib.ListN.{length, drop, length-drop}
 use Rattle.decide.specs.Refusal.{first_of}
 use Rattle.decide.specs.Test.{test}
 use Rattle.decide.proofs.Cases.{by_cases, true_or_false}
-use Rattle.decide.proofs.Refusal.{in_order_lem}
+use Rattle.decide.proofs.Given.{in_order_lem}
 use Rattle.shaper.specs.Limits.{limits_ok}
 use Rattle.wire.specs.Wire.{le}
 use Rattle.wire.proofs.Numbers.{le_drop}
-use Rattle.record.specs.declared.Header.TheVariants.{Settings, Unreadable}
-use Rattle.record.specs.declared.Step.TheVariants.{Stands, End, Faulty}
 use Rattle.record.specs.Read.{limits_at, header_faults, length_at, kind_at, number_at, field_faults, field_fault, event_faults, is_run, run_field_faults, run_field_fault, run_faults, item_faults, item_kind, item_number, item_count}
-use Rattle.record.specs.Step.{header_of_of, item_at, item_within}
+use Rattle.record.specs.Step.{header_of_of, item_at, item_within, passed, placed}
 use Rattle.record.proofs.Fields.{free_facts}
+use Rattle.decide.specs.declared.refusal.Refusal.{Refusal}
+use Rattle.decide.specs.Number.{refusal_of}
 
 -- ---- the header
 
 module _ (xs : List ℕ) where
   -- Fewer than 14 bytes are no header.
-  pub header_short : length xs < 14 → header_of_of xs ≡ Unreadable 2
+  pub header_short : length xs < 14 → header_of_of xs ≡ Err (refusal_of 2)
   unfolding header_of_of
   header_short h = rw (in_order_lem (header_faults xs) refl, lt-ltb (length xs) 14 h)
 
   -- Length 14.
-  pub header_length : 14 ≤ length xs → (le 2 xs 0 ≡ 14 → ⊥) → header_of_of xs ≡ Unreadable 2
+  pub header_length : 14 ≤ length xs → (le 2 xs 0 ≡ 14 → ⊥) → header_of_of xs ≡ Err (refusal_of 2)
   unfolding header_of_of
   header_length h e = rw (in_order_lem (header_faults xs) refl, le-ltb (length xs) 14 h, ne_eqb (le 2 xs 0) 14 e)
 
   -- Kind 16.
-  pub header_kind : 14 ≤ length xs → le 2 xs 0 ≡ 14 → (le 2 xs 2 ≡ 16 → ⊥) → header_of_of xs ≡ Unreadable 2
+  pub header_kind : 14 ≤ length xs → le 2 xs 0 ≡ 14 → (le 2 xs 2 ≡ 16 → ⊥) → header_of_of xs ≡ Err (refusal_of 2)
   unfolding header_of_of
   header_kind h e k = rw (in_order_lem (header_faults xs) refl, le-ltb (length xs) 14 h, eq-eqb (le 2 xs 0) 14 e, ne_eqb (le 2 xs 2) 16 k)
 
   -- A setting is outside its range.
-  pub header_outside : 14 ≤ length xs → le 2 xs 0 ≡ 14 → le 2 xs 2 ≡ 16 → test (limits_ok (limits_at xs)) ≡ false → header_of_of xs ≡ Unreadable 1
+  pub header_outside : 14 ≤ length xs → le 2 xs 0 ≡ 14 → le 2 xs 2 ≡ 16 → test (limits_ok (limits_at xs)) ≡ false → header_of_of xs ≡ Err (refusal_of 1)
   unfolding header_of_of
   header_outside h e k o =
       rw (in_order_lem (header_faults xs) refl, le-ltb (length xs) 14 h, eq-eqb (le 2 xs 0) 14 e, eq-eqb (le 2 xs 2) 16 k, o)
 
   -- Mtu 2, loLimit 4, hiLimit 4.
-  pub header_settings : 14 ≤ length xs → le 2 xs 0 ≡ 14 → le 2 xs 2 ≡ 16 → test (limits_ok (limits_at xs)) ≡ true → header_of_of xs ≡ Settings (limits_at xs)
+  pub header_settings : 14 ≤ length xs → le 2 xs 0 ≡ 14 → le 2 xs 2 ≡ 16 → test (limits_ok (limits_at xs)) ≡ true → header_of_of xs ≡ Ok (limits_at xs)
   unfolding header_of_of
   header_settings h e k o =
       rw (in_order_lem (header_faults xs) refl, le-ltb (length xs) 14 h, eq-eqb (le 2 xs 0) 14 e, eq-eqb (le 2 xs 2) 16 k, o)
@@ -130,27 +131,46 @@ no_run mtu xs at e = run_not_at xs at (λ k. omega (arith, (free_facts mtu (le 2
 pub no_run_in : (runs : Bool) (mtu : ℕ) (xs : List ℕ) (at : ℕ) → fault_at mtu xs at ≡ 0 → (runs && is_run (drop at xs)) ≡ false
 no_run_in runs mtu xs at e = rw (no_run mtu xs at e) (and-false runs)
 
+-- a test that passed found no fault
+pub passed_free : (n : ℕ) → passed n ≡ Ok tt → n ≡ 0
+passed_free zero e = refl
+passed_free (suc n) e = absurd (err_ok e)
+  where
+    err_ok : passed (suc n) ≡ Ok tt → ⊥
+    err_ok q = cc
+
 module _ (runs : Bool) (mtu : ℕ) (xs : List ℕ) (at : ℕ) where
-  pub item_end : length xs ≤ at → item_at runs mtu xs at ≡ End
+  pub item_end : length xs ≤ at → item_at runs mtu xs at ≡ Ok None
   unfolding item_at
   item_end h = rw (le-leb (length xs) at h)
 
   -- an item without a fault stands there; the next begins behind its length
   item_stands : (k v c : ℕ) → at < length xs → first_of (item_faults runs mtu (drop at xs)) ≡ 0 → Told (drop at xs) k v c →
-      item_at runs mtu xs at ≡ Stands k v c (at + le 2 xs at)
+      item_at runs mtu xs at ≡ Ok (Some (placed k v c (at + le 2 xs at)))
   unfolding item_at
   item_stands k v c h e s = rw (lt-leb (length xs) at h, e, s.kind, s.number, s.count) (simp (le_drop, add-zero))
 
   -- the same as the definition tells it
   pub free_stands : at < length xs → first_of (item_faults runs mtu (drop at xs)) ≡ 0 →
-      item_at runs mtu xs at ≡ Stands (item_kind (drop at xs)) (item_number (drop at xs)) (item_count (drop at xs)) (at + le 2 xs at)
+      item_at runs mtu xs at ≡ Ok (Some (placed (item_kind (drop at xs)) (item_number (drop at xs)) (item_count (drop at xs)) (at + le 2 xs at)))
   free_stands h e = item_stands _ _ _ h e (record { kind = refl; number = refl; count = refl })
 
   -- and a fault counts
-  pub item_faulty : (n : ℕ) → at < length xs → first_of (item_faults runs mtu (drop at xs)) ≡ n → (n ≡ 0 → ⊥) → item_at runs mtu xs at ≡ Faulty n
+  pub item_faulty : (n : ℕ) → at < length xs → first_of (item_faults runs mtu (drop at xs)) ≡ n → (n ≡ 0 → ⊥) → item_at runs mtu xs at ≡ Err (refusal_of n)
   unfolding item_at
   item_faulty zero h e k = absurd (k refl)
   item_faulty (suc n) h e k = rw (lt-leb (length xs) at h, e)
+
+  -- a test of an item's fault tells whether it has one
+  item_passed : (n : ℕ) (e : Refusal) → at < length xs → first_of (item_faults runs mtu (drop at xs)) ≡ n → passed n ≡ Err e → item_at runs mtu xs at ≡ Err e
+  item_passed zero e h f p = absurd (ok_err p)
+    where
+      ok_err : passed 0 ≡ Err e → ⊥
+      ok_err q = cc
+  item_passed (suc n) e h f p = item_faulty (suc n) h f (λ z. omega arith) ∙ ap Err same
+    where
+      same : refusal_of (suc n) ≡ e
+      same = cc
 
   -- ---- an event
 
@@ -165,15 +185,18 @@ module _ (runs : Bool) (mtu : ℕ) (xs : List ℕ) (at : ℕ) where
     event_cut k =
         rw (faults_event runs mtu (drop at xs) r, in_order_lem (event_faults mtu (drop at xs)) refl, lt-ltb (length (drop at xs)) 6 (simp length-drop (omega arith)))
 
-    pub event_short : at < length xs → length xs < at + 6 → item_at runs mtu xs at ≡ Faulty 2
+    pub event_short : at < length xs → length xs < at + 6 → item_at runs mtu xs at ≡ Err (refusal_of 2)
     event_short h k = item_faulty 2 h (event_cut k) (λ z. omega arith)
 
     -- A fault of its fields counts.
-    pub event_faulty : (n : ℕ) → at + 6 ≤ length xs → fault_at mtu xs at ≡ n → (n ≡ 0 → ⊥) → item_at runs mtu xs at ≡ Faulty n
+    pub event_faulty : (n : ℕ) → at + 6 ≤ length xs → fault_at mtu xs at ≡ n → (n ≡ 0 → ⊥) → item_at runs mtu xs at ≡ Err (refusal_of n)
     event_faulty n h e k = item_faulty n (omega arith) (event_fields_at h ∙ e) k
 
+    pub event_refused : (n : ℕ) (e : Refusal) → at + 6 ≤ length xs → fault_at mtu xs at ≡ n → passed n ≡ Err e → item_at runs mtu xs at ≡ Err e
+    event_refused n e h f p = item_passed n e (omega arith) (event_fields_at h ∙ f) p
+
   -- Without one its kind and number stand there, for one event; the next begins behind its length.
-  pub event_stands : at + 6 ≤ length xs → fault_at mtu xs at ≡ 0 → item_at runs mtu xs at ≡ Stands (le 2 xs (at + 2)) (le 2 xs (at + 4)) 1 (at + le 2 xs at)
+  pub event_stands : at + 6 ≤ length xs → fault_at mtu xs at ≡ 0 → item_at runs mtu xs at ≡ Ok (Some (placed (le 2 xs (at + 2)) (le 2 xs (at + 4)) 1 (at + le 2 xs at)))
   event_stands h e =
       item_stands _ _ 1 (omega arith) (event_fields_at (no_run_in runs mtu xs at e) h ∙ e) (told_event (drop at xs) (no_run mtu xs at e)) ∙ simp le_drop
 
@@ -190,48 +213,51 @@ module _ (runs : Bool) (mtu : ℕ) (xs : List ℕ) (at : ℕ) where
     run_cut k =
         rw (faults_run runs mtu (drop at xs) r, in_order_lem (run_faults (drop at xs)) refl, lt-ltb (length (drop at xs)) 10 (simp length-drop (omega arith)))
 
-    pub run_short : at < length xs → length xs < at + 10 → item_at runs mtu xs at ≡ Faulty 2
+    pub run_short : at < length xs → length xs < at + 10 → item_at runs mtu xs at ≡ Err (refusal_of 2)
     run_short h k = item_faulty 2 h (run_cut k) (λ z. omega arith)
 
-    pub run_faulty : (n : ℕ) → at + 10 ≤ length xs → run_fault_at xs at ≡ n → (n ≡ 0 → ⊥) → item_at runs mtu xs at ≡ Faulty n
+    pub run_faulty : (n : ℕ) → at + 10 ≤ length xs → run_fault_at xs at ≡ n → (n ≡ 0 → ⊥) → item_at runs mtu xs at ≡ Err (refusal_of n)
     run_faulty n h e k = item_faulty n (omega arith) (run_fields_at h ∙ e) k
+
+    pub run_refused : (n : ℕ) (e : Refusal) → at + 10 ≤ length xs → run_fault_at xs at ≡ n → passed n ≡ Err e → item_at runs mtu xs at ≡ Err e
+    run_refused n e h f p = item_passed n e (omega arith) (run_fields_at h ∙ f) p
 
     -- Its tick kind, amount and count stand there.
     pub run_stands : is_run (drop at xs) ≡ true → at + 10 ≤ length xs → run_fault_at xs at ≡ 0 →
-        item_at runs mtu xs at ≡ Stands (le 2 xs (at + 4)) (le 2 xs (at + 6)) (le 2 xs (at + 8)) (at + le 2 xs at)
+        item_at runs mtu xs at ≡ Ok (Some (placed (le 2 xs (at + 4)) (le 2 xs (at + 6)) (le 2 xs (at + 8)) (at + le 2 xs at)))
     run_stands n h e =
         item_stands _ _ _ (omega arith) (run_fields_at h ∙ e) (told_run (drop at xs) n) ∙ simp le_drop
 
   -- Fewer than 6 bytes are no item of either form.
-  pub item_short : at < length xs → length xs < at + 6 → item_at runs mtu xs at ≡ Faulty 2
+  pub item_short : at < length xs → length xs < at + 6 → item_at runs mtu xs at ≡ Err (refusal_of 2)
   item_short h k =
       by_cases (true_or_false (runs && is_run (drop at xs))) (λ r. run_short r h (omega arith)) (λ r. event_short r h k)
 
 -- ---- where `left` more events may come
 
-module _ (runs : Bool) (late left mtu : ℕ) (xs : List ℕ) (at : ℕ) where
+module _ (runs : Bool) (late : Refusal) (left mtu : ℕ) (xs : List ℕ) (at : ℕ) where
   -- An item that stands for no more than may come stands there,
-  pub within_stands : (k v c next : ℕ) → item_at runs mtu xs at ≡ Stands k v c next → c ≤ left → item_within runs late left mtu xs at ≡ Stands k v c next
+  pub within_stands : (k v c next : ℕ) → item_at runs mtu xs at ≡ Ok (Some (placed k v c next)) → c ≤ left → item_within runs late left mtu xs at ≡ Ok (Some (placed k v c next))
   unfolding item_within
   within_stands k v c next e h = rw (e, le-leb c left h)
 
   -- and one that stands for more is too late.
-  pub within_over : (k v c next : ℕ) → item_at runs mtu xs at ≡ Stands k v c next → left < c → item_within runs late left mtu xs at ≡ Faulty late
+  pub within_over : (k v c next : ℕ) → item_at runs mtu xs at ≡ Ok (Some (placed k v c next)) → left < c → item_within runs late left mtu xs at ≡ Err late
   unfolding item_within
   within_over k v c next e h = rw (e, lt-leb c left h)
 
-  pub within_end : item_at runs mtu xs at ≡ End → item_within runs late left mtu xs at ≡ End
+  pub within_end : item_at runs mtu xs at ≡ Ok None → item_within runs late left mtu xs at ≡ Ok None
   unfolding item_within
   within_end e = rw e
 
 -- A fault counts where one more may come; else any byte is too late.
-pub within_faulty : (runs : Bool) (late left mtu : ℕ) (xs : List ℕ) (at n : ℕ) → item_at runs mtu xs at ≡ Faulty n → 0 < left →
-    item_within runs late left mtu xs at ≡ Faulty n
+pub within_faulty : (runs : Bool) (late : Refusal) (left mtu : ℕ) (xs : List ℕ) (at : ℕ) (r : Refusal) → item_at runs mtu xs at ≡ Err r → 0 < left →
+    item_within runs late left mtu xs at ≡ Err r
 unfolding item_within
-within_faulty runs late zero mtu xs at n e h = absurd (omega arith)
-within_faulty runs late (suc left) mtu xs at n e h = rw e
+within_faulty runs late zero mtu xs at r e h = absurd (omega arith)
+within_faulty runs late (suc left) mtu xs at r e h = rw e
 
-pub within_none : (runs : Bool) (late left mtu : ℕ) (xs : List ℕ) (at n : ℕ) → item_at runs mtu xs at ≡ Faulty n → left ≡ 0 →
-    item_within runs late left mtu xs at ≡ Faulty late
+pub within_none : (runs : Bool) (late : Refusal) (left mtu : ℕ) (xs : List ℕ) (at : ℕ) (r : Refusal) → item_at runs mtu xs at ≡ Err r → left ≡ 0 →
+    item_within runs late left mtu xs at ≡ Err late
 unfolding item_within
-within_none runs late left mtu xs at n e h = rw (e, h)
+within_none runs late left mtu xs at r e h = rw (e, h)

@@ -1,11 +1,12 @@
 -- The meaning of any bytes, walked: the header first, then item by item. Each step of the definition is what `item_at` finds there: an item of so many events is so many
 -- turns (`read_run`).
 -- Assumes nothing.
+use Rattle.std.specs.Prelude.{Ok, Err, Some, None}
 use Prim.Native.Nat.{ℕ, zero, suc, ◌+◌, ◌≤◌, ◌<◌}
 use mathlib.Core.Bool.{Bool, true, false, ◌&&◌}
 use mathlib.Core.List.{List, [], ◌∷◌}
 use mathlib.Core.Logic.{◌⊎◌, inl, inr, ⊎_elim}
-use mathlib.Core.Path.{◌≡◌, refl, ap, ◌∙◌}
+use mathlib.Core.Path.{◌≡◌, refl, sym, ap, ◌∙◌}
 use native.Mathlib.Omega.{arith}
 use native.Mathlib.Nat.{add-zero, zero-add, suc-add}
 use borrow.Author.Tests.{le-ltb, lt-ltb}
@@ -20,22 +21,21 @@ use Rattle.shaper.specs.Credit.{Valid}
 use Rattle.shaper.specs.Kind.{event_of}
 use Rattle.wire.specs.Wire.{le, Bytes}
 use Rattle.wire.proofs.Numbers.{le_bound, le_drop}
-use Rattle.record.specs.declared.Header.{Header}
-use Rattle.record.specs.declared.Header.TheVariants.{Settings, Unreadable}
-use Rattle.record.specs.declared.Step.{Step}
-use Rattle.record.specs.declared.Step.TheVariants.{Stands, End, Faulty}
 use Rattle.record.specs.Items.{most_of_run}
 use Rattle.record.specs.Read.{limits_at, header_faults, length_at, is_run, item_faults, item_kind, item_number, item_count, faulty, events, onward, ahead, gone_behind, bytes_behind, read_items, Read, unreadable, under, opened_in, read_in}
-use Rattle.record.specs.Step.{headed, header_of_of, item_at, item_within}
+use Rattle.record.specs.Step.{headed, header_of_of, item_at, item_within, Header, Step, placed}
 use Rattle.record.proofs.Fields.{Good, GoodRun, free_facts, facts_free, run_facts, valid_good}
 use Rattle.record.proofs.Rows.{Told, fault_at, run_fault_at, kind_there, no_run, no_run_in, told_event, told_run, header_short, header_length, header_kind, header_outside, header_settings, item_end, item_faulty, event_fields_at, event_cut, event_stands, run_fields_at, run_cut, run_stands, within_stands, within_over, within_end, within_faulty, within_none}
+use Rattle.decide.specs.declared.refusal.Refusal.{Refusal}
+use Rattle.decide.specs.Number.{number_in}
+use Rattle.decide.proofs.Number.{number_told}
 
 -- ---- the header
 
 -- what the whole says, by what its header says
 abbrev pub read_by : Bool → List ℕ → Header → Read
-read_by runs xs (Settings l) = under l (read_items runs 9 l.mtu most_events 0 (drop 14 xs))
-read_by runs xs (Unreadable n) = unreadable n
+read_by runs xs (Ok l) = under l (read_items runs 9 l.mtu most_events 0 (drop 14 xs))
+read_by runs xs (Err r) = unreadable (number_in r)
 
 pub read_header : (runs : Bool) (xs : List ℕ) → read_in runs xs ≡ read_by runs xs (header_of_of xs)
 unfolding read_in header_of_of
@@ -43,7 +43,7 @@ read_header runs xs = by (first_of (header_faults xs))
   where
     by : (n : ℕ) → opened_in runs n xs ≡ read_by runs xs (headed n xs)
     by zero = refl
-    by (suc n) = refl
+    by (suc n) = ap unreadable (sym (number_told (suc n)))
 
 -- a header that stands: the settings are those at its places, and in range
 pub record Headed (xs : List ℕ) (l : Limits) : Type 0 where
@@ -55,8 +55,8 @@ pub record Headed (xs : List ℕ) (l : Limits) : Type 0 where
   pub goes_on : (runs : Bool) → read_in runs xs ≡ under l (read_items runs 9 l.mtu most_events 0 (drop 14 xs))
 
 abbrev MeansHeader : List ℕ → Header → Type 0
-MeansHeader xs (Settings l) = Headed xs l
-MeansHeader xs (Unreadable n) = 0 < n
+MeansHeader xs (Ok l) = Headed xs l
+MeansHeader xs (Err r) = 0 < number_in r
 
 means_header : (xs : List ℕ) → MeansHeader xs (header_of_of xs)
 means_header xs =
@@ -78,12 +78,12 @@ means_header xs =
     (λ e. rw (header_length xs h e) (omega arith)))
     (λ h. rw (header_short xs h) (omega arith))
 
-pub header_stands : (xs : List ℕ) (l : Limits) → header_of_of xs ≡ Settings l → Headed xs l
+pub header_stands : (xs : List ℕ) (l : Limits) → header_of_of xs ≡ Ok l → Headed xs l
 header_stands xs l e = rw e at (means_header xs)
 
 -- a header's fault, which is never 0, is the record's
-pub header_faulty : (runs : Bool) (xs : List ℕ) (n : ℕ) → header_of_of xs ≡ Unreadable n → (0 < n) × (read_in runs xs ≡ unreadable n)
-header_faulty runs xs n e = (rw e at (means_header xs), read_header runs xs ∙ rw e)
+pub header_faulty : (runs : Bool) (xs : List ℕ) (r : Refusal) → header_of_of xs ≡ Err r → (0 < number_in r) × (read_in runs xs ≡ unreadable (number_in r))
+header_faulty runs xs r e = (rw e at (means_header xs), read_header runs xs ∙ rw e)
 
 -- ---- the items
 
@@ -196,9 +196,9 @@ pub record Failed (runs : Bool) (mtu : ℕ) (xs : List ℕ) (at n : ℕ) : Type 
   pub stops : (late m : ℕ) → read_items runs late mtu (suc m) 0 (drop at xs) ≡ faulty n
 
 abbrev MeansStep : Bool → ℕ → List ℕ → ℕ → Step → Type 0
-MeansStep runs mtu xs at (Stands k v c next) = Stood runs mtu xs at k v c next
-MeansStep runs mtu xs at End = length xs ≤ at
-MeansStep runs mtu xs at (Faulty n) = Failed runs mtu xs at n
+MeansStep runs mtu xs at (Ok (Some p)) = Stood runs mtu xs at p.kind p.number p.count p.next
+MeansStep runs mtu xs at (Ok None) = length xs ≤ at
+MeansStep runs mtu xs at (Err r) = Failed runs mtu xs at (number_in r)
 
 module _ (runs : Bool) (mtu : ℕ) (xs : List ℕ) (at : ℕ) where
   -- an item that stands there is read whole
@@ -225,7 +225,8 @@ module _ (runs : Bool) (mtu : ℕ) (xs : List ℕ) (at : ℕ) where
   failed : (n : ℕ) → at < length xs → 0 < n → first_of (item_faults runs mtu (drop at xs)) ≡ n → MeansStep runs mtu xs at (item_at runs mtu xs at)
   failed n h p e =
       rw (item_faulty runs mtu xs at n h e (λ z. omega arith))
-      (record { some = h; given = p; stops = λ late m. read_fault runs late mtu m n (drop at xs) (simp length-drop (omega arith)) e p })
+      (rw (number_told n)
+      (record { some = h; given = p; stops = λ late m. read_fault runs late mtu m n (drop at xs) (simp length-drop (omega arith)) e p }))
 
   event_stood : at + 6 ≤ length xs → GoodAt mtu xs at → MeansStep runs mtu xs at (item_at runs mtu xs at)
   event_stood h g =
@@ -263,14 +264,14 @@ module _ (runs : Bool) (mtu : ℕ) (xs : List ℕ) (at : ℕ) where
       by_event r k zero e = event_stood k (free_facts mtu (le 2 xs at) (le 2 xs (at + 2)) (le 2 xs (at + 4)) e)
       by_event r k (suc n) e = failed (suc n) (omega arith) (omega arith) (event_fields_at runs mtu xs at r k ∙ e)
 
-  pub step_stands : (k v c next : ℕ) → item_at runs mtu xs at ≡ Stands k v c next → Stood runs mtu xs at k v c next
+  pub step_stands : (k v c next : ℕ) → item_at runs mtu xs at ≡ Ok (Some (placed k v c next)) → Stood runs mtu xs at k v c next
   step_stands k v c next e = rw e at means_step
 
-  pub step_end : item_at runs mtu xs at ≡ End → length xs ≤ at
+  pub step_end : item_at runs mtu xs at ≡ Ok None → length xs ≤ at
   step_end e = rw e at means_step
 
-  pub step_faulty : (n : ℕ) → item_at runs mtu xs at ≡ Faulty n → Failed runs mtu xs at n
-  step_faulty n e = rw e at means_step
+  pub step_faulty : (r : Refusal) → item_at runs mtu xs at ≡ Err r → Failed runs mtu xs at (number_in r)
+  step_faulty r e = rw e at means_step
 
   -- good fields at a place are those of an event, in either form
   pub good_stands : at + 6 ≤ length xs → GoodAt mtu xs at → Stood runs mtu xs at (le 2 xs (at + 2)) (le 2 xs (at + 4)) 1 (at + 6)
@@ -285,37 +286,37 @@ module _ (runs : Bool) (mtu : ℕ) (xs : List ℕ) (at : ℕ) where
 
 -- ---- what a step tells where `left` more events may come
 
-abbrev MeansWithin : Bool → ℕ → ℕ → ℕ → List ℕ → ℕ → Step → Type 0
-MeansWithin runs late left mtu xs at (Stands k v c next) = Stood runs mtu xs at k v c next × (c ≤ left)
-MeansWithin runs late left mtu xs at End = length xs ≤ at
-MeansWithin runs late left mtu xs at (Faulty n) = (at < length xs) × (read_items runs late mtu left 0 (drop at xs) ≡ faulty n)
+abbrev MeansWithin : Bool → Refusal → ℕ → ℕ → List ℕ → ℕ → Step → Type 0
+MeansWithin runs late left mtu xs at (Ok (Some p)) = Stood runs mtu xs at p.kind p.number p.count p.next × (p.count ≤ left)
+MeansWithin runs late left mtu xs at (Ok None) = length xs ≤ at
+MeansWithin runs late left mtu xs at (Err r) = (at < length xs) × (read_items runs (number_in late) mtu left 0 (drop at xs) ≡ faulty (number_in r))
 
-means_within : (runs : Bool) (late mtu : ℕ) (xs : List ℕ) (at left : ℕ) → MeansWithin runs late left mtu xs at (item_within runs late left mtu xs at)
+means_within : (runs : Bool) (late : Refusal) (mtu : ℕ) (xs : List ℕ) (at left : ℕ) → MeansWithin runs late left mtu xs at (item_within runs late left mtu xs at)
 means_within runs late mtu xs at left = by left (item_at runs mtu xs at) refl
   where
     by : (left : ℕ) (s : Step) → item_at runs mtu xs at ≡ s → MeansWithin runs late left mtu xs at (item_within runs late left mtu xs at)
-    by left End e = rw (within_end runs late left mtu xs at e) (step_end runs mtu xs at e)
-    by left (Stands k v c next) e =
-        let t = step_stands runs mtu xs at k v c next e in
-        by_cases (le_or c left)
-        (λ h. rw (within_stands runs late left mtu xs at k v c next e h) (t, h))
-        (λ h. rw (within_over runs late left mtu xs at k v c next e h) (omega (arith, t.further, t.fits), t.passes late left h))
-    by zero (Faulty n) e =
-        let t = step_faulty runs mtu xs at n e in
-        rw (within_none runs late 0 mtu xs at n e refl) (t.some, read_over runs late mtu xs at t.some)
-    by (suc m) (Faulty n) e =
-        let t = step_faulty runs mtu xs at n e in
-        rw (within_faulty runs late (suc m) mtu xs at n e (omega arith)) (t.some, t.stops late m)
+    by left (Ok None) e = rw (within_end runs late left mtu xs at e) (step_end runs mtu xs at e)
+    by left (Ok (Some p)) e =
+        let t = step_stands runs mtu xs at p.kind p.number p.count p.next e in
+        by_cases (le_or p.count left)
+        (λ h. rw (within_stands runs late left mtu xs at p.kind p.number p.count p.next e h) (t, h))
+        (λ h. rw (within_over runs late left mtu xs at p.kind p.number p.count p.next e h) (omega (arith, t.further, t.fits), t.passes (number_in late) left h))
+    by zero (Err r) e =
+        let t = step_faulty runs mtu xs at r e in
+        rw (within_none runs late 0 mtu xs at r e refl) (t.some, read_over runs (number_in late) mtu xs at t.some)
+    by (suc m) (Err r) e =
+        let t = step_faulty runs mtu xs at r e in
+        rw (within_faulty runs late (suc m) mtu xs at r e (omega arith)) (t.some, t.stops (number_in late) m)
 
-module _ (runs : Bool) (late left mtu : ℕ) (xs : List ℕ) (at : ℕ) where
-  pub stood_within : (k v c next : ℕ) → item_within runs late left mtu xs at ≡ Stands k v c next → Stood runs mtu xs at k v c next × (c ≤ left)
+module _ (runs : Bool) (late : Refusal) (left mtu : ℕ) (xs : List ℕ) (at : ℕ) where
+  pub stood_within : (k v c next : ℕ) → item_within runs late left mtu xs at ≡ Ok (Some (placed k v c next)) → Stood runs mtu xs at k v c next × (c ≤ left)
   stood_within k v c next e = rw e at (means_within runs late mtu xs at left)
 
-  pub end_within : item_within runs late left mtu xs at ≡ End → length xs ≤ at
+  pub end_within : item_within runs late left mtu xs at ≡ Ok None → length xs ≤ at
   end_within e = rw e at (means_within runs late mtu xs at left)
 
-  pub failed_within : (n : ℕ) → item_within runs late left mtu xs at ≡ Faulty n → (at < length xs) × (read_items runs late mtu left 0 (drop at xs) ≡ faulty n)
-  failed_within n e = rw e at (means_within runs late mtu xs at left)
+  pub failed_within : (r : Refusal) → item_within runs late left mtu xs at ≡ Err r → (at < length xs) × (read_items runs (number_in late) mtu left 0 (drop at xs) ≡ faulty (number_in r))
+  failed_within r e = rw e at (means_within runs late mtu xs at left)
 
 -- ---- numbers of an item in bytes are below 65,536
 

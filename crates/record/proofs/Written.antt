@@ -1,5 +1,6 @@
 -- What a writer writes is read back whole, in either form.
 -- Assumes nothing.
+use Rattle.std.specs.Prelude.{Ok}
 use Prim.Native.Nat.{ℕ, zero, suc, ◌+◌, ◌*◌, ◌-◌, ◌≤◌, ◌<◌}
 use mathlib.Core.Bool.{Bool}
 use mathlib.Core.List.{List, [], ◌∷◌, ◌++◌, append_assoc, append-nil}
@@ -20,7 +21,6 @@ use Rattle.wire.specs.Wire.{le}
 use Rattle.wire.specs.Parts.{laid_out, length_laid_out}
 use Rattle.wire.proofs.Places.{stands_between}
 use Rattle.wire.proofs.Laid.{le_part}
-use Rattle.record.specs.declared.Header.TheVariants.{Settings}
 use Rattle.record.specs.Record.{header_parts, event_parts, header_bytes, event_bytes, events_bytes, written, WellFormed}
 use Rattle.record.specs.Items.{Item, one, run, run_parts, run_bytes, item_bytes, items_bytes, written_items, unrolled_item, unrolled, ItemOk, ItemsOk, Formed}
 use Rattle.record.specs.Read.{limits_at, Events, faulty, events, onward, ahead, read_items, whole, read_in}
@@ -128,7 +128,7 @@ ahead_behind zero e r = refl
 ahead_behind (suc count) e r = rw (ahead_behind count e r)
 
 module _ (l : Limits) (ok : Holds (limits_ok l)) where
-  pub header_back : (q : List ℕ) → header_of_of (header_bytes l ++ q) ≡ Settings l
+  pub header_back : (q : List ℕ) → header_of_of (header_bytes l ++ q) ≡ Ok l
   unfolding header_bytes
   header_back q =
       let s = stands_between [] (laid_out (header_parts l)) q in

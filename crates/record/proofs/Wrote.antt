@@ -1,5 +1,6 @@
 -- Whatever is read whole, or before a fault, is what a writer writes, in the form that is read.
 -- Assumes nothing.
+use Rattle.std.specs.Prelude.{Ok, Err, Some, None}
 use Prim.Native.Nat.{ℕ, zero, suc, ◌+◌, ◌-◌, ◌≤◌, ◌<◌}
 use mathlib.Core.Bool.{Bool, true, false}
 use mathlib.Core.List.{List, [], ◌∷◌, ◌++◌, append_assoc}
@@ -21,19 +22,16 @@ use Rattle.wire.proofs.Numbers.{digits_stand}
 use Rattle.wire.proofs.Places.{bytes_drop}
 use Rattle.wire.proofs.Places as Places
 use Rattle.wire.proofs.Laid.{laid_put, laid_standing, Standing}
-use Rattle.record.specs.declared.Header.{Header}
-use Rattle.record.specs.declared.Header.TheVariants.{Settings, Unreadable}
-use Rattle.record.specs.declared.Step.{Step}
-use Rattle.record.specs.declared.Step.TheVariants.{Stands, End, Faulty}
 use Rattle.record.specs.Record.{header_parts, event_parts, header_bytes, event_bytes, events_bytes, written, WellFormed}
 use Rattle.record.specs.Items.{Item, one, run, run_parts, run_bytes, item_bytes, items_bytes, written_items, unrolled_item, unrolled, ItemOk, ItemsOk, Formed}
 use Rattle.record.specs.Read.{limits_at, Events, faulty, events, read_items, Read, unreadable, whole, under, read_in}
-use Rattle.record.specs.Step.{header_of_of, item_at}
+use Rattle.record.specs.Step.{header_of_of, item_at, Header, Step, header_number, step_number}
 use Rattle.record.specs.Cause.{Why, too_many, has_fault, passes, Cause, in_header, behind_items}
 use Rattle.record.proofs.Fields.{event_good}
 use Rattle.record.proofs.Steps.{Headed, EventThere, RunThere, Stood, read_by, read_header, header_stands, header_faulty, read_end, read_over, step_stands, step_end, step_faulty, stood_bound, count_bound}
 use Rattle.record.proofs.Refused.{header_refused_exactly, item_refused_exactly}
 use Rattle.record.proofs.Written.{behind, behind_faulty, behind_events, ahead_behind, ones, ones_bytes}
+use Rattle.decide.specs.Number.{number_in}
 
 -- ---- what stands at the front
 
@@ -180,14 +178,14 @@ module _ (runs : Bool) (late : ℕ) (l : Limits) (m : ℕ) (ys : List ℕ) (b : 
       (here runs late l (suc m) ys late (omega (arith, s.fits, s.further)) (passes (omega arith) s.free (omega (arith, s.counts)) refl)))
 
   step_says : (s : Step) → item_at runs l.mtu ys 0 ≡ s → Says runs late l (suc m) ys (read_items runs late l.mtu (suc m) 0 ys)
-  step_says End e =
+  step_says (Ok None) e =
       let h = step_end runs l.mtu ys 0 e in
       rw (read_end runs late l.mtu (suc m) ys 0 h) (wrote_none runs l (suc m) ys (nothing_left ys h))
-  step_says (Faulty n) e =
-      let s = step_faulty runs l.mtu ys 0 n e in
+  step_says (Err r) e =
+      let s = step_faulty runs l.mtu ys 0 r e in
       rw (s.stops late m)
-      (here runs late l (suc m) ys n s.some (has_fault (omega arith) ((item_refused_exactly runs l.mtu ys 0 n s.some s.given).0 e)))
-  step_says (Stands k v c next) e = stands_says k v c next (step_stands runs l.mtu ys 0 k v c next e)
+      (here runs late l (suc m) ys (number_in r) s.some (has_fault (omega arith) ((item_refused_exactly runs l.mtu ys 0 (number_in r) s.some s.given).0 (ap step_number e))))
+  step_says (Ok (Some p)) e = stands_says p.kind p.number p.count p.next (step_stands runs l.mtu ys 0 p.kind p.number p.count p.next e)
 
 -- one item at a time
 module _ (runs : Bool) (late : ℕ) (l : Limits) where
@@ -247,11 +245,11 @@ pub says_whole : (runs : Bool) (xs : List ℕ) → Bytes xs → SaysWhole runs x
 says_whole runs xs b = rw (read_header runs xs) (by (header_of_of xs) refl)
   where
     by : (h : Header) → header_of_of xs ≡ h → SaysWhole runs xs (read_by runs xs h)
-    by (Settings l) e =
+    by (Ok l) e =
         let h = header_stands xs l e in
         under_says runs l xs (drop 14 xs) (header_front xs b l h) h.in_range_lem (read_items runs 9 l.mtu most_events 0 (drop 14 xs))
         (says runs 9 l most_events (drop 14 xs) (bytes_drop 14 xs b))
-    by (Unreadable n) e = in_header ((header_refused_exactly xs n (header_faulty runs xs n e).0).0 e)
+    by (Err r) e = in_header ((header_refused_exactly xs (number_in r) (header_faulty runs xs r e).0).0 (ap header_number e))
 
 -- bytes that are read whole are what a writer writes, of settings and items in range
 pub read_items_lem : (runs : Bool) (xs : List ℕ) (l : Limits) (es : List Event) → Bytes xs → read_in runs xs ≡ whole l es → WroteWhole runs xs l es

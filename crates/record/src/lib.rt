@@ -5,66 +5,56 @@ ghost use Rattle.std.specs.Prelude.{true, ◌≡◌, ◌+◌, ◌-◌, ◌≤◌
 ghost use Rattle.wire.specs.Wire.{le};
 ghost use Rattle.shaper.specs.Limits.{most_events};
 ghost use Rattle.record.specs.Read.{field_fault, run_field_fault};
-ghost use Rattle.record.specs.Step.{header_of_of, item_at, item_within};
+ghost use Rattle.record.specs.Step.{header_of_of, item_at, item_within, passed};
 
+use decide::Refusal;
 use shaper::{Event, Limits};
 
 // The kind of a send: the last that an event may have.
 const SEND: u16 = 3;
 
-// What a record's header says.
+// An item at its place: its kind and number, how many events it stands for and where the next begins.
 #[derive(Clone, Copy)]
-pub enum Header {
-    Settings(Limits),
-    Unreadable(u64),
+pub struct Placed {
+    pub kind: u16,
+    pub number: u16,
+    pub count: u32,
+    pub next: usize,
 }
 
-// What stands at a place of a record: an item's kind and number, how many events it stands for and where the next begins; the end; or a fault.
-#[derive(Clone, Copy)]
-pub enum Step {
-    Stands {
-        kind: u16,
-        number: u16,
-        count: u32,
-        next: usize,
-    },
-    End,
-    Faulty(u64),
-}
-
-// The settings that a record's header bears, or the number of its fault.
-pub fn header_of(s: &[u8]) -> Header
+// The settings that a record's header bears, or its fault.
+pub fn header_of(s: &[u8]) -> Result<Limits, Refusal>
     ensures { result ≡ header_of_of s.now }
 {
     if s.len() < 14 {
-        return Header::Unreadable(2);
+        return Err(Refusal::NotWhole);
     }
     if wire::get16(s, 0) != 14 {
-        return Header::Unreadable(2);
+        return Err(Refusal::NotWhole);
     }
     if wire::get16(s, 2) != 16 {
-        return Header::Unreadable(2);
+        return Err(Refusal::NotWhole);
     }
     let limits = Limits {
-        mtu: wide(wire::get16(s, 4)),
+        mtu: wire::get16(s, 4) as u32,
         lo: wire::get32(s, 6),
         hi: wire::get32(s, 10),
     };
     if !limits.in_range() {
-        return Header::Unreadable(1);
+        return Err(Refusal::Setting);
     }
-    Header::Settings(limits)
+    Ok(limits)
 }
 
-// What stands at a place of a record whose header bears this mtu; past its last byte, the end. `runs` says whether runs may stand: in a record of the old form none may.
-pub fn event_at(s: &[u8], at: usize, mtu: u32, runs: bool) -> Step
+// The item at a place of a record whose header bears this mtu, or its fault; past the last byte, the end, there is none. `runs` says whether runs may stand: in a record of the old form none may.
+pub fn event_at(s: &[u8], at: usize, mtu: u32, runs: bool) -> Result<Option<Placed>, Refusal>
     ensures { result ≡ item_at runs mtu s.now at }
 {
     if s.len() <= at {
-        return Step::End;
+        return Ok(None);
     }
     if s.len() - at < 6 {
-        return Step::Faulty(2);
+        return Err(Refusal::NotWhole);
     }
     let kind = wire::get16(s, at + 2);
     if SEND < kind {
@@ -72,80 +62,71 @@ pub fn event_at(s: &[u8], at: usize, mtu: u32, runs: bool) -> Step
     }
     let length = wire::get16(s, at);
     let number = wire::get16(s, at + 4);
-    let fault = fault(mtu, length, kind, number);
-    if fault != 0 {
-        return Step::Faulty(fault);
-    }
-    Step::Stands {
-        kind: kind,
-        number: number,
+    fault(mtu, length, kind, number)?;
+    Ok(Some(Placed {
+        kind,
+        number,
         count: 1,
         next: at + length as usize,
-    }
+    }))
 }
 
 // What stands at a place whose kind is no event's: a run, where runs may stand, or a fault. Told apart here, runs cost an event no test.
-fn other_at(s: &[u8], at: usize, mtu: u32, kind: u16, runs: bool) -> Step
+fn other_at(s: &[u8], at: usize, mtu: u32, kind: u16, runs: bool) -> Result<Option<Placed>, Refusal>
     requires { (at + 6 ≤ length s.now) × (kind ≡ le 2 s.now (at + 2)) × (3 < kind) }
     ensures { result ≡ item_at runs mtu s.now at }
 {
     if runs & (kind == 4) {
         return run_at(s, at, mtu);
     }
-    Step::Faulty(2)
+    Err(Refusal::NotWhole)
 }
 
 // The run at a place, where an item of kind 4 stands.
-fn run_at(s: &[u8], at: usize, mtu: u32) -> Step
+fn run_at(s: &[u8], at: usize, mtu: u32) -> Result<Option<Placed>, Refusal>
     requires { (at + 6 ≤ length s.now) × (le 2 s.now (at + 2) ≡ 4) }
     ensures { result ≡ item_at true mtu s.now at }
 {
     if s.len() - at < 10 {
-        return Step::Faulty(2);
+        return Err(Refusal::NotWhole);
     }
     let length = wire::get16(s, at);
     let tick = wire::get16(s, at + 4);
     let amount = wire::get16(s, at + 6);
     let count = wire::get16(s, at + 8);
-    let fault = run_fault(length, tick, count);
-    if fault != 0 {
-        return Step::Faulty(fault);
-    }
-    Step::Stands {
+    run_fault(length, tick, count)?;
+    Ok(Some(Placed {
         kind: tick,
         number: amount,
-        count: wide(count),
+        count: count as u32,
         next: at + length as usize,
-    }
+    }))
 }
 
 // The same where `left` more events may come: any byte after the last of them gives `late`, and so does an item that stands for more than may come.
-pub fn event_within(s: &[u8], at: usize, mtu: u32, left: u64, late: u64, runs: bool) -> Step
+pub fn event_within(
+    s: &[u8],
+    at: usize,
+    mtu: u32,
+    left: u64,
+    late: Refusal,
+    runs: bool,
+) -> Result<Option<Placed>, Refusal>
     ensures { result ≡ item_within runs late left mtu s.now at }
 {
     match event_at(s, at, mtu, runs) {
-        Step::Stands {
-            kind,
-            number,
-            count,
-            next,
-        } => {
-            if left < count as u64 {
-                return Step::Faulty(late);
+        Ok(Some(item)) => {
+            if left < item.count as u64 {
+                return Err(late);
             }
-            Step::Stands {
-                kind: kind,
-                number: number,
-                count: count,
-                next: next,
-            }
+            Ok(Some(item))
         }
-        Step::End => Step::End,
-        Step::Faulty(fault) => {
+        Ok(None) => Ok(None),
+        Err(fault) => {
             if left == 0 {
-                return Step::Faulty(late);
+                return Err(late);
             }
-            Step::Faulty(fault)
+            Err(fault)
         }
     }
 }
@@ -157,53 +138,46 @@ pub fn may_come(done: u64) -> u64
     decide::less(Event::MAX_EVENTS as u64, done)
 }
 
-// The number of an event's fault by its fields, or 0.
-fn fault(mtu: u32, length: u16, kind: u16, number: u16) -> u64
-    ensures { result ≡ field_fault mtu length kind number }
+// The fault of an event's fields, if any.
+fn fault(mtu: u32, length: u16, kind: u16, number: u16) -> Result<(), Refusal>
+    ensures { result ≡ passed (field_fault mtu length kind number) }
 {
     if length != 6 {
-        return 2;
+        return Err(Refusal::NotWhole);
     }
     if kind < 1 {
-        return 2;
+        return Err(Refusal::NotWhole);
     }
     if 3 < kind {
-        return 2;
+        return Err(Refusal::NotWhole);
     }
     if kind != 3 {
-        return 0;
+        return Ok(());
     }
     if number < Event::MIN_SIZE {
-        return 3;
+        return Err(Refusal::OutOfRange);
     }
-    if mtu < wide(number) {
-        return 3;
+    if mtu < number as u32 {
+        return Err(Refusal::OutOfRange);
     }
-    0
+    Ok(())
 }
 
-// The number of a run's fault by its fields, or 0.
-fn run_fault(length: u16, tick: u16, count: u16) -> u64
-    ensures { result ≡ run_field_fault length tick count }
+// The fault of a run's fields, if any.
+fn run_fault(length: u16, tick: u16, count: u16) -> Result<(), Refusal>
+    ensures { result ≡ passed (run_field_fault length tick count) }
 {
     if length != 10 {
-        return 2;
+        return Err(Refusal::NotWhole);
     }
     if tick < 1 {
-        return 2;
+        return Err(Refusal::NotWhole);
     }
     if 2 < tick {
-        return 2;
+        return Err(Refusal::NotWhole);
     }
     if count < 2 {
-        return 2;
+        return Err(Refusal::NotWhole);
     }
-    0
-}
-
-// The same number in a wider type.
-fn wide(x: u16) -> u32
-    ensures { result ≡ x }
-{
-    x as u32
+    Ok(())
 }

@@ -4,10 +4,7 @@ use mathlib.Core.Path.{◌≡◌, refl, sym, ap, ◌∙◌}
 use mathlib.Core.List.{List, [], ◌∷◌, ◌++◌}
 use Prim.Native.Nat.{ℕ, ◌+◌, ◌≤◌, ◌<◌}
 use native.Mathlib.Omega.{arith}
-use native.Mathlib.Nat.{add_assoc}
-use native.Mathlib.Numerals.{add-one}
-use lib.ListN.{length, take, get_or, set, length-append}
-use lib.Seq.{take-suc, take-length, length-take-le}
+use lib.ListN.{length, set, length-append}
 use Rattle.wire.specs.Wire.{put}
 use Rattle.report.specs.Text.{ascii, line}
 use Rattle.wire.proofs.Puts.{put_sets, put_put}
@@ -26,19 +23,6 @@ pub filled_more : (xs bs cs ys zs : List ℕ) (at r q : ℕ) → Filled xs at bs
 filled_more xs bs cs ys zs at r q w v h =
     let l = length-append bs cs in
     (omega arith, v.1 ∙ ap (λ (l : List ℕ). put l r cs) w.1 ∙ put_put xs bs cs at r w.0 (omega arith))
-
--- one byte more of some words
-pub filled_next : (xs words ys : List ℕ) (at i : ℕ) → at + length words ≤ length xs → i < length words → length ys ≡ length xs →
-    Filled xs at (take i words) (at + i) ys → Filled xs at (take (i + 1) words) (at + (i + 1)) (set ys (at + i) (get_or words i 0))
-filled_next xs words ys at i room here same w =
-    let x = get_or words i 0 in
-    let l : length (take i words) ≡ i = length-take-le i words (omega arith) in
-    rw (add-one i, take-suc words i 0 here, ← add-one, ← add_assoc)
-    (filled_more xs (take i words) (x ∷ []) ys _ at (at + i) _ w (filled_one ys (at + i) x (omega arith)) (omega arith))
-
--- and all of them
-pub filled_all : (xs words ys : List ℕ) (at i : ℕ) → i ≡ length words → Filled xs at (take i words) (at + i) ys → Filled xs at words (at + i) ys
-filled_all xs words ys at i e w = (omega arith, w.1 ∙ ap (λ (k : ℕ). put xs at (take k words)) e ∙ ap (put xs at) (take-length words))
 
 -- how long a line is
 pub length_line : (words number : List ℕ) → length (line words number) ≡ length words + length number + 1

@@ -1,5 +1,6 @@
 -- How long the texts are: each the sum of its parts, and the whole within 256 bytes, whatever numbers it holds.
 -- Assumes nothing.
+use Rattle.std.specs.Prelude.{Ok, Err, Some, None}
 use mathlib.Core.Path.{◌≡◌, ◌∙◌}
 use mathlib.Core.List.{List, ◌++◌}
 use Prim.Native.Nat.{ℕ, suc, ◌+◌, ◌≤◌, ◌<◌}
@@ -7,8 +8,9 @@ use native.Mathlib.Omega.{arith}
 use lib.IntN.{ℤ, pos, negsuc}
 use lib.Signed.{mag}
 use lib.ListN.{length, length-append}
+use Rattle.decide.specs.declared.refusal.Refusal.{Refusal}
+use Rattle.decide.specs.Number.{number_in, refusal_of}
 use Rattle.summary.specs.declared.Summary.{Summary}
-use Rattle.summary.specs.declared.Outcome.{Outcome}
 use Rattle.summary.specs.Answer.{settle_of}
 use Rattle.summary.specs.Range.{in_range}
 use Rattle.summary.proofs.Paper.{settled_plain}
@@ -73,7 +75,7 @@ unfolding plain_end_of
 end_below p c = omega arith
 
 module _ (s : Summary) (h : EightBytes s) where
-  permitted_short : (x : ℕ) → x < 18446744073709551616 → length (settled_text s (Outcome.Permitted x)) ≤ 256
+  permitted_short : (x : ℕ) → x < 18446744073709551616 → length (settled_text s (Ok (Some x))) ≤ 256
   unfolding settled_text
   permitted_short x e =
       omega (
@@ -83,13 +85,13 @@ module _ (s : Summary) (h : EightBytes s) where
         line_short (ascii " permitted end ") x e,
       )
 
-  not_permitted_short : length (settled_text s Outcome.NotPermitted) ≤ 256
+  not_permitted_short : length (settled_text s (Ok None)) ≤ 256
   unfolding settled_text
   not_permitted_short = omega (arith, length-append (started_text s) (ascii " not permitted\n"), started_short s h)
 
-  refused_short : (n : ℕ) → n < 18446744073709551616 → length (settled_text s (Outcome.Refused n)) ≤ 256
+  refused_short : (r : Refusal) → number_in r < 18446744073709551616 → length (settled_text s (Err r)) ≤ 256
   unfolding settled_text
-  refused_short n e = omega (arith, line_short (ascii "refused ") n e)
+  refused_short r e = omega (arith, line_short (ascii "refused ") (number_in r) e)
 
   pub settled_short : (c : ℕ) → length (settled_text s (settle_of s c)) ≤ 256
   settled_short c =
@@ -100,5 +102,5 @@ module _ (s : Summary) (h : EightBytes s) where
       by_cases (le_or s.need c)
       (λ enough. rw (settles s c ranged low enough) (permitted_short _ (rw (settled_plain s c ranged low enough) (omega (arith, h.hi, end_below (plain_from s) c)))))
       (λ less. rw (settles_not s c ranged low less) not_permitted_short))
-      (λ high. rw (settle_3_credit s c ranged high) (refused_short 3 (omega arith))))
-      (λ out. rw (settle_3_summary s c out) (refused_short 3 (omega arith)))
+      (λ high. rw (settle_3_credit s c ranged high) (refused_short (refusal_of 3) (omega arith))))
+      (λ out. rw (settle_3_summary s c out) (refused_short (refusal_of 3) (omega arith)))

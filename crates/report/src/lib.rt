@@ -6,18 +6,19 @@ ghost use Rattle.wire.specs.Wire.{put};
 ghost use Rattle.report.specs.Text.{numeral, signed_numeral, line};
 ghost use Rattle.report.specs.Report.{ceiling_line, counts_text, started_text, settled_text, printed_of};
 
+use decide::Refusal;
 use std::io;
-use summary::{Answer, Outcome, Summary};
+use summary::Summary;
 
 // Prints a summary as six lines, or `refused N`, by one write; answers whether all of it was written, or why not.
-pub fn print(rt: &impl Print, answer: Answer) -> io::Result<()> {
+pub fn print(rt: &impl Print, answer: Result<Summary, Refusal>) -> io::Result<()> {
     let mut room = [0u8; 256];
     let end = fill(answer, &mut room);
     rt.write_all(&room[..end])
 }
 
 // Fills a room's first bytes with what is printed of an answer, and answers how many they are.
-pub fn fill(answer: Answer, room: &mut [u8; 256]) -> usize
+pub fn fill(answer: Result<Summary, Refusal>, room: &mut [u8; 256]) -> usize
     ensures value { result ≡ length (printed_of answer) }
     ensures room_after { room.new ≡ put room.old 0 (printed_of answer) }
 {
@@ -25,37 +26,41 @@ pub fn fill(answer: Answer, room: &mut [u8; 256]) -> usize
 }
 
 // Writes what is printed of an answer to `s` from `at` on, and answers the place behind it.
-pub fn put_answer(s: &mut [u8], at: usize, answer: Answer) -> usize
+pub fn put_answer(s: &mut [u8], at: usize, answer: Result<Summary, Refusal>) -> usize
     requires { at + length (printed_of answer) ≤ length s.old }
     ensures value { result ≡ at + length (printed_of answer) }
     ensures s_after { s.new ≡ put s.old at (printed_of answer) }
 {
     match answer {
-        Answer::Summed(summary) => {
+        Ok(summary) => {
             let limits = summary.limits;
             let outcome = summary.settle(limits.lo as u64);
             put_settled(s, at, summary, outcome)
         }
-        Answer::Refused(n) => put_line(s, at, b"refused ", n),
+        Err(refusal) => put_line(s, at, b"refused ", refusal.number()),
     }
 }
 
 // Writes the lines of a summary whose events do this from the start to `s` from `at` on, and answers the place behind them.
-fn put_settled(s: &mut [u8], at: usize, summary: Summary, outcome: Outcome) -> usize
+fn put_settled(
+    s: &mut [u8],
+    at: usize,
+    summary: Summary,
+    outcome: Result<Option<u64>, Refusal>,
+) -> usize
     requires { at + length (settled_text summary outcome) ≤ length s.old }
     ensures value { result ≡ at + length (settled_text summary outcome) }
     ensures s_after { s.new ≡ put s.old at (settled_text summary outcome) }
 {
     match outcome {
-        Outcome::Permitted(credit) => {
+        Ok(end) => {
             let verdict = put_started(s, at, summary);
-            put_line(s, verdict, b" permitted end ", credit)
+            match end {
+                Some(credit) => put_line(s, verdict, b" permitted end ", credit),
+                None => put_words(s, verdict, b" not permitted\n"),
+            }
         }
-        Outcome::NotPermitted => {
-            let verdict = put_started(s, at, summary);
-            put_words(s, verdict, b" not permitted\n")
-        }
-        Outcome::Refused(n) => put_line(s, at, b"refused ", n),
+        Err(refusal) => put_line(s, at, b"refused ", refusal.number()),
     }
 }
 
@@ -141,10 +146,7 @@ pub fn put_words(s: &mut [u8], at: usize, words: &[u8]) -> usize
     ensures value { result ≡ at + length words.now }
     ensures s_after { s.new ≡ put s.old at words.now }
 {
-    let mut i = 0;
-    while i < words.len() {
-        s[at + i] = words[i];
-        i += 1;
-    }
-    at + i
+    let end = at + words.len();
+    s[at..end].copy_from_slice(words);
+    end
 }

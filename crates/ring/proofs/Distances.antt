@@ -7,6 +7,7 @@ use native.Mathlib.Nat.{mod-lt, mod-eq_of_lt, mod-eq-sub-mod}
 use native.Mathlib.Omega.{arith}
 use Rattle.decide.proofs.Cases.{by_cases, le_or}
 use Rattle.ring.specs.declared.Way.TheVariants.{Left, Right}
+use Rattle.ring.specs.Links.{Stands}
 use Rattle.ring.specs.Choosing.{distance_of, Between, Placed}
 
 -- two stations that differ
@@ -18,6 +19,9 @@ lower_or_higher own target differ =
 
 pub between : {stations own target links : ℕ} → Placed stations own target links → Between stations own target
 between place = record { small = place.small; station = place.station; reached = place.reached }
+
+pub stands : {stations own target links : ℕ} → Placed stations own target links → Stands stations own links
+stands place = record { small = place.small; station = place.station; clear = place.clear }
 
 module _ (stations own target : ℕ) (b : Between stations own target) where
   -- a target with a higher number lies ahead on the right

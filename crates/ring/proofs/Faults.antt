@@ -6,14 +6,17 @@ use mathlib.Core.List.{List, [], ◌∷◌, ◌++◌}
 use mathlib.Core.Path.{◌≡◌, refl, sym, ap, ◌∙◌}
 use native.Mathlib.Omega.{arith}
 use Rattle.decide.specs.Test.{test}
+use Rattle.std.specs.Prelude.{Ok, Err}
+use Rattle.decide.specs.Number.{refusal_of}
+use Rattle.decide.specs.declared.refusal.Refusal.{Refusal}
+use Rattle.decide.proofs.Number.{number_told}
 use Rattle.decide.specs.Refusal.{Fault, fault, first_of, refused_or, ranked, in_order, chained, Given}
-use Rattle.decide.proofs.Refusal.{in_order_lem, first_exact}
+use Rattle.decide.proofs.Given.{in_order_lem, first_exact}
 use Rattle.decide.proofs.Refused.{of_answer, carried_by, refused_by, number_by, unrefused}
 use Rattle.ring.specs.declared.Way.{Way}
 use Rattle.ring.proofs.Exactly.{size_exactly, word_exactly, index_exactly, no_way_exactly}
 use Rattle.ring.specs.declared.Choice.{Choice}
-use Rattle.ring.specs.declared.Choice.TheVariants.{Chosen, Refused}
-use Rattle.ring.specs.Choosing.{reaches_of, along_of, way_of, no_way, goes_of, bad_size, bad_word, bad_index, bad_code, place_faults, choose_faults, choose_of, choice_number, Placed}
+use Rattle.ring.specs.Choosing.{reaches_of, along_of, way_of, no_way, goes_of, bad_size, bad_word, bad_index, bad_code, place_faults, choose_faults, misplaced_of, choose_of, ChoiceAnswer, chosen_as, no_choice, choice_number, Placed}
 
 -- ---- the place's faults
 
@@ -65,6 +68,24 @@ module _ (stations own target links : ℕ) where
   pub good : test (bad_size stations) ≡ false → test (bad_word stations links) ≡ false → test (bad_index stations own target) ≡ false → 0 ≡ place
   good e f g = sym (tried ∙ rw (e, f, g))
 
+  -- the number of the place tells what is amiss;
+  pub misplaced_by : {n : ℕ} → n ≡ place → refused_or (λ m. Err (refusal_of m)) n (Ok tt) ≡ misplaced_of stations own target links
+  unfolding misplaced_of
+  misplaced_by e = ap (λ (m : ℕ). refused_or (λ m. Err (refusal_of m)) m (Ok tt)) e
+
+  -- where nothing is amiss no row applies,
+  pub in_place : {u : Unit {0}} → misplaced_of stations own target links ≡ Ok u → place ≡ 0
+  unfolding misplaced_of
+  in_place {u} = of_answer _ _ (λ a. a ≡ Ok u → place ≡ 0) place (λ z e. z) (λ h e. let f : ◌≡◌ {A = ℕ} 0 1 = cc in absurd (omega arith))
+
+  -- and what is amiss is the refusal of the row that counts
+  pub amiss : (r : Refusal) → misplaced_of stations own target links ≡ Err r → (place ≡ 0 → ⊥) × (r ≡ refusal_of place)
+  unfolding misplaced_of
+  amiss r =
+      of_answer _ _ (λ a. a ≡ Err r → (place ≡ 0 → ⊥) × (r ≡ refusal_of place)) place
+      (λ z e. let f : ◌≡◌ {A = ℕ} 0 1 = cc in absurd (omega arith))
+      (λ h e. (λ z. omega arith, cc))
+
   -- no fault: two stations of a ring
   pub placed : place ≡ 0 → Placed stations own target links
   placed e =
@@ -98,6 +119,10 @@ exactly_by rows r number refused done bears none n h =
 
 -- ---- the choice's faults
 
+-- one choice holds what the other holds
+pub same_choice : {a b : Choice} → ◌≡◌ {A = ChoiceAnswer} (Ok a) (Ok b) → a ≡ b
+same_choice e = cc
+
 -- 8 has no other cause
 eight : (a b c d e : Bool) → ◌≡◌ {A = ℕ} (then (cond a 1 (cond b 3 (cond c 3 0))) (cond d 3 (cond e 8 0))) 8
     → (◌≡◌ {A = ℕ} (cond a 1 (cond b 3 (cond c 3 0))) 0) × (e ≡ true)
@@ -116,10 +141,10 @@ module _ (stations own target links side protection ring : ℕ) where
   abbrev own_rows : ℕ
   own_rows = cond (test (bad_code side protection ring)) 3 (cond (no_way stations own target links protection) 8 0)
 
-  abbrev answer : ℕ → Choice
-  answer n = refused_or Refused n (along_of (way_of stations own target links side protection) stations own target protection ring)
+  abbrev answer : ℕ → ChoiceAnswer
+  answer n = refused_or no_choice n (along_of (way_of stations own target links side protection) stations own target protection ring)
 
-  abbrev chosen : Choice
+  abbrev chosen : ChoiceAnswer
   chosen = choose_of stations own target links side protection ring
 
   abbrev rows : List Fault
@@ -133,10 +158,16 @@ module _ (stations own target links side protection ring : ℕ) where
       (fault 3 (test (bad_code side protection ring)) ∷ fault 8 (no_way stations own target links protection) ∷ [])
       refl)
 
-  pub refused_place : (n : ℕ) → n ≡ place₀ → (n ≡ 0 → ⊥) → Refused n ≡ chosen
+  pub refused_place : (n : ℕ) → n ≡ place₀ → (n ≡ 0 → ⊥) → no_choice n ≡ chosen
   refused_place n e f =
       let h : 0 < n = omega (arith, f) in
       sym (opened ∙ ap (λ (m : ℕ). answer (then m own_rows)) (sym e) ∙ ap answer (refused_by _ _ n h) ∙ refused_by _ _ n h)
+
+  -- what is amiss with the place is amiss with the choice
+  pub misplaced_choice : (r : Refusal) → misplaced_of stations own target links ≡ Err r → Err r ≡ chosen
+  misplaced_choice r e =
+      let p = amiss stations own target links r e in
+      ap Err p.1 ∙ refused_place place₀ refl p.0
 
   coded : {b : Bool} → place₀ ≡ 0 → test (bad_code side protection ring) ≡ b
       → chosen ≡ answer (cond b 3 (cond (no_way stations own target links protection) 8 0))
@@ -144,7 +175,7 @@ module _ (stations own target links side protection ring : ℕ) where
       opened ∙ ap answer (carried_by _ _ _ e)
       ∙ ap (λ (c : Bool). answer (cond c 3 (cond (no_way stations own target links protection) 8 0))) f
 
-  pub refused_code : place₀ ≡ 0 → test (bad_code side protection ring) ≡ true → Refused 3 ≡ chosen
+  pub refused_code : place₀ ≡ 0 → test (bad_code side protection ring) ≡ true → no_choice 3 ≡ chosen
   unfolding refused_or
   refused_code e f = sym (coded e f)
 
@@ -154,13 +185,13 @@ module _ (stations own target links side protection ring : ℕ) where
   in_range_lem e f =
       sym (coded e f ∙ settled (no_way stations own target links protection))
     where
-      settled : (b : Bool) → answer (cond b 8 0) ≡ cond b (Refused 8) (answer 0)
+      settled : (b : Bool) → answer (cond b 8 0) ≡ cond b (no_choice 8) (answer 0)
       settled true = refl
       settled false = refl
 
   numbered : (n : ℕ) → choice_number (answer n) ≡ n
   unfolding along_of
-  numbered = number_by choice_number Refused _ (λ m. refl) refl
+  numbered = number_by choice_number no_choice _ number_told refl
 
   -- the answer's number is that of the rows
   pub number_first : choice_number chosen ≡ first_of rows
@@ -169,13 +200,13 @@ module _ (stations own target links side protection ring : ℕ) where
 
   -- "Given exactly when": the choice is refused with n exactly when a row with n applies and none before it does.
   pub refused_exactly : (n : ℕ) → 0 < n
-      → (chosen ≡ Refused n → Given rows n)
-      × (Given rows n → chosen ≡ Refused n)
+      → (chosen ≡ no_choice n → Given rows n)
+      × (Given rows n → chosen ≡ no_choice n)
   unfolding choose_of along_of
-  refused_exactly = exactly_by rows refl choice_number Refused _ (λ m. refl) refl
+  refused_exactly = exactly_by rows refl choice_number no_choice _ number_told refl
 
   -- 8 says that the numbers are in range and that neither side reaches.
-  pub no_way_means : chosen ≡ Refused 8
+  pub no_way_means : chosen ≡ no_choice 8
       → Placed stations own target links × ((way : Way) → reaches_of way stations own target links ≡ false)
   no_way_means e =
       let n : then place₀ own_rows ≡ 8 = sym (numbered (then place₀ own_rows)) ∙ ap choice_number (sym opened ∙ e) in
@@ -186,8 +217,8 @@ module _ (stations own target links side protection ring : ℕ) where
       (placed stations own target links (tried stations own target links ∙ z.0), ((no_way_exactly stations own target links protection).0 z.1).1)
 
   -- A side is chosen where the numbers are in range.
-  pub chosen_means : (code distance ttl : ℕ) (mark : Bool) → chosen ≡ Chosen code distance ttl mark
-      → Placed stations own target links × (Chosen code distance ttl mark ≡ along_of (way_of stations own target links side protection) stations own target protection ring)
+  pub chosen_means : (code distance ttl : ℕ) (mark : Bool) → chosen ≡ chosen_as code distance ttl mark
+      → Placed stations own target links × (chosen_as code distance ttl mark ≡ along_of (way_of stations own target links side protection) stations own target protection ring)
   chosen_means code distance ttl mark e =
-      let g = unrefused choice_number Refused _ (λ n. refl) (then place₀ own_rows) (Chosen code distance ttl mark) (sym e ∙ opened) refl in
+      let g = unrefused choice_number no_choice _ number_told (then place₀ own_rows) (chosen_as code distance ttl mark) (sym e ∙ opened) refl in
       (placed stations own target links (then_none place₀ own_rows g.0), g.1)

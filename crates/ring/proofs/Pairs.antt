@@ -8,24 +8,26 @@ use mathlib.Core.Logic.{◌⊎◌, inl, inr}
 use mathlib.Core.Path.{◌≡◌, refl, sym, ap, ap₂, ◌∙◌, subst}
 use native.Mathlib.Omega.{arith}
 use lib.Dec.{leb, leb-zero, leb-suc-zero, leb-suc-suc}
+use Rattle.std.specs.Prelude.{Err}
 use Rattle.decide.specs.Test.{test, Holds}
 use Rattle.decide.specs.Refusal.{first_of}
+use Rattle.decide.specs.Number.{refusal_of}
+use Rattle.decide.specs.declared.refusal.Refusal.{Refusal}
 use Rattle.decide.proofs.Cases.{by_cases, le_or, true_or_false}
 use Rattle.decide.proofs.Tests.{same_test}
-use Rattle.decide.proofs.Refusal.{in_order_lem}
+use Rattle.decide.proofs.Given.{in_order_lem}
 use Rattle.ring.specs.declared.Way.{Way}
 use Rattle.ring.specs.declared.Way.TheVariants.{Left, Right}
-use Rattle.ring.specs.declared.Choice.{Choice}
-use Rattle.ring.specs.declared.Choice.TheVariants.{Chosen, Refused}
 use Rattle.ring.specs.Links.{usable, other_of, next_of, link_of, ahead_of, run_of, station_after}
-use Rattle.ring.specs.Choosing.{code_of, protected_of, wrapping_of, distance_of, tie_of, shorter_of, reaches_of, preferred_of, taken_of, along_of, way_of, no_way, goes_of, bad_size, bad_word, bad_index, bad_code, place_faults, choose_of, Between, Placed}
+use Rattle.ring.specs.declared.Choice.{Choice}
+use Rattle.ring.specs.Choosing.{code_of, protected_of, wrapping_of, distance_of, tie_of, shorter_of, reaches_of, preferred_of, taken_of, along_of, way_of, no_way, goes_of, bad_size, bad_word, bad_index, bad_code, place_faults, choose_of, ChoiceAnswer, chosen_as, no_choice, Between, Placed}
 use Rattle.ring.specs.Pairs.{links_of, Together}
 use Rattle.ring.proofs.Around.{next_of_lt}
 use Rattle.ring.proofs.Distances.{lower_or_higher, between, right_ahead, right_round, whole_ring}
 use Rattle.ring.proofs.Hops.{after_suc, back, covered, arrives}
 use Rattle.ring.proofs.Links.{both_ends}
 use Rattle.ring.proofs.Rows.{tie_lower, tie_otherwise, prefers, shorter_is, tie_is}
-use Rattle.ring.proofs.Faults.{placed, refused_place, refused_code, in_range_lem}
+use Rattle.ring.proofs.Faults.{placed, same_choice, refused_place, refused_code, in_range_lem}
 
 -- ---- the links of a way, seen from its other end
 
@@ -161,7 +163,7 @@ module _ (n a b : ℕ) (pair : Between n a b) (differ : a ≡ b → ⊥) where
 
 -- ---- what the two ends are answered
 
-never : {code distance ttl n : ℕ} {mark : Bool} → Refused n ≡ Chosen code distance ttl mark → ⊥
+never : {code distance ttl : ℕ} {mark : Bool} {r : Refusal} → Err r ≡ chosen_as code distance ttl mark → ⊥
 never e = let z : ◌≡◌ {A = ℕ} 0 1 = cc in omega arith
 
 same_side : (v w : Way) → code_of v ≡ code_of w → v ≡ w
@@ -171,23 +173,29 @@ same_side Right Left e = absurd (omega arith)
 same_side Right Right e = refl
 
 -- refused alike
-neither : {stations a b : ℕ} (n : ℕ) → Together stations a b (Refused n) (Refused n)
-neither n =
+neither : {stations a b : ℕ} (r : Refusal) → Together stations a b (Err r) (Err r)
+neither r =
     record {
       opposite = λ way distance ttl mark e. absurd (never e);
       links = λ way distance ttl mark e. absurd (never e);
-      refused = λ m e. e;
+      refused = λ s e. e;
     }
 
 -- opposite sides and the same links
 both : {stations a b : ℕ} (way : Way) (distance ttl : ℕ) (mark : Bool)
     → links_of way stations a distance ≡ reverse (links_of (other_of way) stations b distance)
-    → Together stations a b (Chosen (code_of way) distance ttl mark) (Chosen (code_of (other_of way)) distance ttl mark)
+    → Together stations a b (chosen_as (code_of way) distance ttl mark) (chosen_as (code_of (other_of way)) distance ttl mark)
 both {stations} {a} {b} way distance ttl mark same =
     record {
-      opposite = λ w d t m e. let i : code_of way ≡ code_of w = cc in let s = same_side way w i in rw (← s) (cc);
-      links = λ w d t m e. let i : code_of way ≡ code_of w = cc in let s = same_side way w i in let f : distance ≡ d = cc in rw (← s, ← f) same;
-      refused = λ n e. absurd (never (sym e));
+      opposite = λ w d t m e.
+          let c = same_choice e in
+          let s = same_side way w (ap (λ (c : Choice). c.side) c) in
+          rw (← s) (ap (λ (c : Choice). chosen_as (code_of (other_of way)) c.distance c.ttl c.mark) c);
+      links = λ w d t m e.
+          let c = same_choice e in
+          let s = same_side way w (ap (λ (c : Choice). c.side) c) in
+          rw (← s, ← ap (λ (c : Choice). c.distance) c) same;
+      refused = λ r e. absurd (never (sym e));
     }
 
 -- where the preferred side yields to the other, so does the opposite of the preferred side
@@ -222,27 +230,27 @@ module _ (n a b w side protection ring : ℕ) (place : Placed n a b w) (default 
       ∙ and_comm (not (reaches_of Right n a b w)) (not (reaches_of Left n a b w)))
 
   -- the answer back, by the numbers of the way there
-  abbrev answer_back : Choice
+  abbrev answer_back : ChoiceAnswer
   answer_back =
-      Chosen (code_of (other_of taken)) far (cond (wrapping_of ring) 63 far) (protected_of protection && wrapping_of ring)
+      chosen_as (code_of (other_of taken)) far (cond (wrapping_of ring) 63 far) (protected_of protection && wrapping_of ring)
 
   along_back : along_of (way_of n b a w side protection) n b a protection ring ≡ answer_back
   unfolding along_of
   along_back =
       ap (λ (v : Way). along_of v n b a protection ring) taken_back
       ∙ ap
-      (λ (d : ℕ). Chosen (code_of (other_of taken)) d (cond (wrapping_of ring) 63 d) (protected_of protection && wrapping_of ring))
+      (λ (d : ℕ). chosen_as (code_of (other_of taken)) d (cond (wrapping_of ring) 63 d) (protected_of protection && wrapping_of ring))
       (distance_back n a b (between place) place.differ taken)
 
   goes_together : Together n a b (goes_of n a b w side protection ring) (goes_of n b a w side protection ring)
   unfolding goes_of along_of
   goes_together =
-      subst (λ (c : Choice). Together n a b (goes_of n a b w side protection ring) c)
-      (sym (ap₂ (λ (no : Bool) (c : Choice). cond no (Refused 8) c) no_way_back along_back))
+      subst (λ (c : ChoiceAnswer). Together n a b (goes_of n a b w side protection ring) c)
+      (sym (ap₂ (λ (no : Bool) (c : ChoiceAnswer). cond no (no_choice 8) c) no_way_back along_back))
       (by_way (no_way n a b w protection))
     where
-      by_way : (no : Bool) → Together n a b (cond no (Refused 8) (along_of taken n a b protection ring)) (cond no (Refused 8) answer_back)
-      by_way true = neither 8
+      by_way : (no : Bool) → Together n a b (cond no (no_choice 8) (along_of taken n a b protection ring)) (cond no (no_choice 8) answer_back)
+      by_way true = neither (refusal_of 8)
       by_way false = both taken far _ _ (way_back_lem n a b (between place) place.differ taken)
 
 -- ---- for any numbers at all
@@ -261,9 +269,9 @@ place_back n a b w =
     (same_test (bad_index n a b) (bad_index n b a) (ends_out n a b) (ends_out n b a))
     ∙ sym (in_order_lem (place_faults n b a w) refl)
 
-alike : {n a b : ℕ} {x x' y y' : Choice} → x ≡ x' → y ≡ y' → Together n a b x y → Together n a b x' y'
+alike : {n a b : ℕ} {x x' y y' : ChoiceAnswer} → x ≡ x' → y ≡ y' → Together n a b x y → Together n a b x' y'
 alike {n} {a} {b} {x} {x'} {y} {y'} e f t =
-    subst (λ (c : Choice). Together n a b x' c) f (subst (λ (c : Choice). Together n a b c y) e t)
+    subst (λ (c : ChoiceAnswer). Together n a b x' c) f (subst (λ (c : ChoiceAnswer). Together n a b c y) e t)
 
 -- By default, or with nothing specified, the links from a to b are those from b to a, reversed, whatever links are down: so one cut cannot half-break a pair.
 -- It holds of any two stations, and so on a tie; on a ring of either kind, protected or not; and where one end is refused so is the other.
@@ -278,13 +286,13 @@ pair_together n a b w side protection ring default = by_cases (le_or 1 m) mispla
     misplaced h =
         alike (refused_place n a b w side protection ring m refl (λ e. omega arith))
         (refused_place n b a w side protection ring m (place_back n a b w) (λ e. omega arith))
-        (neither m)
+        (neither (refusal_of m))
 
     in_place : m < 1 → Together n a b (choose_of n a b w side protection ring) (choose_of n b a w side protection ring)
     in_place h =
         let none : m ≡ 0 = omega arith in
         let none-back : first_of (place_faults n b a w) ≡ 0 = sym (place_back n a b w) ∙ none in
         by_cases (true_or_false (test (bad_code side protection ring)))
-        (λ e. alike (refused_code n a b w side protection ring none e) (refused_code n b a w side protection ring none-back e) (neither 3))
+        (λ e. alike (refused_code n a b w side protection ring none e) (refused_code n b a w side protection ring none-back e) (neither (refusal_of 3)))
         (λ e. alike (in_range_lem n a b w side protection ring none e) (in_range_lem n b a w side protection ring none-back e)
         (goes_together n a b w side protection ring (placed n a b w none) default))

@@ -10,10 +10,8 @@ use Rattle.decide.specs.Test.{test}
 use Rattle.decide.proofs.Cases.{by_cases}
 use Rattle.ring.specs.declared.Way.{Way}
 use Rattle.ring.specs.declared.Way.TheVariants.{Left, Right}
-use Rattle.ring.specs.declared.Choice.{Choice}
-use Rattle.ring.specs.declared.Choice.TheVariants.{Chosen, Refused}
 use Rattle.ring.specs.Links.{other_of}
-use Rattle.ring.specs.Choosing.{code_of, protected_of, distance_of, tie_of, shorter_of, reaches_of, preferred_of, taken_of, along_of, no_way, goes_of, choose_of, Placed}
+use Rattle.ring.specs.Choosing.{code_of, protected_of, distance_of, tie_of, shorter_of, reaches_of, preferred_of, taken_of, along_of, no_way, goes_of, choose_of, ChoiceAnswer, chosen_as, no_choice, Placed}
 use Rattle.ring.proofs.Exactly.{code_exactly}
 use Rattle.ring.proofs.Faults.{placed_free, in_range_lem}
 
@@ -36,20 +34,20 @@ no_way_lem R Right e f = rw (f, e)
 -- ---- in range, over the preferred side
 
 module _ (stations own target links side protection ring : ℕ) (first : Way) (preferred : first ≡ preferred_of side stations own target) where
-  abbrev goes : Choice
+  abbrev goes : ChoiceAnswer
   goes = goes_of stations own target links side protection ring
 
-  abbrev along₀ : Way → Choice
+  abbrev along₀ : Way → ChoiceAnswer
   along₀ way = along_of way stations own target protection ring
 
   abbrev reaches₀ : Way → Bool
   reaches₀ way = reaches_of way stations own target links
 
-  opened : goes ≡ cond (no_way stations own target links protection) (Refused 8) (along₀ (taken_of (protected_of protection) first (reaches₀ first)))
+  opened : goes ≡ cond (no_way stations own target links protection) (no_choice 8) (along₀ (taken_of (protected_of protection) first (reaches₀ first)))
   unfolding goes_of
   opened =
       ap
-      (λ (w : Way). cond (no_way stations own target links protection) (Refused 8) (along₀ (taken_of (protected_of protection) w (reaches₀ w))))
+      (λ (w : Way). cond (no_way stations own target links protection) (no_choice 8) (along₀ (taken_of (protected_of protection) w (reaches₀ w))))
       (sym preferred)
 
   pub goes_regardless : protection ≡ 2 → along₀ first ≡ goes
@@ -66,7 +64,7 @@ module _ (stations own target links side protection ring : ℕ) (first : Way) (p
     goes_second e =
         sym (opened ∙ rw (some_way (protected_of protection) reaches₀ second e, ne_eqb protection 2 protected, short) (ap along₀ (sym opposite)))
 
-    pub goes_nowhere : reaches₀ second ≡ false → Refused 8 ≡ goes
+    pub goes_nowhere : reaches₀ second ≡ false → no_choice 8 ≡ goes
     unfolding no_way
     goes_nowhere e =
         sym (opened ∙ rw (ne_eqb protection 2 protected, no_way_lem reaches₀ first short (ap reaches₀ (sym opposite) ∙ e)))
@@ -128,10 +126,10 @@ one_two e = omega arith
 -- ---- the rows
 
 module _ (stations own target links ring : ℕ) (place : Placed stations own target links) (coded : ring ≤ 1) where
-  abbrev chosen : ℕ → ℕ → Choice
+  abbrev chosen : ℕ → ℕ → ChoiceAnswer
   chosen side protection = choose_of stations own target links side protection ring
 
-  abbrev along : Way → ℕ → Choice
+  abbrev along : Way → ℕ → ChoiceAnswer
   along way protection = along_of way stations own target protection ring
 
   abbrev reaches : Way → Bool
@@ -160,7 +158,7 @@ module _ (stations own target links ring : ℕ) (place : Placed stations own tar
         sym (within side 1 s (omega arith))
         ∙ sym (goes_second stations own target links side 1 ring way (sym preferred) one_two e (other_of way) refl f)
 
-    refused : reaches way ≡ false → reaches (other_of way) ≡ false → chosen side 1 ≡ Refused 8
+    refused : reaches way ≡ false → reaches (other_of way) ≡ false → chosen side 1 ≡ no_choice 8
     refused e f =
         sym (within side 1 s (omega arith))
         ∙ sym (goes_nowhere stations own target links side 1 ring way (sym preferred) one_two e (other_of way) refl f)
@@ -178,7 +176,7 @@ module _ (stations own target links ring : ℕ) (place : Placed stations own tar
   protected_other way = rescued (code_of way) way (coded_way way) (asked way stations own target)
 
   -- else 8.
-  pub protected_none : (way : Way) → reaches way ≡ false → reaches (other_of way) ≡ false → chosen (code_of way) 1 ≡ Refused 8
+  pub protected_none : (way : Way) → reaches way ≡ false → reaches (other_of way) ≡ false → chosen (code_of way) 1 ≡ no_choice 8
   protected_none way = refused (code_of way) way (coded_way way) (asked way stations own target)
 
   -- Unprotected: that side regardless.
@@ -204,10 +202,10 @@ module _ (stations own target links ring : ℕ) (place : Placed stations own tar
   default_tie h = reached 3 (tie_of own target) (omega arith) (by_default stations own target ∙ tie_is stations own target h)
 
   -- 8 if none.
-  pub default_none : reaches Left ≡ false → reaches Right ≡ false → chosen 3 1 ≡ Refused 8
+  pub default_none : reaches Left ≡ false → reaches Right ≡ false → chosen 3 1 ≡ no_choice 8
   default_none e f = go (shorter_of stations own target) refl
     where
-      go : (first : Way) → shorter_of stations own target ≡ first → chosen 3 1 ≡ Refused 8
+      go : (first : Way) → shorter_of stations own target ≡ first → chosen 3 1 ≡ no_choice 8
       go Left p = refused 3 Left (omega arith) (by_default stations own target ∙ p) e f
       go Right p = refused 3 Right (omega arith) (by_default stations own target ∙ p) f e
 
@@ -244,16 +242,16 @@ module _ (way : Way) (stations own target : ℕ) where
   hops = distance_of way stations own target
 
   -- ttl: the distance on a steering ring, which marks nothing;
-  pub steering : (protection : ℕ) → along_of way stations own target protection 0 ≡ Chosen (code_of way) hops hops false
+  pub steering : (protection : ℕ) → along_of way stations own target protection 0 ≡ chosen_as (code_of way) hops hops false
   unfolding along_of
-  steering protection = ap (λ (b : Bool). Chosen (code_of way) hops hops b) (and_off (protected_of protection))
+  steering protection = ap (λ (b : Bool). chosen_as (code_of way) hops hops b) (and_off (protected_of protection))
 
   -- 63 on a wrapping one, which marks what is protected
-  pub wrapping_protected : along_of way stations own target 1 1 ≡ Chosen (code_of way) hops 63 true
+  pub wrapping_protected : along_of way stations own target 1 1 ≡ chosen_as (code_of way) hops 63 true
   unfolding along_of
   wrapping_protected = refl
 
   -- and nothing else.
-  pub wrapping_unprotected : along_of way stations own target 2 1 ≡ Chosen (code_of way) hops 63 false
+  pub wrapping_unprotected : along_of way stations own target 2 1 ≡ chosen_as (code_of way) hops 63 false
   unfolding along_of
   wrapping_unprotected = refl

@@ -1,13 +1,14 @@
 -- Which side a frame takes round the ring, and when it is refused.
 -- Assumes nothing: these are definitions.
-use Rattle.std.specs.Prelude.{ℕ, ◌+◌, ◌-◌, ◌/◌, ◌%◌, ◌^◌, ◌<◌, Bool, cond, not, ◌&&◌, List, [], ◌∷◌, ◌++◌, ◌≡◌, eqb, ltb, leb}
+use Rattle.std.specs.Prelude.{ℕ, ◌+◌, ◌-◌, ◌/◌, ◌%◌, ◌^◌, ◌<◌, Bool, cond, not, ◌&&◌, List, [], ◌∷◌, ◌++◌, ◌≡◌, eqb, ltb, leb, Result, Ok, Err}
 use Rattle.decide.specs.Test.{Test, test, ◌≤?◌, ◌<?◌, ◌≡?◌, ◌∨?◌}
 use Rattle.decide.specs.Refusal.{Fault, fault, first_of, refused_or}
+use Rattle.decide.specs.Number.{number_in, refusal_of}
+use Rattle.decide.specs.declared.refusal.Refusal.{Refusal}
 use Rattle.ring.specs.Links.{other_of, reach_of}
 use Rattle.ring.specs.declared.Way.{Way}
 use Rattle.ring.specs.declared.Way.TheVariants.{Left, Right}
 use Rattle.ring.specs.declared.Choice.{Choice}
-use Rattle.ring.specs.declared.Choice.TheVariants.{Chosen, Refused}
 
 -- ---- the host's codes
 
@@ -23,6 +24,19 @@ protected_of protection = not (eqb protection 2)
 -- Ring: steering 0, wrapping 1.
 abbrev pub wrapping_of : ℕ → Bool
 wrapping_of ring = eqb ring 1
+
+-- ---- what a choice answers
+
+abbrev pub ChoiceAnswer : Type 0
+ChoiceAnswer = Result Choice Refusal
+
+-- the side taken, by its code, with its distance, ttl and wrap mark
+abbrev pub chosen_as : ℕ → ℕ → ℕ → Bool → ChoiceAnswer
+chosen_as code distance ttl mark = Ok (record { side = code; distance = distance; ttl = ttl; mark = mark })
+
+-- or the refusal of a number
+abbrev pub no_choice : ℕ → ChoiceAnswer
+no_choice n = Err (refusal_of n)
 
 -- ---- distances
 
@@ -58,9 +72,9 @@ taken_of protected way reaches = cond (protected && not reaches) (other_of way) 
 
 -- The answer for a side: its distance, the ttl (the distance on a steering ring, 63 on a wrapping one) and the wrap mark (protected on a
 -- wrapping ring).
-unfoldable pub along_of : Way → ℕ → ℕ → ℕ → ℕ → ℕ → Choice
+unfoldable pub along_of : Way → ℕ → ℕ → ℕ → ℕ → ℕ → ChoiceAnswer
 along_of way stations own target protection ring =
-    Chosen (code_of way) (distance_of way stations own target)
+    chosen_as (code_of way) (distance_of way stations own target)
     (cond (wrapping_of ring) 63 (distance_of way stations own target))
     (protected_of protection && wrapping_of ring)
 
@@ -76,9 +90,9 @@ no_way stations own target links protection =
     protected_of protection && (not (reaches_of Left stations own target links) && not (reaches_of Right stations own target links))
 
 -- The answer in range: 8 where there is no usable way.
-unfoldable pub goes_of : ℕ → ℕ → ℕ → ℕ → ℕ → ℕ → ℕ → Choice
+unfoldable pub goes_of : ℕ → ℕ → ℕ → ℕ → ℕ → ℕ → ℕ → ChoiceAnswer
 goes_of stations own target links side protection ring =
-    cond (no_way stations own target links protection) (Refused 8)
+    cond (no_way stations own target links protection) (no_choice 8)
     (along_of (way_of stations own target links side protection) stations own target protection ring)
 
 -- ---- refusals
@@ -104,6 +118,10 @@ abbrev pub place_faults : ℕ → ℕ → ℕ → ℕ → List Fault
 place_faults stations own target links =
     fault 1 (test (bad_size stations)) ∷ fault 3 (test (bad_word stations links)) ∷ fault 3 (test (bad_index stations own target)) ∷ []
 
+-- What is amiss with a place: nothing, or the refusal of the number of its first fault.
+unfoldable pub misplaced_of : ℕ → ℕ → ℕ → ℕ → Result (Unit {0}) Refusal
+misplaced_of stations own target links = refused_or (λ n. Err (refusal_of n)) (first_of (place_faults stations own target links)) (Ok tt)
+
 -- The choice's faults.
 abbrev pub choose_faults : ℕ → ℕ → ℕ → ℕ → ℕ → ℕ → ℕ → List Fault
 choose_faults stations own target links side protection ring =
@@ -111,15 +129,15 @@ choose_faults stations own target links side protection ring =
     ++ (fault 3 (test (bad_code side protection ring)) ∷ fault 8 (no_way stations own target links protection) ∷ [])
 
 -- The choice, for any numbers at all: the number of the first fault alone, as a refusal, or the side chosen where there is none.
-unfoldable pub choose_of : ℕ → ℕ → ℕ → ℕ → ℕ → ℕ → ℕ → Choice
+unfoldable pub choose_of : ℕ → ℕ → ℕ → ℕ → ℕ → ℕ → ℕ → ChoiceAnswer
 choose_of stations own target links side protection ring =
-    refused_or Refused (first_of (choose_faults stations own target links side protection ring))
+    refused_or no_choice (first_of (choose_faults stations own target links side protection ring))
     (along_of (way_of stations own target links side protection) stations own target protection ring)
 
 -- Document 01's number of an answer: 0 where the choice was made.
-abbrev pub choice_number : Choice → ℕ
-choice_number (Chosen side distance ttl mark) = 0
-choice_number (Refused n) = n
+abbrev pub choice_number : ChoiceAnswer → ℕ
+choice_number (Ok c) = 0
+choice_number (Err r) = number_in r
 
 -- two stations of a ring of at most 63
 pub record Between (stations own target : ℕ) : Type 0 where

@@ -1,20 +1,32 @@
 -- Bytes that are laid one behind the other: an item by its fields, and so many equal events one by one.
 -- Assumes nothing.
-use Prim.Native.Nat.{ℕ, zero, suc, ◌+◌, ◌*◌, ◌-◌, ◌≤◌, ◌<◌}
+use Prim.Native.Nat.{ℕ, zero, suc, ◌+◌, ◌*◌, ◌-◌, ◌/◌, ◌%◌, ◌≤◌, ◌<◌}
 use mathlib.Core.List.{List, [], ◌∷◌, append-nil}
-use mathlib.Core.Path.{◌≡◌, refl, ◌∙◌}
+use mathlib.Core.Path.{◌≡◌, refl, sym, ap, ◌∙◌}
 use native.Mathlib.Omega.{arith}
 use borrow.Author.Tests.{eq-eqb, ne_eqb}
 use lib.ListN.{length, drop, length-append}
 use Rattle.decide.specs.Test.{◌≡?◌, split}
 use Rattle.decide.proofs.Cases.{by_cases}
-use Rattle.wire.specs.Wire.{le, put}
+use Rattle.wire.specs.Wire.{le, digits, put, Bytes}
 use Rattle.wire.specs.Parts.{number, length_laid_out}
-use Rattle.wire.proofs.Numbers.{le_drop}
+use Rattle.wire.proofs.Numbers.{le_drop, le_halves, put_digits, digits_mod}
 use Rattle.wire.proofs.Puts.{put_put}
 use Rattle.record.specs.Read.{item_kind, item_number, item_count}
 use Rattle.record.proofs.Rows.{run_at, run_not_at, told_event, told_run}
 use Rattle.roll.specs.Steps.{event_fields, run_fields, item_fields, item_length, repeated_fields, item_bytes}
+
+-- ---- a word, of two numbers
+
+-- put, it is its halves one behind the other;
+pub word_put : (xs : List ℕ) (at v : ℕ) → at + 4 ≤ length xs → put xs at (digits 4 v) ≡ put (put xs at (digits 2 (v % 65536))) (at + 2) (digits 2 (v / 65536))
+word_put xs at v h = rw (digits_mod 2 v) (sym (put_digits 2 2 xs at v h))
+
+-- read, it is the two numbers that it stands for
+pub word_read : (xs : List ℕ) (at next w k v : ℕ) → Bytes xs → next ≡ at + 2 → w ≡ le 4 xs at → k ≡ le 2 xs at → v ≡ le 2 xs next → (w % 65536 ≡ k) × (w / 65536 ≡ v)
+word_read xs at next w k v b n e ek ev =
+    let h = le_halves xs at b in
+    (ap (λ (x : ℕ). x % 65536) e ∙ h.0 ∙ sym ek, ap (λ (x : ℕ). x / 65536) e ∙ h.1 ∙ sym (rw n at ev))
 
 -- ---- an item
 

@@ -8,6 +8,8 @@ use mathlib.Core.Path.{◌≡◌, refl, sym, ap, ◌∙◌}
 use native.Mathlib.Omega.{arith}
 use lib.ListN.{length}
 use Rattle.decide.specs.Refusal.{Fault, Among, Given}
+use Rattle.std.specs.Prelude.{Ok, Err}
+use Rattle.decide.specs.Number.{refusal_of}
 use Rattle.decide.proofs.Cases.{of_each}
 use Rattle.wire.specs.Wire.{Bytes}
 use Rattle.shaper.specs.declared.Limits.{Limits}
@@ -16,8 +18,7 @@ use Rattle.record.specs.Record.{written}
 use Rattle.record.specs.Read.{header_faults, event_faults, run_faults, is_run, item_faults, Read, unreadable, whole, read_in}
 use Rattle.record.specs.Cause.{Why, too_many, has_fault, passes, Cause, in_header, behind_items}
 use Rattle.record.proofs.Means.{unreadable_means, means_unreadable}
-use Rattle.roll.specs.declared.Moved.TheVariants.{Written, Refused}
-use Rattle.roll.specs.Moved.{Output, refused, bytes, rolled_read, rolled_bytes, unrolled_read, unrolled_bytes, moved_of, left_of}
+use Rattle.roll.specs.Moved.{Moved, moved_number, Output, refused, bytes, rolled_read, rolled_bytes, unrolled_read, unrolled_bytes, moved_of, left_of}
 use Rattle.roll.specs.Exactly.{new_form, Short, Refuses, earliest, no_room, Carried, MovesExactly}
 use Rattle.roll.proofs.Rooms.{row_written, row_short, row_refused, WhyRefused, by_record, too_short, refused_why, Wrote, wrote, left_as_long}
 
@@ -93,27 +94,31 @@ module _ {make : Read → Output} {form : Limits → List Event → List ℕ} (m
     makes : (l : Limits) (es : List Event) → read_in runs xs ≡ whole l es → output ≡ bytes (form l es)
     makes l es e = ap make e ∙ m.gives l es
 
-    refuses : {n : ℕ} → 0 < n → Refuses runs form xs room n → moved_of output room ≡ Refused n
+    refuses : {n : ℕ} → 0 < n → Refuses runs form xs room n → moved_of output room ≡ Err (refusal_of n)
     refuses {n} p (earliest c) = ap (λ (o : Output). moved_of o room) (ap make (means_unreadable runs xs n p c) ∙ m.fails n) ∙ (row_refused n room).0
     refuses p (no_room s) =
         ap (λ (o : Output). moved_of o room) (makes s.limits s.events s.reads) ∙ (row_short (form s.limits s.events) room s.shorter).0
+
+    numbered : (a : Moved) → moved_of output room ≡ a → (n : ℕ) → 0 < n → moved_number a ≡ n → Refuses runs form xs room n
+    numbered (Ok k) e n p z = absurd (omega arith)
+    numbered (Err r) e n p z = rw z at (why refl (refused_why room output r e).0)
 
     short : {n : ℕ} → Refuses runs form xs room n → n ≡ 12 → Short runs form xs room
     short (earliest c) z = absurd (omega (arith, cause_small c))
     short (no_room s) z = s
 
-    carries : {n : ℕ} → moved_of output room ≡ Written n → Carried runs form xs room n
+    carries : {n : ℕ} → moved_of output room ≡ Ok n → Carried runs form xs room n
     carries {n} e =
         let t = wrote room output n e in
         let w = made_whole (read_in runs xs) t.output t.made in
         let k : n ≡ length (form w.limits w.events) = t.counted ∙ ap length w.made in
         record { limits = w.limits; events = w.events; reads = w.reads; counted = k; fits = omega (arith, k, t.fits) }
 
-    carried : {n : ℕ} → Carried runs form xs room n → moved_of output room ≡ Written n
+    carried : {n : ℕ} → Carried runs form xs room n → moved_of output room ≡ Ok n
     carried c =
         ap (λ (o : Output). moved_of o room) (makes c.limits c.events c.reads)
         ∙ (row_written (form c.limits c.events) room c.fits).0
-        ∙ ap Written (sym c.counted)
+        ∙ ap Ok (sym c.counted)
 
     leaves : {n : ℕ} → Carried runs form xs room n → Wrote room (left_of output room) output n
     leaves {n} c = wrote room output n (carried c)
@@ -124,9 +129,9 @@ module _ {make : Read → Output} {form : Limits → List Event → List ℕ} (m
     moves_exactly : MovesExactly runs form xs room output
     moves_exactly =
         record {
-          refused_exactly = λ n p. (λ e. why refl (refused_why room output n e).0, λ r. refuses p r);
-          short_exactly = (λ e. short (why refl (refused_why room output 12 e).0) refl, λ s. refuses (omega arith) (no_room s));
-          refused_leaves = λ n e. (refused_why room output n e).1;
+          refused_exactly = λ n p. (numbered (moved_of output room) refl n p, λ r. refuses p r);
+          short_exactly = (λ e. short (why refl (refused_why room output (refusal_of 12) e).0) refl, λ s. refuses (omega arith) (no_room s));
+          refused_leaves = λ r e. (refused_why room output r e).1;
           written_exactly = λ n. (λ e. carries e, λ c. carried c);
           front = λ c. (leaves c).front ∙ written_form c;
           behind = λ c. (leaves c).behind;

@@ -8,27 +8,30 @@ use native.Mathlib.Omega.{arith}
 use borrow.Author.Tests.{le-leb, lt-leb}
 use lib.ListN.{length, take, drop}
 use lib.Seq.{take_at, drop_at}
+use Rattle.std.specs.Prelude.{Ok, Err}
+use Rattle.decide.specs.declared.refusal.Refusal.{Refusal}
+use Rattle.decide.specs.Number.{number_in, refusal_of}
+use Rattle.decide.proofs.Number.{number_told}
 use Rattle.decide.proofs.Cases.{by_cases, le_or}
 use Rattle.wire.specs.Wire.{put}
 use Rattle.wire.proofs.Puts.{length_put}
-use Rattle.roll.specs.declared.Moved.TheVariants.{Written, Refused}
-use Rattle.roll.specs.Moved.{Output, refused, bytes, moved_of, left_of}
+use Rattle.roll.specs.Moved.{Moved, moved_number, Output, refused, bytes, moved_of, left_of}
 
 -- ---- the rows
 
 module _ (ys room : List ℕ) where
   -- The room is long enough: the output is written into it.
-  pub row_written : length ys ≤ length room → (moved_of (bytes ys) room ≡ Written (length ys)) × (left_of (bytes ys) room ≡ put room 0 ys)
+  pub row_written : length ys ≤ length room → (moved_of (bytes ys) room ≡ Ok (length ys)) × (left_of (bytes ys) room ≡ put room 0 ys)
   unfolding moved_of left_of
   row_written h = (rw (le-leb (length ys) (length room) h), rw (le-leb (length ys) (length room) h))
 
   -- Room too short is 12.
-  pub row_short : length room < length ys → (moved_of (bytes ys) room ≡ Refused 12) × (left_of (bytes ys) room ≡ room)
+  pub row_short : length room < length ys → (moved_of (bytes ys) room ≡ Err (refusal_of 12)) × (left_of (bytes ys) room ≡ room)
   unfolding moved_of left_of
   row_short h = (rw (lt-leb (length ys) (length room) h), rw (lt-leb (length ys) (length room) h))
 
 -- The record's fault comes first, whatever the room.
-pub row_refused : (n : ℕ) (room : List ℕ) → (moved_of (refused n) room ≡ Refused n) × (left_of (refused n) room ≡ room)
+pub row_refused : (n : ℕ) (room : List ℕ) → (moved_of (refused n) room ≡ Err (refusal_of n)) × (left_of (refused n) room ≡ room)
 unfolding moved_of left_of
 row_refused n room = (refl, refl)
 
@@ -57,22 +60,22 @@ put_behind : (room ys : List ℕ) → drop (length ys) (put room 0 ys) ≡ drop 
 unfolding put
 put_behind room ys = drop_at ys (drop (0 + length ys) room) (length ys) refl ∙ rw zero-add
 
-not_both : {m n : ℕ} → Written m ≡ Refused n → ⊥
+not_both : {m : ℕ} {r : Refusal} → ◌≡◌ {A = Moved} (Ok m) (Err r) → ⊥
 not_both e = let z : ◌≡◌ {A = ℕ} 0 1 = cc in omega arith
 
 module _ (room : List ℕ) where
   -- A refusal says why, and leaves the room.
-  pub refused_why : (o : Output) (n : ℕ) → moved_of o room ≡ Refused n → WhyRefused room o n × (left_of o room ≡ room)
-  refused_why (refused m) n e =
-      let q : n ≡ m = cc (row_refused m room).0 in
+  pub refused_why : (o : Output) (r : Refusal) → moved_of o room ≡ Err r → WhyRefused room o (number_in r) × (left_of o room ≡ room)
+  refused_why (refused m) r e =
+      let q : number_in r ≡ m = ap moved_number (sym e ∙ (row_refused m room).0) ∙ number_told m in
       (rw q by_record, (row_refused m room).1)
-  refused_why (bytes ys) n e =
+  refused_why (bytes ys) r e =
       by_cases (le_or (length ys) (length room))
       (λ h. absurd (not_both (sym (row_written ys room h).0 ∙ e)))
-      (λ h. let q : n ≡ 12 = cc (row_short ys room h).0 in (rw q (too_short h), (row_short ys room h).1))
+      (λ h. let q : number_in r ≡ 12 = ap moved_number (sym e ∙ (row_short ys room h).0) in (rw q (too_short h), (row_short ys room h).1))
 
   -- Work into lent room; bytes past the output stay.
-  pub wrote : (o : Output) (n : ℕ) → moved_of o room ≡ Written n → Wrote room (left_of o room) o n
+  pub wrote : (o : Output) (n : ℕ) → moved_of o room ≡ Ok n → Wrote room (left_of o room) o n
   wrote (refused m) n e = absurd (not_both (sym e ∙ (row_refused m room).0))
   wrote (bytes ys) n e =
       by_cases (le_or (length ys) (length room))

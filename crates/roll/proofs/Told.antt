@@ -3,19 +3,21 @@
 use Prim.Native.Nat.{ℕ, ◌≤◌, ◌<◌}
 use mathlib.Core.Bool.{Bool, true, false}
 use mathlib.Core.List.{List}
-use mathlib.Core.Path.{◌≡◌, ap, ◌∙◌}
+use mathlib.Core.Path.{◌≡◌, refl, ap, ◌∙◌}
+use native.Mathlib.Omega.{arith}
 use lib.ListN.{length}
+use Rattle.std.specs.Prelude.{Ok, Err}
+use Rattle.decide.specs.Number.{refusal_of}
+use Rattle.decide.specs.declared.refusal.Refusal.{Refusal}
 use Rattle.shaper.specs.declared.Limits.{Limits}
 use Rattle.wire.specs.Wire.{put, Bytes}
 use Rattle.summary.specs.declared.Summary.{Summary}
-use Rattle.summary.specs.declared.Answer.{Answer}
 use Rattle.summary.proofs.Promises.{summary_limits, summary_events}
 use Rattle.record.specs.Items.{unrolled}
-use Rattle.record.specs.Read.{read_in}
+use Rattle.record.specs.Read.{Read, unreadable, whole, read_in}
 use Rattle.record.proofs.Written.{items_read}
-use Rattle.account.specs.Account.{summarize_in}
-use Rattle.account.proofs.Promises.{summarize_unreadable, summarized_written}
-use Rattle.roll.specs.declared.Moved.TheVariants.{Written, Refused}
+use Rattle.account.specs.Account.{summarized, summarize_in}
+use Rattle.account.proofs.Promises.{summarized_written}
 use Rattle.roll.specs.Moved.{Output, bytes, rolled_read, rolled_bytes, unrolled_read, unrolled_bytes, moved_of, left_of}
 use Rattle.roll.specs.Steps.{Reads, output_of}
 use Rattle.roll.proofs.Rooms.{row_written, row_short, row_refused}
@@ -31,7 +33,7 @@ pub record Summed (runs : Bool) (xs : List ℕ) (s : Summary) : Type 0 where
 same_limits_lem : (runs : Bool) (xs : List ℕ) (s : Summary) (l : Limits) (r : Reads runs xs l) → s.limits ≡ l → s.events ≡ length r.events → Summed runs xs s
 same_limits_lem runs xs s l r e n = record { reads = record { events = r.events; reads = rw e r.reads }; counts = n }
 
-pub summed : (runs : Bool) (xs : List ℕ) (s : Summary) → Bytes xs → summarize_in runs xs ≡ Answer.Summed s → Summed runs xs s
+pub summed : (runs : Bool) (xs : List ℕ) (s : Summary) → Bytes xs → summarize_in runs xs ≡ Ok s → Summed runs xs s
 summed runs xs s b h =
     let a = summarized_written runs xs s b h in
     let l = a.settings in
@@ -43,21 +45,42 @@ summed runs xs s b h =
 -- ---- the answer
 
 module _ (o : Output) (room ys : List ℕ) (e : o ≡ bytes ys) where
-  pub told_short : length room < length ys → (moved_of o room ≡ Refused 12) × (left_of o room ≡ room)
+  pub told_short : length room < length ys → (moved_of o room ≡ Err (refusal_of 12)) × (left_of o room ≡ room)
   told_short h = rw e (row_short ys room h)
 
-  pub told_written : length ys ≤ length room → (moved_of o room ≡ Written (length ys)) × (left_of o room ≡ put room 0 ys)
+  pub told_written : length ys ≤ length room → (moved_of o room ≡ Ok (length ys)) × (left_of o room ≡ put room 0 ys)
   told_written h = rw e (row_written ys room h)
 
--- a refusal of the record
-module _ (xs : List ℕ) (n : ℕ) (room : List ℕ) where
-  pub roll_refused : summarize_in false xs ≡ Answer.Refused n → (moved_of (rolled_bytes xs) room ≡ Refused n) × (left_of (rolled_bytes xs) room ≡ room)
-  unfolding rolled_bytes
-  roll_refused h = let o = ap rolled_read ((summarize_unreadable false xs n).0 h) in rw o (row_refused n room)
+-- a refusal of the record: it is that of its number
+pub record Unread (runs : Bool) (xs : List ℕ) (r : Refusal) : Type 0 where
+  pub number : ℕ
+  pub reads : read_in runs xs ≡ unreadable number
+  pub told : refusal_of number ≡ r
 
-  pub unroll_refused : summarize_in true xs ≡ Answer.Refused n → (moved_of (unrolled_bytes xs) room ≡ Refused n) × (left_of (unrolled_bytes xs) room ≡ room)
+pub unread : (runs : Bool) (xs : List ℕ) (r : Refusal) → summarize_in runs xs ≡ Err r → Unread runs xs r
+unfolding summarize_in
+unread runs xs r e = by (read_in runs xs) refl e
+  where
+    by : (q : Read) → read_in runs xs ≡ q → summarized q ≡ Err r → Unread runs xs r
+    by (unreadable n) p f = record { number = n; reads = p; told = cc }
+    by (whole l es) p f = absurd (let z : ◌≡◌ {A = ℕ} 0 1 = cc in omega arith)
+
+module _ (xs : List ℕ) (r : Refusal) (room : List ℕ) where
+  pub roll_refused : summarize_in false xs ≡ Err r → (moved_of (rolled_bytes xs) room ≡ Err r) × (left_of (rolled_bytes xs) room ≡ room)
+  unfolding rolled_bytes
+  roll_refused h =
+      let u = unread false xs r h in
+      let o = ap rolled_read u.reads in
+      let row = row_refused u.number room in
+      (ap (λ (q : Output). moved_of q room) o ∙ row.0 ∙ ap Err u.told, ap (λ (q : Output). left_of q room) o ∙ row.1)
+
+  pub unroll_refused : summarize_in true xs ≡ Err r → (moved_of (unrolled_bytes xs) room ≡ Err r) × (left_of (unrolled_bytes xs) room ≡ room)
   unfolding unrolled_bytes
-  unroll_refused h = let o = ap unrolled_read ((summarize_unreadable true xs n).0 h) in rw o (row_refused n room)
+  unroll_refused h =
+      let u = unread true xs r h in
+      let o = ap unrolled_read u.reads in
+      let row = row_refused u.number room in
+      (ap (λ (q : Output). moved_of q room) o ∙ row.0 ∙ ap Err u.told, ap (λ (q : Output). left_of q room) o ∙ row.1)
 
 -- no refusal: the output is what is to be written
 pub roll_output : (xs : List ℕ) (l : Limits) → Reads false xs l → rolled_bytes xs ≡ bytes (output_of (rolled_bytes xs))

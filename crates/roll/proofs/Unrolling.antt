@@ -8,6 +8,9 @@ use mathlib.Core.Path.{◌≡◌, refl, sym, ap, ◌∙◌}
 use native.Mathlib.Omega.{arith}
 use lib.ListN.{length, drop, replicate, length-append, length-replicate}
 use lib.Seq.{drop_at}
+use Rattle.std.specs.Prelude.{Some, None, Ok, Err}
+use Rattle.decide.specs.declared.refusal.Refusal.{Refusal}
+use Rattle.decide.specs.Number.{number_in}
 use Rattle.decide.proofs.Cases.{by_cases, le_or}
 use Rattle.shaper.specs.declared.Limits.{Limits}
 use Rattle.shaper.specs.declared.Event.{Event}
@@ -15,13 +18,9 @@ use Rattle.shaper.specs.Limits.{most_events}
 use Rattle.shaper.specs.Kind.{kind_of, number_of, event_of}
 use Rattle.wire.specs.Wire.{le, put}
 use Rattle.wire.proofs.Puts.{put_put, put_nil, length_put}
-use Rattle.record.specs.declared.Step.{Step}
-use Rattle.record.specs.declared.Step.TheVariants.{Stands, End, Faulty}
 use Rattle.record.specs.Record.{header_bytes, event_bytes, events_bytes, written}
 use Rattle.record.specs.Read.{is_run, item_kind, item_number, item_count, Events, faulty, events, ahead, read_items, unreadable, whole, under}
-use Rattle.record.specs.Step.{header_of_of, item_at}
-use Rattle.record.specs.declared.Header.{Header}
-use Rattle.record.specs.declared.Header.TheVariants.{Settings, Unreadable}
+use Rattle.record.specs.Step.{Header, Step, placed, header_of_of, item_at}
 use Rattle.record.proofs.Fields.{event_good}
 use Rattle.record.proofs.Rows.{run_at, run_not_at, free_stands}
 use Rattle.record.proofs.Steps.{Stood, Headed, read_by, read_header, header_stands, read_end, read_over, step_stands, step_end, step_faulty}
@@ -71,15 +70,15 @@ unfolding unrolled_bytes
 unrolling xs l r = by (header_of_of xs) refl
   where
     by : (h : Header) → header_of_of xs ≡ h → Unrolling xs l
-    by (Settings k) e =
+    by (Ok k) e =
         let h = header_stands xs k e in
         let w = under_whole k (read_items true 9 k.mtu most_events 0 (drop 14 xs)) l r.events (sym (h.goes_on true) ∙ r.reads) in
         let made : output_of (unrolled_bytes xs) ≡ written l r.events = rw r.reads in
         record { events = r.events; header = rw w.0 at h; behind = rw w.0 at w.1; made = made }
-    by (Unreadable n) e =
+    by (Err f) e =
         let z : ◌≡◌ {A = ℕ} 0 1 = clash (sym r.reads ∙ read_header true xs ∙ ap (read_by true xs) e) in absurd (omega arith)
       where
-        clash : whole l r.events ≡ unreadable n → ◌≡◌ {A = ℕ} 0 1
+        clash : whole l r.events ≡ unreadable (number_in f) → ◌≡◌ {A = ℕ} 0 1
         clash q = cc
 
 -- ---- what is left is put
@@ -157,7 +156,7 @@ module _ (xs base room : List ℕ) (l : Limits) (at end : ℕ) (t : Laid xs base
   clash : (n : ℕ) → faulty n ≡ events t.rest → ◌≡◌ {A = ℕ} 0 1
   clash n q = cc
 
-  laid_next : (k v c next : ℕ) → item_at true l.mtu xs at ≡ Stands k v c next → Taken k v c next
+  laid_next : (k v c next : ℕ) → item_at true l.mtu xs at ≡ Ok (Some (placed k v c next)) → Taken k v c next
   laid_next k v c next e =
       let s = step_stands true l.mtu xs at k v c next e in
       by_cases (le_or c t.may) (λ few. taken_by k v c next s few)
@@ -171,12 +170,12 @@ module _ (xs base room : List ℕ) (l : Limits) (at end : ℕ) (t : Laid xs base
       sym (put_nil room end) ∙ ap (λ (q : List Event). put room end (events_bytes q)) (sym rest) ∙ t.left
 
   -- no fault does
-  laid_fault : (n : ℕ) → item_at true l.mtu xs at ≡ Faulty n → ⊥
-  laid_fault n e = by t.may t.reads
+  laid_fault : (f : Refusal) → item_at true l.mtu xs at ≡ Err f → ⊥
+  laid_fault f e = by t.may t.reads
     where
       by : (m : ℕ) → read_items true 9 l.mtu m 0 (drop at xs) ≡ events t.rest → ⊥
-      by zero q = let z = clash 9 (sym (read_over true 9 l.mtu xs at (step_faulty true l.mtu xs at n e).some) ∙ q) in omega arith
-      by (suc m) q = let z = clash n (sym ((step_faulty true l.mtu xs at n e).stops 9 m) ∙ q) in omega arith
+      by zero q = let z = clash 9 (sym (read_over true 9 l.mtu xs at (step_faulty true l.mtu xs at f e).some) ∙ q) in omega arith
+      by (suc m) q = let z = clash (number_in f) (sym ((step_faulty true l.mtu xs at f e).stops 9 m) ∙ q) in omega arith
 
   -- so an item does, of as many bytes as its kind has
   next_by_lem : (k v c next : ℕ) → Stood true l.mtu xs at k v c next → at < length xs →
@@ -195,9 +194,9 @@ module _ (xs base room : List ℕ) (l : Limits) (at end : ℕ) (t : Laid xs base
   laid_item h = by (item_at true l.mtu xs at) refl
     where
       by : (s : Step) → item_at true l.mtu xs at ≡ s → Taken (item_kind (drop at xs)) (item_number (drop at xs)) (item_count (drop at xs)) (at + item_bytes xs at)
-      by End e = absurd (omega (arith, step_end true l.mtu xs at e))
-      by (Faulty n) e = absurd (laid_fault n e)
-      by (Stands k v c next) e = next_by_lem k v c next (step_stands true l.mtu xs at k v c next e) h
+      by (Ok None) e = absurd (omega (arith, step_end true l.mtu xs at e))
+      by (Err f) e = absurd (laid_fault f e)
+      by (Ok (Some i)) e = next_by_lem i.kind i.number i.count i.next (step_stands true l.mtu xs at i.kind i.number i.count i.next e) h
 
 -- ---- the header before it
 

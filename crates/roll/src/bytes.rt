@@ -1,4 +1,5 @@
-// What the movers write, each to a slice from a place on. A function that answers a number answers the place behind what it wrote.
+// What the movers write, each to a slice from a place on. A function that answers a number answers the place behind what it wrote. An event's kind and number are one word, as
+// they lie in a record: read together, they are written together.
 ghost use Rattle.std.specs.Prelude.{◌≡◌, ◌+◌, ◌*◌, ◌/◌, ◌%◌, ◌≤◌, length};
 ghost use Rattle.decide.specs.Test.{Holds};
 ghost use Rattle.shaper.specs.Limits.{limits_ok};
@@ -21,16 +22,16 @@ pub fn put_header(s: &mut [u8], limits: Limits)
 }
 
 // So many equal events as one item.
-pub fn put_item(s: &mut [u8], at: usize, kind: u16, number: u16, count: usize) -> usize
+pub fn put_item(s: &mut [u8], at: usize, event: u32, count: usize) -> usize
     requires { (at + item_length count ≤ length s.old) × (count ≤ 65535) }
     ensures value { result ≡ at + item_length count }
-    ensures s_after { s.new ≡ put s.old at (item_fields kind number count) }
+    ensures s_after { s.new ≡ put s.old at (item_fields (event % 65536) (event / 65536) count) }
 {
     if count == 1 {
-        put_event(s, at, kind, number);
+        put_event(s, at, event);
         return at + 6;
     }
-    put_run(s, at, kind, number, count as u16);
+    put_run(s, at, event, count as u16);
     at + 10
 }
 
@@ -41,49 +42,36 @@ pub fn item_length(count: usize) -> usize
     if count == 1 { 6 } else { 10 }
 }
 
-// So many equal ticks, one by one: a tick's kind and amount are one word.
+// So many equal ticks, one by one.
 pub fn put_ticks(s: &mut [u8], at: usize, tick: u32, count: u32) -> usize
     requires { at + 6 * count ≤ length s.old }
     ensures value { result ≡ at + 6 * count }
     ensures s_after { s.new ≡ put s.old at (repeated_fields count (tick % 65536) (tick / 65536)) }
 {
     let mut end = at;
-    let mut left = count;
-    while 0 < left {
-        put_word(s, end, tick);
+    for _ in 0..count {
+        put_event(s, end, tick);
         end += 6;
-        left -= 1;
     }
     end
 }
 
-// An event whose kind and number are one word, as they lie in a record: read together, they are written together.
-pub fn put_word(s: &mut [u8], at: usize, word: u32)
-    requires { at + 6 ≤ length s.old }
-    ensures { s.new ≡ put s.old at (event_fields (word % 65536) (word / 65536)) }
-{
-    wire::put16(s, at, 6);
-    wire::put32(s, at + 2, word);
-}
-
 // An event.
-fn put_event(s: &mut [u8], at: usize, kind: u16, number: u16)
+pub fn put_event(s: &mut [u8], at: usize, event: u32)
     requires { at + 6 ≤ length s.old }
-    ensures { s.new ≡ put s.old at (event_fields kind number) }
+    ensures { s.new ≡ put s.old at (event_fields (event % 65536) (event / 65536)) }
 {
     wire::put16(s, at, 6);
-    wire::put16(s, at + 2, kind);
-    wire::put16(s, at + 4, number);
+    wire::put32(s, at + 2, event);
 }
 
 // A run of equal ticks.
-fn put_run(s: &mut [u8], at: usize, tick: u16, amount: u16, count: u16)
+fn put_run(s: &mut [u8], at: usize, tick: u32, count: u16)
     requires { at + 10 ≤ length s.old }
-    ensures { s.new ≡ put s.old at (run_fields tick amount count) }
+    ensures { s.new ≡ put s.old at (run_fields (tick % 65536) (tick / 65536) count) }
 {
     wire::put16(s, at, 10);
     wire::put16(s, at + 2, 4);
-    wire::put16(s, at + 4, tick);
-    wire::put16(s, at + 6, amount);
+    wire::put32(s, at + 4, tick);
     wire::put16(s, at + 8, count);
 }

@@ -10,19 +10,9 @@ ghost use Rattle.wire.specs.Wire.{put};
 ghost use Rattle.roll.specs.Moved.{rolled_bytes, unrolled_bytes, moved_of, left_of};
 ghost use Rattle.roll.specs.Steps.{Reads, Readable, output_of, TakenAt, item_bytes, repeated_at};
 
-use bytes::{item_length, put_header, put_item, put_ticks, put_word};
+use bytes::{item_length, put_event, put_header, put_item, put_ticks};
+use decide::Refusal;
 use shaper::Limits;
-use summary::Answer;
-
-// How many bytes were written, or the number of the refusal.
-#[derive(Clone, Copy)]
-pub enum Moved {
-    Written(u64),
-    Refused(u64),
-}
-
-// The refusal of a room that is too short.
-const SHORT_ROOM: u64 = 12;
 
 // The bytes of a record's header, and of an event.
 const HEADER: usize = 14;
@@ -32,38 +22,31 @@ const EVENT: usize = 6;
 // The most events of a run.
 const MOST: usize = 65535;
 
-// Leaves in the room an old record in the new form, from the front always the longest run. The number of its earliest fault, an item of kind 4 being 2; then 12.
-pub fn roll(s: &[u8], room: &mut [u8]) -> Moved
+// Leaves in the room an old record in the new form, from the front always the longest run, and answers how many bytes that is. Its earliest fault, an item of kind 4 being 2; then
+// 12, a room that is too short.
+pub fn roll(s: &[u8], room: &mut [u8]) -> Result<u64, Refusal>
     ensures value { result ≡ moved_of (rolled_bytes s.now) room.old }
     ensures room_after { room.new ≡ left_of (rolled_bytes s.now) room.old }
 {
-    match account::summarize(s, false) {
-        Answer::Summed(sum) => {
-            if !fits_in(s, room.len()) {
-                return Moved::Refused(SHORT_ROOM);
-            }
-            Moved::Written(put_rolled(s, sum.limits, room) as u64)
-        }
-        Answer::Refused(n) => Moved::Refused(n),
+    let sum = account::summarize(s, false)?;
+    if !fits_in(s, room.len()) {
+        return Err(Refusal::ShortRoom);
     }
+    Ok(put_rolled(s, sum.limits, room) as u64)
 }
 
-// Leaves in the room a record of either form in the old one. The number of its earliest fault; then 12.
-pub fn unroll(s: &[u8], room: &mut [u8]) -> Moved
+// Leaves in the room a record of either form in the old one, and answers how many bytes that is. Its earliest fault; then 12, a room that is too short.
+pub fn unroll(s: &[u8], room: &mut [u8]) -> Result<u64, Refusal>
     ensures value { result ≡ moved_of (unrolled_bytes s.now) room.old }
     ensures room_after { room.new ≡ left_of (unrolled_bytes s.now) room.old }
 {
-    match account::summarize(s, true) {
-        Answer::Summed(sum) => {
-            let need = HEADER + EVENT * sum.events as usize;
-            if room.len() < need {
-                return Moved::Refused(SHORT_ROOM);
-            }
-            put_unrolled(s, sum.limits, room);
-            Moved::Written(need as u64)
-        }
-        Answer::Refused(n) => Moved::Refused(n),
+    let sum = account::summarize(s, true)?;
+    let need = HEADER + EVENT * sum.events as usize;
+    if room.len() < need {
+        return Err(Refusal::ShortRoom);
     }
+    put_unrolled(s, sum.limits, room);
+    Ok(need as u64)
 }
 
 // Whether an old record without a fault takes no more than so many bytes in the new form. It never takes more than in the old one.
@@ -84,6 +67,7 @@ fn measured(s: &[u8]) -> usize
 {
     let mut at = HEADER;
     let mut total = HEADER;
+    // No `for`: an item takes as many events as are equal.
     while at < s.len() {
         let n = same_ahead(s, at);
         at += EVENT * n;
@@ -101,11 +85,11 @@ fn put_rolled(s: &[u8], limits: Limits, room: &mut [u8]) -> usize
     put_header(room, limits);
     let mut at = HEADER;
     let mut end = HEADER;
+    // No `for`, as there.
     while at < s.len() {
         let n = same_ahead(s, at);
-        let kind = wire::get16(s, at + 2);
-        let number = wire::get16(s, at + 4);
-        end = put_item(room, end, kind, number, n);
+        let event = wire::get32(s, at + 2);
+        end = put_item(room, end, event, n);
         at += EVENT * n;
     }
     end
@@ -121,9 +105,8 @@ fn same_ahead(s: &[u8], from: usize) -> usize
     if head == SEND {
         return 1;
     }
-    let mut n = 1;
     let mut at = from + EVENT;
-    while n < MOST {
+    for n in 1..MOST {
         if s.len() - at < EVENT {
             return n;
         }
@@ -133,10 +116,9 @@ fn same_ahead(s: &[u8], from: usize) -> usize
         if wire::get16(s, at + 4) != number {
             return n;
         }
-        n += 1;
         at += EVENT;
     }
-    n
+    MOST
 }
 
 // The first four bytes of a send as one number: its length and its kind.
@@ -150,6 +132,7 @@ fn put_unrolled(s: &[u8], limits: Limits, room: &mut [u8])
     put_header(room, limits);
     let mut at = HEADER;
     let mut end = HEADER;
+    // No `for`: a run has 10 bytes, and an event 6.
     while at < s.len() {
         let next = put_next(s, at, room, end);
         at = next.at;
@@ -174,7 +157,7 @@ fn put_next(s: &[u8], at: usize, room: &mut [u8], end: usize) -> Ends
         };
     }
     let event = wire::get32(s, at + 2);
-    put_word(room, end, event);
+    put_event(room, end, event);
     Ends {
         at: at + EVENT,
         end: end + EVENT,

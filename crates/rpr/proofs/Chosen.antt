@@ -23,9 +23,8 @@ use Rattle.selection.specs.Select.{control_ready, primary_ready, needy, secondar
 use Rattle.selection.proofs.Select.{Goes, control, primary, pressed, staged, secondary, nothing, goes, nothing_exactly}
 use Rattle.selection.proofs.Kept.{needy_holds}
 use Rattle.station.specs.declared.Station.{Station}
-use Rattle.station.specs.declared.Selected.{Selected}
 use Rattle.station.specs.Range.{station_ok, StationOk}
-use Rattle.station.specs.Answers.{chosen_of}
+use Rattle.station.specs.Answers.{chosen_of, origin_said, rest_after}
 use Rattle.station.proofs.Calls.{select_done}
 use Rattle.station.proofs.Select.{nothing_leaves}
 use Rattle.answer.specs.Bytes.{packed, selected_bytes}
@@ -72,5 +71,5 @@ unfolding digits
 nothing_chosen st o e =
     let none = nothing_exactly st.settings st.flow in
     let given = none.whenever (none.only e) in
-    let same = nothing_leaves st (ap (λ (r : Selected). r.origin) (select_done st o) ∙ e) in
-    (rw given refl, sym (ap (λ (r : Selected). r.station) (sym (select_done st o)) ∙ same))
+    let same = nothing_leaves st (ap origin_said (select_done st o) ∙ e) in
+    (rw given refl, sym (ap (rest_after st) (sym (select_done st o)) ∙ same))

@@ -1,5 +1,12 @@
 -- What a call on a station gives, by what led there: a slice of another length is 2, and else what the station said is handed back.
 -- Assumes nothing.
+use Rattle.std.specs.Prelude.{Result, Ok, Err}
+use Rattle.decide.specs.Number.{number_in}
+use Rattle.decide.proofs.Number.{number_told}
+use Rattle.shaper.specs.declared.Refused.{Refused}
+use Rattle.shaper.specs.Refused as shaper
+use Rattle.shaper.specs.Refused.{number_said, afterwards}
+use Rattle.shaper.proofs.Turned.{refusal_known, left_known}
 use Prim.Native.Nat.{ℕ}
 use mathlib.Core.Bool.{Bool, true, false}
 use mathlib.Core.List.{List, ◌∷◌}
@@ -7,8 +14,8 @@ use mathlib.Core.Path.{◌≡◌, refl, sym, ap, ◌∙◌}
 use lib.ListN.{length}
 use Rattle.decide.specs.Test.{test}
 use Rattle.decide.specs.Refusal.{Fault, first_of, refused_or}
-use Rattle.decide.proofs.Refusal.{in_order_lem}
-use Rattle.decide.proofs.Refused.{handed_on}
+use Rattle.decide.proofs.Given.{in_order_lem}
+use Rattle.decide.proofs.Refused.{handed_on, carried_by, refused_by}
 use Rattle.settings.specs.declared.Settings.{Settings}
 use Rattle.settings.specs.Range.{settings_ok}
 use Rattle.advert.specs.declared.Advert.{Advert}
@@ -16,18 +23,15 @@ use Rattle.advert.specs.Frame.{advert_bytes}
 use Rattle.flow.specs.declared.Flow.{Flow}
 use Rattle.wire.specs.Wire.{digits}
 use Rattle.station.specs.declared.Station.{Station}
-use Rattle.station.specs.declared.Done.{Done}
 use Rattle.station.specs.declared.Client.{Client}
 use Rattle.station.specs.declared.Selected.{Selected}
-use Rattle.station.specs.declared.Told.{Told}
 use Rattle.station.specs.declared.Reading.{Reading}
-use Rattle.station.specs.declared.Shown.{Shown}
 use Rattle.station.specs.Range.{station_ok}
-use Rattle.station.specs.Answers.{with_flow, refused_of, done_of, chosen_of, not_chosen_of}
+use Rattle.station.specs.Answers.{with_flow, Done, refused_of, done_of, chosen_of, not_chosen_of, origin_said, frame_said, rest_after}
 use Rattle.station.specs.Calls.{start_faults, select_faults, fresh_of}
-use Rattle.station.specs.Offers.{short_for, turned_for, taken_of}
-use Rattle.station.specs.Hear.{not_told_of}
-use Rattle.station.specs.Show.{not_shown_of}
+use Rattle.station.specs.Offers.{short_for, turned_for, mark_told, station_left, taken_of}
+use Rattle.station.specs.Hear.{Told, not_told_of, advert_said}
+use Rattle.station.specs.Show.{Shown, not_shown_of, reading_said}
 use Rattle.settings.specs.Words.{settings_length}
 use Rattle.layout.specs.Layout.{station_length, station_bytes}
 use Rattle.layout.specs.Reading.{reading_bytes}
@@ -88,8 +92,8 @@ module _ (n : ℕ) (xs : List ℕ) (faults : List Fault) (e : length xs ≡ n) (
 -- ---- what the station answered, by the number of its rows
 
 -- a client's frame that was taken, with this mark, and left this flow
-abbrev pub taken_as : Station → ℕ → Flow → Client
-taken_as st mark f = taken_of st (record { number = 0; detail = 0; mark = mark; flow = f })
+abbrev pub taken_as : Station → ℕ → Flow → Result Client Refused
+taken_as st mark f = taken_of st (Ok (record { mark = mark; flow = f }))
 
 module _ (old : List ℕ) {r : ℕ} {after : List ℕ} where
   -- handed back by the answer's own number, it is handed back by that of the rows
@@ -100,29 +104,43 @@ module _ (old : List ℕ) {r : ℕ} {after : List ℕ} where
     b.1 ∙ handed_on number refused done bears none (λ m. old) new n d h,
   )
 
-  pub done_back : (n : ℕ) (st next : Station) (d : Done) → d ≡ refused_or (refused_of st) n (done_of next)
-      → HandedBack d.number 0 old (station_bytes d.station) r after → HandedBack n 0 old (station_bytes next) r after
-  done_back n st next = back (λ m. m) (λ (d : Done). d.number) (λ d. 0) (λ (d : Done). station_bytes d.station) _ _ (λ m. refl) refl n
+  pub done_back : (n : ℕ) (st next : Station) (d : Done) → d ≡ refused_or refused_of n (done_of next)
+      → HandedBack (number_said d) 0 old (station_bytes (afterwards st d)) r after → HandedBack n 0 old (station_bytes next) r after
+  done_back n st next = back (λ m. m) (λ (d : Done). number_said d) (λ d. 0) (λ (d : Done). station_bytes (afterwards st d)) _ _ number_told refl n
 
-  pub taken_back : (class n : ℕ) (st : Station) (mark : ℕ) (f : Flow) (d : Client) → d ≡ refused_or (turned_for st class) n (taken_as st mark f)
-      → HandedShort (short_for st class) d.number (packed (mark_bytes d.mark)) old (station_bytes d.station) r after
+  pub taken_back : (class n : ℕ) (st : Station) (mark : ℕ) (f : Flow) (d : Result Client Refused) → d ≡ refused_or (turned_for st class) n (taken_as st mark f)
+      → HandedShort (short_for st class) (number_said d) (packed (mark_bytes (mark_told d))) old (station_bytes (station_left st d)) r after
       → HandedShort (short_for st class) n (packed (mark_bytes mark)) old (station_bytes (with_flow st f)) r after
   taken_back class n st mark f =
-      back (short_told (short_for st class)) (λ (d : Client). d.number) (λ (d : Client). packed (mark_bytes d.mark)) (λ (d : Client). station_bytes d.station) _ _ (λ m. refl) refl n
+      back (short_told (short_for st class)) (λ (d : Result Client Refused). number_said d) (λ (d : Result Client Refused). packed (mark_bytes (mark_told d))) (λ (d : Result Client Refused). station_bytes (station_left st d)) _ _ number_told refl n
 
-  pub chosen_back : (n : ℕ) (st : Station) (d : Selected) → d ≡ refused_or (not_chosen_of st) n (chosen_of st)
-      → HandedBack d.number (packed (selected_bytes d.origin d.frame)) old (station_bytes d.station) r after
+  pub chosen_back : (n : ℕ) (st : Station) (d : Result Selected Refused) → d ≡ refused_or not_chosen_of n (Ok (chosen_of st))
+      → HandedBack (number_said d) (packed (selected_bytes (origin_said d) (frame_said d))) old (station_bytes (rest_after st d)) r after
       → HandedBack n (packed (selected_bytes (chosen_of st).origin (chosen_of st).frame)) old (station_bytes (chosen_of st).station) r after
   chosen_back n st =
-      back (λ m. m) (λ (d : Selected). d.number) (λ (d : Selected). packed (selected_bytes d.origin d.frame)) (λ (d : Selected). station_bytes d.station) _ _ (λ m. refl) refl n
+      back (λ m. m) (λ (d : Result Selected Refused). number_said d) (λ (d : Result Selected Refused). packed (selected_bytes (origin_said d) (frame_said d))) (λ (d : Result Selected Refused). station_bytes (rest_after st d)) _ _ number_told refl n
 
-  pub told_back : (n : ℕ) (a : Advert) (d : Told) → d ≡ refused_or not_told_of n (record { number = 0; detail = 0; advert = a })
-      → HandedBack d.number 0 old (advert_bytes d.advert) r after → HandedBack n 0 old (advert_bytes a) r after
-  told_back n a = back (λ m. m) (λ (d : Told). d.number) (λ d. 0) (λ (d : Told). advert_bytes d.advert) _ _ (λ m. refl) refl n
+  pub told_back : (n : ℕ) (a : Advert) (d : Told) → d ≡ refused_or not_told_of n (Ok a)
+      → HandedBack (number_said d) 0 old (advert_bytes (advert_said d)) r after → HandedBack n 0 old (advert_bytes a) r after
+  told_back n a = back (λ m. m) (λ (d : Told). number_said d) (λ d. 0) (λ (d : Told). advert_bytes (advert_said d)) _ _ number_told refl n
 
-  pub shown_back : (n : ℕ) (reading : Reading) (d : Shown) → d ≡ refused_or not_shown_of n (record { number = 0; detail = 0; reading = reading })
-      → HandedBack d.number 0 old (reading_bytes d.reading) r after → HandedBack n 0 old (reading_bytes reading) r after
-  shown_back n reading = back (λ m. m) (λ (d : Shown). d.number) (λ d. 0) (λ (d : Shown). reading_bytes d.reading) _ _ (λ m. refl) refl n
+  pub shown_back : (n : ℕ) (reading : Reading) (d : Shown) → d ≡ refused_or not_shown_of n (Ok reading)
+      → HandedBack (number_said d) 0 old (reading_bytes (reading_said d)) r after → HandedBack n 0 old (reading_bytes reading) r after
+  shown_back n reading = back (λ m. m) (λ (d : Shown). number_said d) (λ d. 0) (λ (d : Shown). reading_bytes (reading_said d)) _ _ number_told refl n
+
+-- what was found of an answer that goes by the number of its rows
+module _ {A : Type 0} (old : List ℕ) (new : A → List ℕ) (n : ℕ) (a : A) (d : Result A Refused) (h : d ≡ refused_or (λ m. Err (shaper.refused m 0)) n (Ok a)) where
+  -- a refusal is handed back by its number alone, and the bytes are left
+  pub refusal_back : (r : Refused) → d ≡ Err r → HandedBack n 0 old (new a) (number_in r.refusal) old
+  refusal_back r e =
+      let t = refusal_known (λ m. 0) a n d h r e in
+      rw t.1 (sym (refused_by _ _ n t.0), sym (refused_by _ _ n t.0))
+
+  -- else what is written is what was left
+  pub left_back : {after : List ℕ} (b : A) → d ≡ Ok b → after ≡ new b → HandedBack n 0 old (new a) 0 after
+  left_back b e f =
+      let u = left_known (λ m. 0) a n d h b e in
+      (sym (carried_by _ _ n u.0), f ∙ ap new u.1 ∙ sym (carried_by _ _ n u.0))
 
 -- ---- the range
 

@@ -1,5 +1,6 @@
 -- What the movers' answers say: a refusal is its number alone and leaves the room; else bytes 4 to 7 are the bytes written, and these stand at its front.
 -- Assumes nothing.
+use Rattle.std.specs.Prelude.{Ok, Err}
 use Prim.Native.Nat.{ℕ, zero, suc, ◌%◌, ◌≤◌, ◌<◌}
 use mathlib.Core.Bool.{true, false}
 use mathlib.Core.List.{List, []}
@@ -7,13 +8,14 @@ use mathlib.Core.Path.{◌≡◌, refl, ap, ◌∙◌}
 use native.Mathlib.Omega.{arith}
 use borrow.Author.Tests.{ne_eqb, le-ltb, lt-ltb}
 use lib.ListN.{length}
+use Rattle.decide.specs.Number.{number_in}
+use Rattle.decide.proofs.Number.{number_told}
 use Rattle.decide.specs.Refusal.{Fault, first_of, RefusedExactly}
 use Rattle.decide.proofs.Cases.{by_cases, le_or}
-use Rattle.decide.proofs.Refusal.{in_order_lem, refused_exactly}
+use Rattle.decide.proofs.Given.{in_order_lem, refused_exactly}
 use Rattle.wire.specs.Wire.{digits, put}
 use Rattle.record.specs.Read.{Read, unreadable, whole, read_in}
-use Rattle.roll.specs.declared.Moved.{Moved}
-use Rattle.roll.specs.Moved.{Output, bytes, rolled_read, rolled_bytes, unrolled_read, unrolled_bytes, moved_of, left_of}
+use Rattle.roll.specs.Moved.{Moved, Output, bytes, rolled_read, rolled_bytes, unrolled_read, unrolled_bytes, moved_of, left_of}
 use Rattle.roll.specs.Steps.{output_of}
 use Rattle.roll.proofs.Rooms.{row_written, row_short, row_refused}
 use Rattle.answer.specs.Bytes.{packed, written_bytes}
@@ -69,8 +71,8 @@ carried_on rows said old new e = Shape.taken_on (first_of rows) said old new e
 
 -- what the host is told
 abbrev pub told_of : Moved → ℕ
-told_of (Moved.Written n) = packed (written_bytes n)
-told_of (Moved.Refused n) = n
+told_of (Ok n) = packed (written_bytes n)
+told_of (Err r) = number_in r
 
 module _ (room : List ℕ) where
   pub mover_gives : (o : Output) → OutputNumbered o → (told_of (moved_of o room) ≡ mover_answer o room) × (left_of o room ≡ mover_after o room)
@@ -78,7 +80,7 @@ module _ (room : List ℕ) where
   mover_gives (Output.refused (suc n)) h =
       let r = row_refused (suc n) room in
       let g = Shape.refused (mover_rows (Output.refused (suc n)) room) (packed (written_bytes 0)) room (put room 0 []) n (row_fault room (suc n) (omega arith)) in
-      (ap told_of r.0 ∙ g.0, r.1 ∙ g.1)
+      (ap told_of r.0 ∙ number_told (suc n) ∙ g.0, r.1 ∙ g.1)
   mover_gives (bytes ys) h =
       by_cases (le_or (length ys) (length room))
       (λ fits. let r = row_written ys room fits in

@@ -1,18 +1,20 @@
 -- A record that is refused gives a number of the table: each of its faults does.
 -- Assumes nothing.
+use Rattle.std.specs.Prelude.{Ok, Err}
 use Prim.Native.Nat.{ℕ, zero, suc, ◌≤◌, ◌<◌}
 use mathlib.Core.Bool.{Bool, true, false, ◌&&◌, cond}
 use mathlib.Core.List.{List, [], ◌∷◌}
 use mathlib.Core.Path.{◌≡◌, refl}
 use native.Mathlib.Omega.{arith}
 use lib.ListN.{drop}
+use Rattle.decide.specs.Number.{number_in}
+use Rattle.decide.proofs.Number.{number_told}
 use Rattle.decide.specs.Refusal.{first_of}
 use Rattle.shaper.specs.Limits.{most_events}
 use Rattle.shaper.specs.declared.Limits.{Limits}
 use Rattle.shaper.specs.declared.Event.{Event}
 use Rattle.shaper.specs.Kind.{event_of}
-use Rattle.summary.specs.declared.Answer.{Answer}
-use Rattle.summary.specs.Answer.{answer_number}
+use Rattle.summary.specs.Answer.{answer_number, Answer}
 use Rattle.record.specs.Read.{limits_at, header_faults, event_faults, is_run, run_faults, item_faults, item_kind, item_number, Events, faulty, events, onward, gone_behind, bytes_behind, read_items, Read, unreadable, whole, under, opened_in, read_in, read_record}
 use Rattle.account.specs.Account.{summarized, summarize_in, summarize_of}
 use Rattle.rpr.proofs.Shape.{most_number, numbered, first_most}
@@ -51,8 +53,8 @@ from_numbered runs late mtu (suc left) gone (x ∷ xs) p =
 
 -- what a refusal bears
 abbrev pub AnswerNumbered : Answer → Type 0
-AnswerNumbered (Answer.Summed s) = Unit {0}
-AnswerNumbered (Answer.Refused n) = OfTable n
+AnswerNumbered (Ok s) = Unit {0}
+AnswerNumbered (Err r) = OfTable (number_in r)
 
 -- and what an unreadable record does
 abbrev pub ReadNumbered : Read → Type 0
@@ -73,7 +75,7 @@ unfolding read_in
 read_numbered runs xs = opened_numbered runs (first_of (header_faults xs)) xs (first_most (header_faults xs) refl)
 
 summarized_numbered : (r : Read) → ReadNumbered r → AnswerNumbered (summarized r)
-summarized_numbered (unreadable n) h = h
+summarized_numbered (unreadable n) h = rw (number_told n) h
 summarized_numbered (whole l es) h = tt
 
 pub record_numbered : (xs : List ℕ) → AnswerNumbered (summarize_of xs)
@@ -81,5 +83,5 @@ unfolding summarize_in
 record_numbered xs = summarized_numbered (read_record xs) (read_numbered true xs)
 
 pub answer_most : (a : Answer) → AnswerNumbered a → answer_number a ≤ most_number
-answer_most (Answer.Summed s) h = omega arith
-answer_most (Answer.Refused n) h = h.1
+answer_most (Ok s) h = omega arith
+answer_most (Err r) h = h.1

@@ -7,13 +7,15 @@ use mathlib.Core.Logic.{◌⊎◌}
 use mathlib.Core.Path.{◌≡◌, refl, sym, ap, ◌∙◌}
 use native.Mathlib.Omega.{arith}
 use lib.ListN.{get_or}
+use Rattle.std.specs.Prelude.{Ok, Err}
+use Rattle.decide.specs.declared.refusal.Refusal.{Refusal}
 use Rattle.ring.specs.declared.Way.{Way}
 use Rattle.ring.specs.declared.Way.TheVariants.{Left, Right}
 use Rattle.ring.specs.declared.Choice.{Choice}
 use Rattle.ring.specs.Links.{other_of}
-use Rattle.ring.specs.Choosing.{code_of, way_of, along_of, choose_of}
+use Rattle.ring.specs.Choosing.{code_of, way_of, along_of, choose_of, ChoiceAnswer, chosen_as}
 use Rattle.ring.specs.Pairs.{links_of, Together}
-use Rattle.ring.proofs.Faults.{chosen_means}
+use Rattle.ring.proofs.Faults.{same_choice, chosen_means}
 use Rattle.ring.proofs.Pairs as Ends
 use Rattle.wrap.specs.Walking.{side_of}
 use Rattle.answer.specs.Bytes.{bit_of}
@@ -44,27 +46,27 @@ abbrev by_bytes : ℕ → ℕ → List ℕ → List ℕ
 by_bytes stations own ds = links_of (side_of (get_or ds 1 0)) stations own (get_or ds 2 0)
 
 module _ (stations a b links side protection ring : ℕ) where
-  abbrev choice_there : Choice
+  abbrev choice_there : ChoiceAnswer
   choice_there = choose_of stations a b links side protection ring
 
-  abbrev choice_back : Choice
+  abbrev choice_back : ChoiceAnswer
   choice_back = choose_of stations b a links side protection ring
 
   abbrev Told : Type 0
   Told = PairTold stations a b (choose_answer stations a b links side protection ring) (choose_answer stations b a links side protection ring)
 
-  neither_told : (n : ℕ) → choice_there ≡ Choice.Refused n → choice_back ≡ Choice.Refused n → Told
-  neither_told n e f =
-      let there = choose_refused_bytes stations a b links side protection ring n e in
-      let back = choose_refused_bytes stations b a links side protection ring n f in
+  neither_told : (r : Refusal) → choice_there ≡ Err r → choice_back ≡ Err r → Told
+  neither_told r e f =
+      let there = choose_refused_bytes stations a b links side protection ring r e in
+      let back = choose_refused_bytes stations b a links side protection ring r f in
       record {
         same = λ k h. ap (λ (ds : List ℕ). get_or ds k 0) (there ∙ sym back);
         opposite = rw there (λ h. absurd (omega arith), λ h. absurd (omega arith));
         links = ap (by_bytes stations a) there ∙ sym (ap (λ (ds : List ℕ). reverse (by_bytes stations b ds)) back);
       }
 
-  both_told : (way : Way) (distance ttl : ℕ) (mark : Bool) → choice_there ≡ Choice.Chosen (code_of way) distance ttl mark
-      → choice_back ≡ Choice.Chosen (code_of (other_of way)) distance ttl mark
+  both_told : (way : Way) (distance ttl : ℕ) (mark : Bool) → choice_there ≡ chosen_as (code_of way) distance ttl mark
+      → choice_back ≡ chosen_as (code_of (other_of way)) distance ttl mark
       → links_of way stations a distance ≡ reverse (links_of (other_of way) stations b distance) → Told
   both_told way distance ttl mark e f reversed =
       let there = choose_bytes stations a b links side protection ring (code_of way) distance ttl mark e in
@@ -83,15 +85,18 @@ module _ (stations a b links side protection ring : ℕ) where
             ∙ ap (λ (w : Way). reverse (links_of w stations b distance)) (side_coded (other_of way)));
       }
 
-  told : (c : Choice) → choice_there ≡ c → Together stations a b choice_there choice_back → Told
+  told : (c : ChoiceAnswer) → choice_there ≡ c → Together stations a b choice_there choice_back → Told
   unfolding along_of
-  told (Choice.Chosen code distance ttl mark) e t =
-      let means = (chosen_means stations a b links side protection ring code distance ttl mark e).1 in
+  told (Ok c) e t =
+      let distance = c.distance in
+      let ttl = c.ttl in
+      let mark = c.mark in
+      let means = (chosen_means stations a b links side protection ring c.side distance ttl mark e).1 in
       let way = way_of stations a b links side protection in
-      let coded : code ≡ code_of way = cc in
-      let f : choice_there ≡ Choice.Chosen (code_of way) distance ttl mark = e ∙ ap (λ (c : ℕ). Choice.Chosen c distance ttl mark) coded in
+      let coded : c.side ≡ code_of way = ap (λ (c : Choice). c.side) (same_choice means) in
+      let f : choice_there ≡ chosen_as (code_of way) distance ttl mark = e ∙ ap (λ (c : ℕ). chosen_as c distance ttl mark) coded in
       both_told way distance ttl mark f (t.opposite way distance ttl mark f) (t.links way distance ttl mark f)
-  told (Choice.Refused n) e t = neither_told n e (t.refused n e)
+  told (Err r) e t = neither_told r e (t.refused r e)
 
 -- By default, or with nothing specified, the links that the host is told from a to b are those from b to a, reversed: one cut cannot half-break a pair.
 pub pair_together : (stations a b links side protection ring : ℕ) → (side ≡ 0) ⊎ (side ≡ 3)

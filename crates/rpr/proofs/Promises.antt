@@ -1,5 +1,6 @@
 -- What a host may rely on: which number is answered and when, that a refusal leaves all, and what a carried out call wrote. What is written is in range, so
 -- that its fields fit. Assumes nothing.
+use Rattle.std.specs.Prelude.{Ok, Err, Some, None}
 use Prim.Native.Nat.{ℕ, ◌+◌, ◌%◌, ◌≤◌, ◌<◌}
 use mathlib.Core.Bool.{true}
 use mathlib.Core.List.{List, [], ◌∷◌, ◌++◌}
@@ -12,18 +13,16 @@ use lib.ListN.{length}
 use Rattle.decide.specs.Test.{test, split, ◌≡?◌}
 use Rattle.decide.specs.Refusal.{first_of, RefusedExactly}
 use Rattle.decide.proofs.Cases.{of_each}
-use Rattle.decide.proofs.Refusal.{refused_exactly}
+use Rattle.decide.proofs.Given.{refused_exactly}
 use Rattle.decide.proofs.Refused.{carried_by}
 use Rattle.wire.specs.Wire.{digits, Bytes}
 use Rattle.shaper.specs.declared.Limits.{Limits}
 use Rattle.shaper.specs.Limits.{most_events, same_limits}
 use Rattle.shaper.proofs.Ranges.{same_exactly}
 use Rattle.summary.specs.declared.Summary.{Summary}
-use Rattle.summary.specs.declared.Answer.{Answer}
-use Rattle.summary.specs.declared.Outcome.{Outcome}
 use Rattle.summary.specs.Summary.{joined}
 use Rattle.summary.specs.Range.{in_range}
-use Rattle.summary.specs.Answer.{settle_of, settled, answer_number}
+use Rattle.summary.specs.Answer.{settle_of, settled, answer_number, Answer, Outcome}
 use Rattle.summary.proofs.Promises.{join_range, summary_range}
 use Rattle.record.specs.Items.{Item, written_items, unrolled, Formed}
 use Rattle.record.proofs.Wrote.{formed_events}
@@ -65,12 +64,12 @@ module _ (xs room : List ℕ) where
       sym (summarize_whole xs room h _ refl).0 ∙ ap (λ ys. answer_number (summarize_of ys)) e ∙ ap answer_number (summarize_items true l is w)
 
   summed : Bytes xs → (a : Answer) → AnswerNumbered a → summarize_of xs ≡ a → answer_number a ≡ 0 → summarize_after xs room ≡ handed room a → Accounted true xs (summary_at (summarize_after xs room))
-  summed b (Answer.Summed s) n e z after =
+  summed b (Ok s) n e z after =
       let x = summarized_written true xs s b e in
       let w = formed_events true x.settings x.items x.formed in
       let r = summary_range x.settings w.settings (unrolled x.items) w.valid w.few in
       rw (after, summary_of_bytes s (in_range_fits s (ap in_range x.sums ∙ r))) x
-  summed b (Answer.Refused m) n e z after = absurd (omega arith)
+  summed b (Err r) n e z after = absurd (omega arith)
 
   -- and where the call was carried out, the bytes are such a record, and the room holds the summary of its events, event by event
   pub summarize_done : Bytes xs → summarize_answer xs room ≡ 0 → Accounted true xs (summary_at (summarize_after xs room))
@@ -114,9 +113,9 @@ module _ (xs ys room : List ℕ) where
 
 -- a carried out call has byte 0 at 0
 settled_low : (s : Summary) (c : ℕ) → outcome_answer (settled 0 s c) % 256 ≡ 0
-settled_low s c = of_each (λ (o : Outcome). outcome_answer o % 256 ≡ 0) (leb s.need c) (Outcome.Permitted _) Outcome.NotPermitted (λ e. omega arith) (λ e. refl)
+settled_low s c = of_each (λ (o : Outcome). outcome_answer o % 256 ≡ 0) (leb s.need c) (Ok (Some _)) (Ok None) (λ e. omega arith) (λ e. refl)
 
-permitted_bytes_lem : (end : ℕ) → digits 8 (outcome_answer (Outcome.Permitted end)) ≡ (0 ∷ 1 ∷ 0 ∷ 0 ∷ []) ++ digits 4 end
+permitted_bytes_lem : (end : ℕ) → digits 8 (outcome_answer (Ok (Some end))) ≡ (0 ∷ 1 ∷ 0 ∷ 0 ∷ []) ++ digits 4 end
 unfolding digits
 permitted_bytes_lem end = packed_bytes (permitted_bytes end) (omega arith)
 
@@ -129,10 +128,10 @@ module _ (xs : List ℕ) (start : ℕ) where
   settle_refused_exactly = refused_exactly (settle_rows xs start) refl _ settle_leaves.byte_0
 
   module _ (e : length xs ≡ sheet_length) where
-    pub settle_permitted : (end : ℕ) → settle_of (summary_at xs) start ≡ Outcome.Permitted end → EndsAt (settle_answer xs start) end
+    pub settle_permitted : (end : ℕ) → settle_of (summary_at xs) start ≡ Ok (Some end) → EndsAt (settle_answer xs start) end
     settle_permitted end o =
         let h = end_most (summary_at xs) start end o in
         record { bytes = ap (λ n. digits 8 n) (sym (settle_whole xs start e _ (sym o))) ∙ permitted_bytes_lem end; fits = omega arith }
 
-    pub settle_not_permitted : settle_of (summary_at xs) start ≡ Outcome.NotPermitted → settle_answer xs start ≡ 0
+    pub settle_not_permitted : settle_of (summary_at xs) start ≡ Ok None → settle_answer xs start ≡ 0
     settle_not_permitted o = sym (settle_whole xs start e _ (sym o))

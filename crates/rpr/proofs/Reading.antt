@@ -13,7 +13,7 @@ use Rattle.fair.proofs.Age.{shown_four_lem}
 use Rattle.station.specs.declared.Reading.{Reading}
 use Rattle.station.specs.declared.Station.{Station}
 use Rattle.station.proofs.Hear.{held_none, held_one}
-use Rattle.slots.specs.Slots.{words_at}
+use Rattle.wire.specs.Words.{words_at}
 use Rattle.layout.specs.Layout.{credits_words, four_words}
 use Rattle.layout.specs.Reading.{reading_length, held_words}
 use Rattle.layout.proofs.Round.{by_words}

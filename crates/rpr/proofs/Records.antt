@@ -1,5 +1,6 @@
 -- The three calls together, over the bytes of records: pieces that are summarized and joined leave the whole record's summary, and settling it says what
 -- happened event by event. Each step reads back what the one before wrote. Assumes nothing.
+use Rattle.std.specs.Prelude.{Ok}
 use Prim.Native.Nat.{ℕ, ◌+◌, ◌≤◌}
 use mathlib.Core.Bool.{true}
 use mathlib.Core.List.{List, ◌++◌}
@@ -9,10 +10,8 @@ use Rattle.shaper.specs.Limits.{most_events}
 use Rattle.shaper.specs.declared.Limits.{Limits}
 use Rattle.shaper.specs.declared.Event.{Event}
 use Rattle.shaper.specs.Credit.{Permitted, end_credit}
-use Rattle.summary.specs.declared.Answer.{Answer}
-use Rattle.summary.specs.declared.Outcome.{Outcome}
 use Rattle.summary.specs.Summary.{summary_of}
-use Rattle.summary.specs.Answer.{settle_of}
+use Rattle.summary.specs.Answer.{settle_of, Outcome}
 use Rattle.summary.proofs.Promises.{summary_range, join_append, settle_exact}
 use Rattle.record.specs.Record.{written, WellFormed}
 use Rattle.record.specs.Items.{Item, written_items, unrolled, Formed}
@@ -64,5 +63,5 @@ module _ (l : Limits) (xs ys : List Event) (v : WellFormed l xs) (w : WellFormed
       → JoinGives (sheet_of (summary_of l xs)) (sheet_of (summary_of l ys)) room 0 (sheet_of (summary_of l (xs ++ ys)))
   sheets_join room h =
       join_whole (sheet_of (summary_of l xs)) (sheet_of (summary_of l ys)) room (length_sheet _) (length_sheet _) h
-      (Answer.Summed (summary_of l (xs ++ ys)))
+      (Ok (summary_of l (xs ++ ys)))
       (sym (rw (sheet_back l xs v, sheet_back l ys w) (join_append l v.settings xs ys v.valid w.valid few)))

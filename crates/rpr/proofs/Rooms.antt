@@ -1,5 +1,6 @@
 -- What a room holds: the reading of the station, and the frame that it advertises, which another station reads.
 -- Assumes nothing.
+use Rattle.shaper.specs.Refused.{number_said, afterwards}
 use Prim.Native.Nat.{ℕ}
 use mathlib.Core.Bool.{false}
 use mathlib.Core.List.{List, [], ◌∷◌}
@@ -8,7 +9,7 @@ use native.Mathlib.Omega.{arith}
 use lib.ListN.{length}
 use Rattle.decide.specs.Test.{test}
 use Rattle.decide.specs.Refusal.{first_of}
-use Rattle.decide.proofs.Refusal.{in_order_lem}
+use Rattle.decide.proofs.Given.{in_order_lem}
 use Rattle.wire.specs.Wire.{Bytes}
 use Rattle.wire.proofs.Numbers.{digits_be_bytes}
 use Rattle.wire.proofs.Placed.{laid_out_bytes}
@@ -17,12 +18,10 @@ use Rattle.advert.specs.Frame.{parts_of, advert_bytes}
 use Rattle.heard.specs.Frame.{own_address}
 use Rattle.fair.specs.Advertise.{told_of}
 use Rattle.station.specs.declared.Station.{Station}
-use Rattle.station.specs.declared.Done.{Done}
-use Rattle.station.specs.declared.Told.{Told}
 use Rattle.station.specs.Range.{StationOk}
-use Rattle.station.specs.Answers.{done_of}
+use Rattle.station.specs.Answers.{Done, done_of}
 use Rattle.station.specs.Calls.{range_fault}
-use Rattle.station.specs.Hear.{changed_of, hear_of, tell_of}
+use Rattle.station.specs.Hear.{changed_of, hear_of, Told, advert_said, tell_of}
 use Rattle.station.specs.Show.{reading_of}
 use Rattle.station.proofs.Range.{facts_in_range}
 use Rattle.station.proofs.Hear.{tell_done}
@@ -73,7 +72,7 @@ module _ {xs : List ℕ} {st : Station} (k : Keeps xs st) (room : List ℕ) (h :
     heard : hear_of t (advert_bytes told) ≡ done_of (changed_of t told)
     heard =
         let f = keeps_fits k in
-        let said : (tell_of st).advert ≡ told = ap (λ (r : Told). r.advert) (tell_done st (facts_in_range st k.in_range_lem)) in
+        let said : advert_said (tell_of st) ≡ told = ap (λ (r : Told). advert_said r) (tell_done st (facts_in_range st k.in_range_lem)) in
         subst (λ (a : Advert). test (own_address t.settings a) ≡ false → hear_of t (advert_bytes a) ≡ done_of (changed_of t a)) said
         (told_heard k.in_range_lem f.of_settings.of_address.1 (omega (arith, f.of_fair.of_received)) j.in_range_lem same many) other
 
@@ -82,7 +81,7 @@ module _ {xs : List ℕ} {st : Station} (k : Keeps xs st) (room : List ℕ) (h :
     unfolding read_frame_answer
     written_read =
         rw (write_frame_done k room h).1 (
-          sym (whole_gives _ ys _ j.whole _ _ _ (done_back ys _ _ _ (hear_of (station_at ys) (advert_bytes told)) refl (refl, refl))).0
-              ∙ sym (number_alone _) ∙ ap (λ (r : Done). r.number) (ap (λ (s : Station). hear_of s (advert_bytes told)) j.holds ∙ heard),
-          subst (λ (r : Done). Keeps (read_frame_after ys (advert_bytes told)) r.station) heard (call_keeps j (read_frame (advert_bytes told) (frame_bytes told)) _ refl),
+          sym (whole_gives _ ys _ j.whole _ _ _ (done_back ys _ (station_at ys) _ (hear_of (station_at ys) (advert_bytes told)) refl (refl, refl))).0
+              ∙ sym (number_alone _) ∙ ap (λ (r : Done). number_said r) (ap (λ (s : Station). hear_of s (advert_bytes told)) j.holds ∙ heard),
+          subst (λ (r : Done). Keeps (read_frame_after ys (advert_bytes told)) (afterwards t r)) heard (call_keeps j (read_frame (advert_bytes told) (frame_bytes told)) _ refl),
         )

@@ -1,5 +1,6 @@
 -- What each call answers and leaves, by the tests that lead there: a slice of another length, and else what the bytes hold.
 -- Assumes nothing.
+use Rattle.std.specs.Prelude.{Ok, Err}
 use Prim.Native.Nat.{ℕ, zero, suc}
 use mathlib.Core.Bool.{Bool, cond, not}
 use mathlib.Core.List.{List, [], ◌∷◌}
@@ -7,12 +8,12 @@ use mathlib.Core.Path.{◌≡◌, refl, ap, ◌∙◌}
 use native.Mathlib.Omega.{arith}
 use borrow.Author.Tests.{ne_eqb}
 use lib.ListN.{length}
+use Rattle.decide.specs.Number.{number_in}
+use Rattle.decide.proofs.Number.{number_told}
 use Rattle.decide.specs.Refusal.{nothing, row, first, number_of, first_of, refused_or}
 use Rattle.summary.specs.declared.Summary.{Summary}
-use Rattle.summary.specs.declared.Answer.{Answer}
-use Rattle.summary.specs.declared.Outcome.{Outcome}
 use Rattle.summary.specs.Summary.{joined}
-use Rattle.summary.specs.Answer.{answered, join_faults, join_of, settle_faults, settle_of, settled, answer_number}
+use Rattle.summary.specs.Answer.{answered, join_faults, join_of, settle_faults, settle_of, settled, answer_number, Answer, Outcome}
 use Rattle.account.specs.Account.{summarize_of}
 use Rattle.sheet.specs.Sheet.{sheet_length, sheet_of, summary_at, handed}
 use Rattle.rpr.specs.Shape.{answer_of, after_of}
@@ -29,9 +30,12 @@ record_row (suc n) = ap (λ (b : Bool). number_of (cond (not b) (row (record_fau
 
 handed_alone : (room : List ℕ) (a : Answer) → handed room a ≡ refused_or (λ m. room) (answer_number a) (handed room a)
 unfolding refused_or
-handed_alone room (Answer.Summed s) = refl
-handed_alone room (Answer.Refused zero) = refl
-handed_alone room (Answer.Refused (suc n)) = refl
+handed_alone room (Ok s) = refl
+handed_alone room (Err r) = alone (number_in r)
+  where
+    alone : (n : ℕ) → room ≡ refused_or (λ m. room) n room
+    alone zero = refl
+    alone (suc n) = refl
 
 module _ (xs room : List ℕ) where
   -- the answer, and the room afterwards
@@ -57,7 +61,7 @@ module _ (xs room : List ℕ) where
 number_is : (n : ℕ) (s : Summary) → answer_number (answered n s) ≡ refused_or (λ m. m) n 0
 unfolding refused_or
 number_is zero s = refl
-number_is (suc n) s = refl
+number_is (suc n) s = number_told (suc n)
 
 handed_is : (n : ℕ) (s : Summary) (room : List ℕ) → handed room (answered n s) ≡ refused_or (λ m. room) n (sheet_of s)
 unfolding refused_or
@@ -99,7 +103,7 @@ module _ (xs ys room : List ℕ) where
 outcome_is : (n : ℕ) (s : Summary) (c : ℕ) → outcome_answer (settled n s c) ≡ refused_or (λ m. m) n (outcome_answer (settled 0 s c))
 unfolding refused_or
 outcome_is zero s c = refl
-outcome_is (suc n) s c = refl
+outcome_is (suc n) s c = number_told (suc n)
 
 module _ (xs : List ℕ) (start : ℕ) where
   -- 2: the slice is no summary's

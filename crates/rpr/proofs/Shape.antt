@@ -13,7 +13,7 @@ use lib.ListN.{length}
 use Rattle.decide.specs.Test.{both}
 use Rattle.decide.specs.Refusal.{Fault, order, First, nothing, row, earlier, first, number_of, first_of, refused_or, Among}
 use Rattle.decide.proofs.Cases.{true_or_false, of_each}
-use Rattle.decide.proofs.Refusal.{carried_out}
+use Rattle.decide.proofs.Given.{carried_out}
 use Rattle.decide.proofs.Refused.{of_answer, carried_by, refused_by, number_by}
 use Rattle.wire.specs.Wire.{digits}
 use Rattle.shaper.specs.Short.{detail_of}

@@ -1,5 +1,10 @@
 -- What a host may rely on of the calls on a station: which number is answered and when, that a refusal leaves all, and what the answer's bytes say where the
 -- call was carried out, or refused with 6. Assumes nothing.
+use Rattle.std.specs.Prelude.{Result}
+use Rattle.decide.proofs.Number.{number_told}
+use Rattle.shaper.specs.declared.Refused.{Refused}
+use Rattle.shaper.specs.Refused.{number_said}
+use Rattle.flow.specs.Offer.{mark_said}
 use Prim.Native.Nat.{ℕ, ◌%◌}
 use mathlib.Core.Bool.{true, true≢false}
 use mathlib.Core.List.{List, [], ◌∷◌, ◌++◌}
@@ -10,7 +15,7 @@ use borrow.Author.Tests.{not-false}
 use lib.ListN.{length}
 use Rattle.decide.specs.Test.{test, split, ◌≡?◌}
 use Rattle.decide.specs.Refusal.{Fault, first_of, RefusedExactly}
-use Rattle.decide.proofs.Refusal.{refused_exactly, free_carried}
+use Rattle.decide.proofs.Given.{refused_exactly, free_carried}
 use Rattle.decide.proofs.Cases.{by_cases}
 use Rattle.decide.proofs.Refused.{carried_by, number_by}
 use Rattle.wire.specs.Wire.{digits}
@@ -157,18 +162,18 @@ module _ (xs : List ℕ) where
   -- rpr_offer_client: byte 4 is the mark, which excess B and C get
   module _ (class size hops : ℕ) (z : Carried (offer_client_answer xs class size hops)) where
     client_said : (first_of (offer_client_rows xs class size hops) ≡ 0)
-        × (offer_client_answer xs class size hops ≡ packed (mark_bytes (staging (station_at xs) class size hops).mark))
+        × (offer_client_answer xs class size hops ≡ packed (mark_bytes (mark_said (staging (station_at xs) class size hops))))
     unfolding offer_client_answer short_answer_of
     client_said =
         let none = sym (offer_client_leaves xs class size hops).0.byte_0 ∙ z in
         (none, carried_by _ _ _ none)
 
-    pub client_mark : (staging (station_at xs) class size hops).mark ≡ mark_of (way_for (station_at xs) class)
+    pub client_mark : mark_said (staging (station_at xs) class size hops) ≡ mark_of (way_for (station_at xs) class)
     client_mark =
         let st = station_at xs in
         let w = way_for st class in
         let own = without _ _ refl (without _ _ refl (without _ _ refl (without _ _ refl client_said.0))) in
-        ap (λ (r : Client). r.mark) (carried_by _ _ _ own)
+        ap (λ (r : Result Client Refused). mark_said r) (carried_by _ _ _ own)
 
     pub offer_client_bytes : digits 8 (offer_client_answer xs class size hops) ≡ 0 ∷ 0 ∷ 0 ∷ 0 ∷ mark_of (way_for (station_at xs) class) ∷ 0 ∷ 0 ∷ 0 ∷ []
     offer_client_bytes =
@@ -181,10 +186,10 @@ module _ (xs : List ℕ) where
     counts = sym (offer_client_leaves xs class size hops).0.byte_0 ∙ e
 
     -- 6 is the station's own answer: bytes of another length are 2
-    pub offer_client_six : (offer_client_of (station_at xs) class size hops).number ≡ 6
+    pub offer_client_six : number_said (offer_client_of (station_at xs) class size hops) ≡ 6
     offer_client_six =
         let rows = offer_client_faults (station_at xs) class size hops in
-        number_by (λ (r : station.Client). r.number) _ _ (λ m. refl) refl _
+        number_by (λ (r : Result station.Client Refused). number_said r) _ _ number_told refl _
         ∙ by_cases (split (length xs ≡? station_length))
         (λ h. sym (right_length station_length xs rows h) ∙ counts)
         (λ h. let two = wrong_length station_length xs rows h in absurd (omega (arith, two, counts)))

@@ -1,5 +1,9 @@
 -- One call: where the bytes that it is lent are a station's, it answers what the station said and leaves the bytes of the station that the call left, and a
 -- start leaves a fresh station or is refused; else it answers 2 and leaves the bytes as they were. Assumes nothing.
+use Rattle.std.specs.Prelude.{Result}
+use Rattle.decide.proofs.Number.{number_told}
+use Rattle.shaper.specs.declared.Refused.{Refused}
+use Rattle.shaper.specs.Refused.{number_said}
 use Prim.Native.Nat.{ℕ, ◌+◌, ◌%◌, ◌<◌}
 use mathlib.Core.Bool.{false}
 use mathlib.Core.List.{List, [], ◌∷◌}
@@ -21,9 +25,10 @@ use Rattle.queue.specs.declared.Frame.{Frame}
 use Rattle.queue.specs.Frame.{frame_of}
 use Rattle.station.specs.declared.Station.{Station}
 use Rattle.station.specs.Range.{StationOk}
+use Rattle.station.specs.Answers.{origin_said, frame_said}
 use Rattle.station.specs.Calls.{fresh_of, tick_of, select_of, age_of}
 use Rattle.station.specs.declared.Client.{Client}
-use Rattle.station.specs.Offers.{offer_client_faults, offer_client_of, offer_transit_of, offer_control_of}
+use Rattle.station.specs.Offers.{offer_client_faults, mark_told, offer_client_of, offer_transit_of, offer_control_of}
 use Rattle.station.specs.Hear.{hear_of, tell_of}
 use Rattle.station.specs.Show.{show_of}
 use Rattle.station.specs.History as station
@@ -68,12 +73,12 @@ lent_short xs h (show room) = ((not_whole _ xs _ _ [] [] h).0, refl)
 
 -- ---- lent a station's bytes
 
-mark_said : (m : ℕ) → packed (mark_bytes m) + packed (selected_bytes 0 (frame_of 0)) ≡ packed (mark_bytes m)
+mark_alone : (m : ℕ) → packed (mark_bytes m) + packed (selected_bytes 0 (frame_of 0)) ≡ packed (mark_bytes m)
 unfolding digits
-mark_said m = omega arith
+mark_alone m = omega arith
 
-frame_said : (origin : ℕ) (x : Frame) → packed (mark_bytes 0) + packed (selected_bytes origin x) ≡ packed (selected_bytes origin x)
-frame_said origin x = omega arith
+frame_alone : (origin : ℕ) (x : Frame) → packed (mark_bytes 0) + packed (selected_bytes origin x) ≡ packed (selected_bytes origin x)
+frame_alone origin x = omega arith
 
 alone_1 : (n said : ℕ) → said % 256 ≡ 0 → refused_or (λ m. m) n said ≡ 1 → n ≡ 1
 alone_1 n said low = of_answer _ _ (λ (a : ℕ). a ≡ 1 → n ≡ 1) n (λ z e. absurd (omega arith)) (λ h e. e)
@@ -83,9 +88,9 @@ given_1 : (call : Call) (st : Station) → answer_given call st ≡ 1 → (step 
 given_1 (station.tick a b c) st = alone_1 _ _ (omega arith)
 given_1 (station.offer_client class size hops) st =
     let rows = offer_client_faults st class size hops in
-    let number : (offer_client_of st class size hops).number ≡ first_of rows = number_by (λ (r : Client). r.number) _ _ (λ m. refl) refl _ in
+    let number : number_said (offer_client_of st class size hops) ≡ first_of rows = number_by (λ (r : Result Client Refused). number_said r) _ _ number_told refl _ in
     let small = first_most rows refl in
-    of_answer _ _ (λ (a : ℕ). a ≡ 1 → (offer_client_of st class size hops).number ≡ 1) _ (λ z e. absurd (omega arith)) (λ p e. omega (arith, number, small, e))
+    of_answer _ _ (λ (a : ℕ). a ≡ 1 → number_said (offer_client_of st class size hops) ≡ 1) _ (λ z e. absurd (omega arith)) (λ p e. omega (arith, number, small, e))
 given_1 (station.offer_transit class size hops eligible) st = alone_1 _ _ (omega arith)
 given_1 (station.offer_control size) st = alone_1 _ _ (omega arith)
 given_1 station.select st = alone_1 _ _ (omega arith)
@@ -121,13 +126,13 @@ module _ (xs : List ℕ) (bytes : Bytes xs) (e : length xs ≡ station_length) w
   lent_says (tick a b c) = roomless _ refl tt (whole_gives _ xs _ e _ _ _ (done_back xs _ _ _ (tick_of (station_at xs) a b c) refl (refl, refl)))
   lent_says (offer_client class size hops) =
       let d = offer_client_of (station_at xs) class size hops in
-      roomless _ refl tt (rw (mark_said d.mark) (whole_gives_short _ xs _ e _ _ _ _ (taken_back xs _ _ _ _ _ d refl (refl, refl))))
+      roomless _ refl tt (rw (mark_alone (mark_told d)) (whole_gives_short _ xs _ e _ _ _ _ (taken_back xs _ _ _ _ _ d refl (refl, refl))))
   lent_says (offer_transit class size hops eligible) =
       roomless _ refl tt (whole_gives _ xs _ e _ _ _ (done_back xs _ _ _ (offer_transit_of (station_at xs) class size hops eligible) refl (refl, refl)))
   lent_says (offer_control size) = roomless _ refl tt (whole_gives _ xs _ e _ _ _ (done_back xs _ _ _ (offer_control_of (station_at xs) size) refl (refl, refl)))
   lent_says select =
       let d = select_of (station_at xs) in
-      roomless _ refl tt (rw (frame_said d.origin d.frame) (whole_gives _ xs _ e _ _ _ (chosen_back xs _ _ d refl (refl, refl))))
+      roomless _ refl tt (rw (frame_alone (origin_said d) (frame_said d)) (whole_gives _ xs _ e _ _ _ (chosen_back xs _ _ d refl (refl, refl))))
   lent_says age = roomless _ refl tt (whole_gives _ xs _ e _ _ _ (done_back xs _ _ _ (age_of (station_at xs)) refl (refl, refl)))
   lent_says (read_frame frame b) = roomless _ refl tt (whole_gives _ xs _ e _ _ _ (done_back xs _ _ _ (hear_of (station_at xs) frame) refl (refl, refl)))
   lent_says (write_frame room) =

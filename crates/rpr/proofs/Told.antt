@@ -1,5 +1,9 @@
 -- What a host tells of a shaper from its calls and the numbers that it got is what the calls were: a refusal's number is not 0 and names no frame, and the
 -- bytes of a call that was carried out hold what the station said. Assumes nothing.
+use Rattle.std.specs.Prelude.{Result, Ok}
+use Rattle.decide.proofs.Number.{number_told}
+use Rattle.shaper.specs.declared.Refused.{Refused}
+use Rattle.flow.specs.Offer.{mark_said}
 use Prim.Native.Nat.{ℕ, zero, suc, ◌+◌, ◌*◌, ◌/◌, ◌%◌, ◌<◌}
 use mathlib.Core.List.{List, [], ◌∷◌, ◌++◌, append_assoc}
 use mathlib.Core.Path.{◌≡◌, refl, sym, ap, subst, ◌∙◌}
@@ -73,17 +77,17 @@ short_told_lem w (show room) st = refl
 module _ (w : Which) (r : ℕ) (st : Station) where
   -- a tick by its number alone
   tick_by : (n : ℕ) (a b c : ℕ) (next : Station) → r % 256 ≡ n
-      → trace w (station.tick a b c) (read_off r) st ≡ trace w (station.tick a b c) (of_done (refused_or (refused_of st) n (done_of next))).answer st
+      → trace w (station.tick a b c) (read_off r) st ≡ trace w (station.tick a b c) (of_done st (refused_or refused_of n (done_of next))).answer st
   unfolding digits refused_or
   tick_by zero a b c next e = rw e
-  tick_by (suc n) a b c next e = rw e
+  tick_by (suc n) a b c next e = rw (e, number_told (suc n))
 
   -- a client's frame by its mark too, where it was taken
-  client_by : (n : ℕ) (class size hops : ℕ) (d : flow.Client) → r % 256 ≡ n → (n ≡ 0 → get_or (digits 8 r) 4 0 ≡ d.mark)
-      → trace w (station.offer_client class size hops) (read_off r) st ≡ trace w (station.offer_client class size hops) (of_client (refused_or (turned_for st class) n (taken_of st d))).answer st
+  client_by : (n : ℕ) (class size hops : ℕ) (d : Result flow.Client Refused) → r % 256 ≡ n → (n ≡ 0 → get_or (digits 8 r) 4 0 ≡ mark_said d)
+      → trace w (station.offer_client class size hops) (read_off r) st ≡ trace w (station.offer_client class size hops) (of_client st (refused_or (turned_for st class) n (taken_of st d))).answer st
   unfolding digits refused_or
   client_by zero class size hops d e m = rw (e, m refl)
-  client_by (suc n) class size hops d e m = rw (e, ne_eqb (suc n) 0 (λ z. omega arith))
+  client_by (suc n) class size hops d e m = rw (e, number_told (suc n), ne_eqb (suc n) 0 (λ z. omega arith))
 
 -- the size of a frame has 14 bits
 chosen_size : {s : Settings} {f : Flow} {r : selection.Selected} → Goes s f r → r.frame.size < 16384
@@ -98,7 +102,7 @@ chosen_size (nothing a b c d e) = omega arith
 -- a frame that was selected by where it came from and its size
 select_by : (w : Which) (r : ℕ) (st : Station) (d : Selected) → d.frame.size < 16384
     → digits 8 r ≡ (0 ∷ d.origin ∷ d.frame.class ∷ d.frame.hops ∷ d.frame.mark ∷ 0 ∷ []) ++ digits 2 d.frame.size
-    → trace w station.select (read_off r) st ≡ trace w station.select (of_selected d).answer st
+    → trace w station.select (read_off r) st ≡ trace w station.select (of_selected st (Ok d)).answer st
 unfolding digits le
 select_by w r st d small e =
     let whole : d.frame.size % 256 + 256 * (d.frame.size / 256 % 256 + 256 * 0) ≡ d.frame.size = omega arith in
@@ -121,7 +125,7 @@ module _ (w : Which) (xs : List ℕ) (e : length xs ≡ station_length) (ok : St
   select_told =
       let carried = (select_leaves xs).0.byte_0 ∙ right_length station_length xs (select_faults lent) e ∙ no_row lent ok in
       select_by w (select_answer xs) lent (chosen_of lent) (chosen_size (goes lent.settings lent.flow)) (select_bytes xs carried)
-      ∙ ap (λ (d : Selected). trace w station.select (of_selected d).answer lent) (sym (select_done lent (facts_in_range lent ok)))
+      ∙ ap (λ (d : Result Selected Refused). trace w station.select (of_selected lent d).answer lent) (sym (select_done lent (facts_in_range lent ok)))
 
   whole_told : (c : LentCall) → events_told w c (answer_to c xs) lent ≡ record_of w lent (calls_of c)
   whole_told (start settings b) = refl

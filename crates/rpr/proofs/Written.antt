@@ -1,5 +1,11 @@
 -- What a call writes of a lent station is all that it changes of it: the bytes afterwards are those of the station that it leaves.
 -- Assumes nothing.
+use Rattle.std.specs.Prelude.{Result, Ok, Err}
+use Rattle.decide.specs.Number.{number_in}
+use Rattle.shaper.specs.declared.Refused.{Refused}
+use Rattle.shaper.specs.Short.{detail_of}
+use Rattle.shaper.specs.Refused.{afterwards}
+use Rattle.shaper.proofs.Turned.{refusal_known, left_known}
 use Prim.Native.Nat.{ℕ, ◌≤◌, ◌<◌}
 use mathlib.Core.Bool.{Bool}
 use mathlib.Core.List.{List, ◌∷◌}
@@ -9,7 +15,7 @@ use native.Mathlib.Omega.{arith}
 use borrow.Author.Tests.{ltb-false}
 use lib.ListN.{length, length-set}
 use Rattle.decide.specs.Refusal.{Fault, first_of, refused_or}
-use Rattle.decide.proofs.Refused.{of_answer, carried_by, refused_by, unrefused, number_by}
+use Rattle.decide.proofs.Refused.{of_answer, carried_by, refused_by}
 use Rattle.wire.specs.Wire.{digits, put, Bytes}
 use Rattle.queue.specs.declared.Frame.{Frame}
 use Rattle.queue.specs.declared.Queue.{Queue}
@@ -21,68 +27,64 @@ use Rattle.flow.specs.declared.Line.{Line}
 use Rattle.flow.specs.declared.Line.TheVariants.{Control, Primary, Secondary}
 use Rattle.flow.specs.Parts.{queue_of, capacity_of, with_credits, with_stage, with_queue}
 use Rattle.flow.specs.Tick.{tick_of}
-use Rattle.flow.specs.Offer.{enter_of}
+use Rattle.flow.specs.Offer.{flow_after, enter_of}
 use Rattle.flow.proofs.Offer.{enter_taken}
 use Rattle.selection.specs.declared.Selected as selection
 use Rattle.selection.proofs.Select.{Goes, control, primary, pressed, staged, secondary, nothing, goes}
 use Rattle.fair.specs.declared.Fair.{Fair}
-use Rattle.fair.specs.declared.Four.{Four}
+use Rattle.fair.specs.Four.{Four}
 use Rattle.fair.specs.Count.{with_counters}
 use Rattle.station.specs.declared.Station.{Station}
-use Rattle.station.specs.declared.Done.{Done}
 use Rattle.station.specs.declared.Client.{Client}
 use Rattle.station.specs.declared.Selected.{Selected}
-use Rattle.station.specs.Answers.{with_flow, with_fair, refused_of, done_of, chosen_of}
+use Rattle.station.specs.Answers.{with_flow, with_fair, Done, refused_of, done_of, chosen_of}
 use Rattle.station.specs.Calls.{ticked_of}
 use Rattle.station.specs.Offers.{offer_faults, staging, short_for, turned_for}
-use Rattle.slots.specs.Slots.{words_bytes, queue_bytes}
+use Rattle.slots.specs.Slots.{queue_bytes}
+use Rattle.wire.specs.Words.{words_bytes}
 use Rattle.layout.specs.Layout.{place_of, stage_place, fair_place, station_length, credits_words, four_words, fair_bytes, station_at, station_bytes, pushed_at, taken_at, taken_from}
 use Rattle.layout.proofs.Range.{queue_here}
 use Rattle.layout.proofs.Round.{Slotted, fits_slotted, station_fits, bytes_of_state}
 use Rattle.layout.proofs.Anew.{credits_put, queue_put, stage_put, fair_put, counters_put, queue_slotted}
 use Rattle.answer.specs.Bytes.{packed, mark_bytes, refused_bytes}
 use Rattle.rpr.specs.Shape.{other_length_of}
-use Rattle.rpr.proofs.Shape.{free, turned_down, taken_on}
-use Rattle.rpr.proofs.Given.{Gives, HandedBack, HandedShort, whole_gives, taken_as, done_back}
+use Rattle.rpr.proofs.Shape.{most_number, free}
+use Rattle.rpr.proofs.Given.{Gives, HandedShort, whole_gives, taken_as, refusal_back, left_back}
 
 -- ---- a call that is carried out: its rows give 0, and the station that it answers is the one that it leaves
 
-module _ (old : List ℕ) where
-  done_left : (n : ℕ) (st next : Station) (d : Done) → d ≡ refused_or (refused_of st) n (done_of next) → d.number ≡ 0
-      → (left : Station → List ℕ) → (n ≡ 0 → left next ≡ station_bytes next) → HandedBack n 0 old (station_bytes next) 0 (left d.station)
-  done_left n st next d h z left e =
-      let u = unrefused (λ (r : Done). r.number) _ _ (λ m. refl) n d h z in
-      let on = taken_on n 0 old (station_bytes next) u.0 in
-      rw u.1 (on.0, e u.0 ∙ on.1)
+-- a client's frame: taken, or turned down
+module _ (old : List ℕ) (class n : ℕ) (st : Station) (mark : ℕ) (f : Flow) (d : Result Client Refused) (h : d ≡ refused_or (turned_for st class) n (taken_as st mark f)) where
+  pub taken_left : (r : Client) → d ≡ Ok r → (left : Flow → List ℕ) → left f ≡ station_bytes (with_flow st f)
+      → HandedShort (short_for st class) n (packed (mark_bytes mark)) old (station_bytes (with_flow st f)) (packed (mark_bytes r.mark)) (left r.station.flow)
+  taken_left r k left e =
+      let u = left_known (λ m. detail_of m (short_for st class)) _ n d h r k in
+      rw u.1 (sym (carried_by _ _ n u.0), e ∙ sym (carried_by _ _ n u.0))
 
-  -- a client's frame: taken, or turned down
-  module _ (class n : ℕ) (st : Station) (mark : ℕ) (f : Flow) (d : Client) (h : d ≡ refused_or (turned_for st class) n (taken_as st mark f)) where
-    pub taken_left : d.number ≡ 0 → (left : Flow → List ℕ) → left f ≡ station_bytes (with_flow st f)
-        → HandedShort (short_for st class) n (packed (mark_bytes mark)) old (station_bytes (with_flow st f)) (packed (mark_bytes d.mark)) (left d.station.flow)
-    taken_left z left e =
-        let u = unrefused (λ (r : Client). r.number) _ _ (λ m. refl) n d h z in
-        rw u.1 (sym (carried_by _ _ n u.0), e ∙ sym (carried_by _ _ n u.0))
+  -- the number and the detail that the station said are told, and the bytes left
+  pub taken_not : (r : Refused) → d ≡ Err r
+      → HandedShort (short_for st class) n (packed (mark_bytes mark)) old (station_bytes (with_flow st f)) (packed (refused_bytes (number_in r.refusal) r.detail)) old
+  taken_not r k =
+      let t = refusal_known (λ m. detail_of m (short_for st class)) _ n d h r k in
+      rw (t.1, t.2) (sym (refused_by _ _ n t.0), sym (refused_by _ _ n t.0))
 
-    -- the number and the detail that the station said are told, and the bytes left
-    pub taken_not : (d.number ≡ 0 → ⊥)
-        → HandedShort (short_for st class) n (packed (mark_bytes mark)) old (station_bytes (with_flow st f)) (packed (refused_bytes d.number d.detail)) old
-    taken_not t =
-        let m = ap (λ (r : Client). r.number) h ∙ number_by (λ (r : Client). r.number) _ _ (λ m. refl) refl n in
-        let p : 0 < n = omega (arith, t, m) in
-        rw (h, refused_by (turned_for st class) (taken_as st mark f) n p) (sym (refused_by _ _ n p), sym (refused_by _ _ n p))
+  -- a number of the table fits a byte
+  pub number_fits : n ≤ most_number → (r : Refused) → d ≡ Err r → number_in r.refusal < 256
+  number_fits small r k = let t = refusal_known (λ m. detail_of m (short_for st class)) _ n d h r k in omega (arith, small, t.1)
 
--- what the station answered by a number and the station that it leaves
-module _ (xs : List ℕ) (faults : List Fault) (e : length xs ≡ station_length) (next : Station) (d : Done) (h : d ≡ refused_or (refused_of (station_at xs)) (first_of faults) (done_of next)) where
+-- what the station answered: a refusal, or the station that it leaves
+module _ (xs : List ℕ) (faults : List Fault) (e : length xs ≡ station_length) (next : Station) (d : Done) (h : d ≡ refused_or refused_of (first_of faults) (done_of next)) where
   -- a refusal is its number alone, and leaves the bytes
-  pub done_refused : (d.number ≡ 0 → ⊥) → Gives (other_length_of station_length xs ∷ faults) 0 xs (station_bytes next) d.number xs
-  done_refused t = whole_gives _ xs faults e _ _ _ (done_back xs _ _ next d h (turned_down _ _ _ _ t))
+  pub done_refused : (r : Refused) → d ≡ Err r → Gives (other_length_of station_length xs ∷ faults) 0 xs (station_bytes next) (number_in r.refusal) xs
+  done_refused r k = whole_gives _ xs faults e _ _ _ (refusal_back xs station_bytes _ next d h r k)
 
   -- and what is written of that station, where the call was carried out, is all that changes
-  pub done_carried : {after : List ℕ} → d.number ≡ 0 → (left : Station → List ℕ) → (first_of faults ≡ 0 → left next ≡ station_bytes next) → after ≡ left d.station
+  pub done_carried : {after : List ℕ} (b : Station) → d ≡ Ok b → (left : Station → List ℕ) → (first_of faults ≡ 0 → left next ≡ station_bytes next) → after ≡ left b
       → Gives (other_length_of station_length xs ∷ faults) 0 xs (station_bytes next) 0 after
-  done_carried z left w a =
-      let b = done_left xs _ _ next d h z left w in
-      whole_gives _ xs faults e _ _ _ (b.0, a ∙ b.1)
+  done_carried b k left w a =
+      let u = left_known (λ m. 0) next _ d h b k in
+      let same = ap left u.1 ∙ w u.0 ∙ ap station_bytes (sym u.1) in
+      whole_gives _ xs faults e _ _ _ (left_back xs station_bytes _ next d h b k (a ∙ same))
 
 -- ---- bytes, some part of a station in them written anew
 
@@ -123,7 +125,7 @@ module _ (ys : List ℕ) (st : Station) (s : Slotted st) (y : ys ≡ station_byt
 
 -- a queue that was offered a frame has taken it where no row applies
 entered : (st : Station) (l : Line) (x : Frame) → first_of (offer_faults st l x) ≡ 0
-    → (enter_of st.settings st.flow l x).flow ≡ with_queue st.flow l (pushed (queue_of st.flow l) x)
+    → afterwards st.flow (enter_of st.settings st.flow l x) ≡ with_queue st.flow l (pushed (queue_of st.flow l) x)
 entered st l x z =
     let fits : x.size ≤ space_of (queue_of st.flow l) (capacity_of st.settings l) = ltb-false _ _ (free (offer_faults st l x) refl z _ (inr (inr (inr (inl refl))))) in
     rw (enter_taken st.settings st.flow l x fits)
@@ -149,10 +151,11 @@ module _ (xs : List ℕ) (b : Bytes xs) (e : length xs ≡ station_length) where
 
   -- a client's frame changes the credits and the stage
   pub client_written : (class size hops : ℕ) →
-      let f : Flow = (staging (station_at xs) class size hops).flow in
+      let f : Flow = flow_after (station_at xs).flow (staging (station_at xs) class size hops) in
       stage_in (credits_in xs f) f ≡ station_bytes (with_flow (station_at xs) f)
   client_written class size hops =
-      of_answer _ _ (λ (r : flow.Client). stage_in (credits_in xs r.flow) r.flow ≡ station_bytes (with_flow (station_at xs) r.flow)) _
+      let f : Result flow.Client Refused → Flow = flow_after (station_at xs).flow in
+      of_answer _ _ (λ (r : Result flow.Client Refused). stage_in (credits_in xs (f r)) (f r) ≡ station_bytes (with_flow (station_at xs) (f r))) _
       (λ z. two_written xs (station_at xs) slotted whole _ _) (λ z. two_written xs (station_at xs) slotted whole _ _)
 
   -- a queue has 128 slots
@@ -174,7 +177,7 @@ module _ (xs : List ℕ) (b : Bytes xs) (e : length xs ≡ station_length) where
 
   -- an offer changes a queue
   pub offer_written : (l : Line) (x : Frame) → first_of (offer_faults (station_at xs) l x) ≡ 0
-      → pushed_at xs l x ≡ station_bytes (with_flow (station_at xs) (enter_of (station_at xs).settings (station_at xs).flow l x).flow)
+      → pushed_at xs l x ≡ station_bytes (with_flow (station_at xs) (afterwards (station_at xs).flow (enter_of (station_at xs).settings (station_at xs).flow l x)))
   offer_written l x z =
       rw (queue_here xs l, entered (station_at xs) l x z)
       (queue_written l (pushed (queue_of (station_at xs).flow l) x) (pushed_slots l x))

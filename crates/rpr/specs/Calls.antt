@@ -1,12 +1,12 @@
 -- What each call answers, and what it leaves in the slice that is lent for writing.
 -- Assumes nothing.
-use Rattle.std.specs.Prelude.{ℕ, ◌+◌, ◌*◌, ◌<◌, true, not, List, [], ◌∷◌, ◌++◌, ◌≡◌, eqb}
+use Rattle.std.specs.Prelude.{ℕ, ◌+◌, ◌*◌, ◌<◌, true, not, List, [], ◌∷◌, ◌++◌, ◌≡◌, eqb, Ok, Err, Some, None}
+use Rattle.decide.specs.Number.{number_in}
 use Rattle.decide.specs.Refusal.{Fault, rank_of}
 use Rattle.wire.specs.Wire.{digits}
-use Rattle.summary.specs.declared.Outcome.{Outcome}
 use Rattle.summary.specs.Summary.{joined}
 use Rattle.summary.specs.Range.{in_range}
-use Rattle.summary.specs.Answer.{join_faults, settle_faults, settled, answer_number}
+use Rattle.summary.specs.Answer.{join_faults, settle_faults, settled, answer_number, Outcome}
 use Rattle.account.specs.Account.{summarize_of}
 use Rattle.sheet.specs.Sheet.{sheet_length, sheet_of, summary_at, handed}
 use Rattle.answer.specs.Bytes.{packed, permitted_bytes}
@@ -65,9 +65,9 @@ settle_rows xs start = other_length_of sheet_length xs ∷ settle_faults (summar
 
 -- Permitted throughout with the credit at the end, or 0; or the refusal's number alone.
 abbrev pub outcome_answer : Outcome → ℕ
-outcome_answer (Outcome.Permitted credit) = packed (permitted_bytes credit)
-outcome_answer Outcome.NotPermitted = 0
-outcome_answer (Outcome.Refused n) = n
+outcome_answer (Ok (Some credit)) = packed (permitted_bytes credit)
+outcome_answer (Ok None) = 0
+outcome_answer (Err r) = number_in r
 
 unfoldable pub settle_answer : List ℕ → ℕ → ℕ
 settle_answer xs start = answer_of (settle_rows xs start) (outcome_answer (settled 0 (summary_at xs) start))

@@ -5,7 +5,7 @@ use Rattle.queue.specs.declared.Queue.{Queue}
 use Rattle.queue.specs.Frame.{frame_of}
 use Rattle.queue.specs.Queue.{frames_of, sizes}
 use Rattle.station.specs.declared.Station.{Station}
-use Rattle.slots.specs.Slots.{words_at}
+use Rattle.wire.specs.Words.{words_at}
 
 -- from word k on, n words of 4 bytes
 abbrev pub words_from : List ℕ → ℕ → ℕ → List ℕ

@@ -7,7 +7,8 @@ use Rattle.queue.specs.declared.Frame.{Frame}
 use Rattle.advert.specs.Frame.{advert_length, advert_bytes, advert_in}
 use Rattle.flow.specs.declared.Line.{Line}
 use Rattle.flow.specs.declared.Line.TheVariants.{Control}
-use Rattle.flow.specs.Offer.{queue_for, control_frame, enter_of}
+use Rattle.shaper.specs.Refused.{afterwards}
+use Rattle.flow.specs.Offer.{queue_for, control_frame, mark_said, flow_after, enter_of}
 use Rattle.fair.specs.Advertise.{told_of}
 use Rattle.station.specs.Answers.{with_flow, chosen_of}
 use Rattle.station.specs.Calls.{start_faults, fresh_of, tick_faults, ticked_of, select_faults, age_faults, aged_of}
@@ -52,12 +53,12 @@ offer_client_rows xs class size hops = other_length_of station_length xs ∷ off
 -- The answer holds the mark that the frame got; refused with 6, how far short the shapers are that it needs.
 unfoldable pub offer_client_answer : List ℕ → ℕ → ℕ → ℕ → ℕ
 offer_client_answer xs class size hops =
-    short_answer_of (offer_client_rows xs class size hops) (short_for (station_at xs) class) (packed (mark_bytes (staging (station_at xs) class size hops).mark))
+    short_answer_of (offer_client_rows xs class size hops) (short_for (station_at xs) class) (packed (mark_bytes (mark_said (staging (station_at xs) class size hops))))
 
 -- The stage holds one client frame.
 unfoldable pub offer_client_after : List ℕ → ℕ → ℕ → ℕ → List ℕ
 offer_client_after xs class size hops =
-    after_of (offer_client_rows xs class size hops) xs (station_bytes (with_flow (station_at xs) (staging (station_at xs) class size hops).flow))
+    after_of (offer_client_rows xs class size hops) xs (station_bytes (with_flow (station_at xs) (flow_after (station_at xs).flow (staging (station_at xs) class size hops))))
 
 -- ---- rpr_offer_transit, rpr_offer_control
 
@@ -70,7 +71,7 @@ offer_answer xs l x = answer_of (offer_rows xs l x) 0
 -- the frame stands last in the queue
 abbrev pub offer_after : List ℕ → Line → Frame → List ℕ
 offer_after xs l x =
-    after_of (offer_rows xs l x) xs (station_bytes (with_flow (station_at xs) (enter_of (station_at xs).settings (station_at xs).flow l x).flow))
+    after_of (offer_rows xs l x) xs (station_bytes (with_flow (station_at xs) (afterwards (station_at xs).flow (enter_of (station_at xs).settings (station_at xs).flow l x))))
 
 -- Transit A goes to the primary queue, B and C to the secondary.
 unfoldable pub offer_transit_answer : List ℕ → ℕ → ℕ → ℕ → ℕ → ℕ

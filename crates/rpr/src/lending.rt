@@ -50,14 +50,14 @@ pub fn rpr_tick(station: &mut [u8], a: u64, b: u64, c: u64) -> u64
         return NOT_WHOLE;
     }
     let good = layout::in_range(station);
-    let out = layout::read(station).tick_known(good, a, b, c);
-    if out.number != 0 {
-        return out.number as u64;
+    match layout::read(station).tick_known(good, a, b, c) {
+        Ok(next) => {
+            let flow = next.flow;
+            layout::write_credits(flow.credits, station);
+            0
+        }
+        Err(refused) => refused.refusal.number(),
     }
-    let next = out.station;
-    let flow = next.flow;
-    layout::write_credits(flow.credits, station);
-    0
 }
 
 // Takes a client frame into the stage, and answers the mark that it got. 2, 1, 3, 13, 5, 6 and how far short, then 7.
@@ -69,15 +69,16 @@ pub fn rpr_offer_client(station: &mut [u8], class: u64, size: u64, hops: u64) ->
         return NOT_WHOLE;
     }
     let good = layout::in_range(station);
-    let out = layout::read(station).offer_client_known(good, class, size, hops);
-    if out.number != 0 {
-        return answer::refused(out.number, out.detail);
+    match layout::read(station).offer_client_known(good, class, size, hops) {
+        Ok(taken) => {
+            let next = taken.station;
+            let flow = next.flow;
+            layout::write_credits(flow.credits, station);
+            layout::write_stage(flow.stage, station);
+            answer::marked(taken.mark)
+        }
+        Err(refused) => answer::refused(refused.refusal.number() as u8, refused.detail),
     }
-    let next = out.station;
-    let flow = next.flow;
-    layout::write_credits(flow.credits, station);
-    layout::write_stage(flow.stage, station);
-    answer::marked(out.mark)
 }
 
 // Takes a transit frame into the queue of its class. 2, 1, 3, 13, then 4.
@@ -91,13 +92,14 @@ pub fn rpr_offer_transit(station: &mut [u8], class: u64, size: u64, hops: u64, e
     let good = layout::in_range(station);
     let held = layout::read(station);
     let settings = held.settings;
-    let out = held.offer_transit_known(good, class, size, hops, eligible);
-    if out.number != 0 {
-        return out.number as u64;
+    match held.offer_transit_known(good, class, size, hops, eligible) {
+        Ok(_) => {
+            let line = Line::queue_for(settings, class);
+            layout::push_frame(line, class, size, hops, eligible, station);
+            0
+        }
+        Err(refused) => refused.refusal.number(),
     }
-    let line = Line::queue_for(settings, class);
-    layout::push_frame(line, class, size, hops, eligible, station);
-    0
 }
 
 // Takes a control frame, given by its size alone, into the control queue. 2, 1, 3, then 4.
@@ -109,12 +111,13 @@ pub fn rpr_offer_control(station: &mut [u8], size: u64) -> u64
         return NOT_WHOLE;
     }
     let good = layout::in_range(station);
-    let out = layout::read(station).offer_control_known(good, size);
-    if out.number != 0 {
-        return out.number as u64;
+    match layout::read(station).offer_control_known(good, size) {
+        Ok(_) => {
+            layout::push_frame(Line::Control, 0, size, 1, 0, station);
+            0
+        }
+        Err(refused) => refused.refusal.number(),
     }
-    layout::push_frame(Line::Control, 0, size, 1, 0, station);
-    0
 }
 
 // Selects the frame that goes next, and answers where it comes from and the frame. 2, then 1.
@@ -150,13 +153,13 @@ pub fn rpr_age(station: &mut [u8]) -> u64
         return NOT_WHOLE;
     }
     let good = layout::in_range(station);
-    let out = layout::read(station).age_known(good);
-    if out.number != 0 {
-        return out.number as u64;
+    match layout::read(station).age_known(good) {
+        Ok(next) => {
+            layout::write_fair(next.fair, station);
+            0
+        }
+        Err(refused) => refused.refusal.number(),
     }
-    let next = out.station;
-    layout::write_fair(next.fair, station);
-    0
 }
 
 // Reads a fairness frame. 2 (the frame's shape and its ringlet bit too), 1, 3, 13, then 11.
@@ -168,13 +171,13 @@ pub fn rpr_read_frame(station: &mut [u8], frame: &[u8]) -> u64
         return NOT_WHOLE;
     }
     let good = layout::in_range(station);
-    let out = layout::read(station).hear_known(good, frame);
-    if out.number != 0 {
-        return out.number as u64;
+    match layout::read(station).hear_known(good, frame) {
+        Ok(next) => {
+            layout::write_fair(next.fair, station);
+            0
+        }
+        Err(refused) => refused.refusal.number(),
     }
-    let next = out.station;
-    layout::write_fair(next.fair, station);
-    0
 }
 
 // Leaves in the room the fairness frame that the station advertises. 2, then 1.
@@ -189,13 +192,13 @@ pub fn rpr_write_frame(station: &[u8], room: &mut [u8]) -> u64
         return NOT_WHOLE;
     }
     let good = layout::in_range(station);
-    let out = layout::read(station).tell_known(good);
-    if out.number != 0 {
-        return out.number as u64;
+    match layout::read(station).tell_known(good) {
+        Ok(said) => {
+            advert::write(said, room);
+            0
+        }
+        Err(refused) => refused.refusal.number(),
     }
-    let said = out.advert;
-    advert::write(said, room);
-    0
 }
 
 // Leaves in the room a reading of the station. 2, then 1.
@@ -210,11 +213,11 @@ pub fn rpr_show(station: &[u8], room: &mut [u8]) -> u64
         return NOT_WHOLE;
     }
     let good = layout::in_range(station);
-    let out = layout::read(station).show_known(good);
-    if out.number != 0 {
-        return out.number as u64;
+    match layout::read(station).show_known(good) {
+        Ok(reading) => {
+            layout::write_reading(reading, room);
+            0
+        }
+        Err(refused) => refused.refusal.number(),
     }
-    let shown = out.reading;
-    layout::write_reading(shown, room);
-    0
 }

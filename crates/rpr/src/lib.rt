@@ -8,10 +8,6 @@ ghost use Rattle.rpr.specs.Movers.{roll_answer, roll_after, unroll_answer, unrol
 
 pub mod lending;
 
-use ring::Choice;
-use roll::Moved;
-use summary::Outcome;
-
 // The refusal of bytes that are not of the length named.
 const NOT_WHOLE: u64 = 2;
 
@@ -64,11 +60,10 @@ pub fn rpr_settle(summary: &[u8], start: u64) -> u64
     if summary.len() != sheet::LENGTH {
         return NOT_WHOLE;
     }
-    let outcome = sheet::read(summary).settle(start);
-    match outcome {
-        Outcome::Permitted(credit) => answer::permitted(credit),
-        Outcome::NotPermitted => 0,
-        Outcome::Refused(number) => number,
+    match sheet::read(summary).settle(start) {
+        Ok(Some(credit)) => answer::permitted(credit),
+        Ok(None) => 0,
+        Err(refusal) => refusal.number(),
     }
 }
 
@@ -80,8 +75,8 @@ pub fn rpr_roll(record: &[u8], room: &mut [u8]) -> u64
 {
     let moved = roll::roll(record, room);
     match moved {
-        Moved::Written(n) => answer::written(n),
-        Moved::Refused(number) => number,
+        Ok(n) => answer::written(n),
+        Err(refusal) => refusal.number(),
     }
 }
 
@@ -93,8 +88,8 @@ pub fn rpr_unroll(record: &[u8], room: &mut [u8]) -> u64
 {
     let moved = roll::unroll(record, room);
     match moved {
-        Moved::Written(n) => answer::written(n),
-        Moved::Refused(number) => number,
+        Ok(n) => answer::written(n),
+        Err(refusal) => refusal.number(),
     }
 }
 
@@ -110,15 +105,9 @@ pub fn rpr_choose(
 ) -> u64
     ensures { result ≡ choose_answer stations own target links side protection ring }
 {
-    let choice = ring::choose(stations, own, target, links, side, protection, ring);
-    match choice {
-        Choice::Chosen {
-            side: way,
-            distance,
-            ttl,
-            mark,
-        } => answer::chosen(way, distance, ttl, mark),
-        Choice::Refused(number) => number,
+    match ring::choose(stations, own, target, links, side, protection, ring) {
+        Ok(choice) => answer::chosen(choice.side, choice.distance, choice.ttl, choice.mark),
+        Err(refusal) => refusal.number(),
     }
 }
 
@@ -126,9 +115,8 @@ pub fn rpr_choose(
 pub fn rpr_path(stations: u64, own: u64, target: u64, links: u64, home: u64) -> u64
     ensures { result ≡ path_answer stations own target links home }
 {
-    let outcome = wrap::path(stations, own, target, links, home);
-    match outcome {
-        wrap::Outcome::Moved { delivered, hops } => answer::moved(delivered, hops),
-        wrap::Outcome::Refused(number) => number,
+    match wrap::path(stations, own, target, links, home) {
+        Ok(journey) => answer::moved(journey.delivered, journey.hops),
+        Err(refusal) => refusal.number(),
     }
 }

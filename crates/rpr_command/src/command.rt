@@ -1,9 +1,9 @@
 // The commands, and how they are called.
-use console::words;
+use console::words::{Word, Words};
 use std::io;
 use std::rt::Env;
 
-#[derive(Clone, Copy)]
+#[derive(Clone, Copy, Debug, PartialEq, Eq)]
 pub enum Command {
     Summarize,
     Join,
@@ -13,46 +13,44 @@ pub enum Command {
     Heartbeat,
 }
 
-// The command of this name.
-pub fn named(word: &[u8]) -> Option<Command> {
-    if window::alike(word, b"summarize") {
-        return Some(Command::Summarize);
+impl Command {
+    const ALL: [Command; 6] = [
+        Command::Summarize,
+        Command::Join,
+        Command::Compare,
+        Command::Roll,
+        Command::Unroll,
+        Command::Heartbeat,
+    ];
+
+    // The command of this name.
+    pub fn named(word: &[u8]) -> Option<Command> {
+        match word {
+            b"summarize" => Some(Command::Summarize),
+            b"join" => Some(Command::Join),
+            b"compare" => Some(Command::Compare),
+            b"roll" => Some(Command::Roll),
+            b"unroll" => Some(Command::Unroll),
+            b"heartbeat" => Some(Command::Heartbeat),
+            _ => None,
+        }
     }
-    if window::alike(word, b"join") {
-        return Some(Command::Join);
+
+    fn help(self) -> &'static [u8] {
+        match self {
+            Command::Summarize => SUMMARIZE,
+            Command::Join => JOIN,
+            Command::Compare => COMPARE,
+            Command::Roll => ROLL,
+            Command::Unroll => UNROLL,
+            Command::Heartbeat => HEARTBEAT,
+        }
     }
-    if window::alike(word, b"compare") {
-        return Some(Command::Compare);
-    }
-    if window::alike(word, b"roll") {
-        return Some(Command::Roll);
-    }
-    if window::alike(word, b"unroll") {
-        return Some(Command::Unroll);
-    }
-    if window::alike(word, b"heartbeat") {
-        return Some(Command::Heartbeat);
-    }
-    None
 }
 
 // Whether a word behind the command's name, and before `--`, asks for help.
 pub fn asks_help(rt: &impl Env) -> bool {
-    let count = words::count(rt);
-    let mut i = 1;
-    while i < count {
-        let mut room = [0u8; 64];
-        if let Ok(n) = words::word_into(rt, i, &mut room) {
-            if window::alike(&room[..n], b"--") {
-                return false;
-            }
-            if window::alike(&room[..n], b"--help") {
-                return true;
-            }
-        }
-        i += 1;
-    }
-    false
+    Words::new(rt).any(|word| word == Word::Help)
 }
 
 const SUMMARIZE: &[u8] =
@@ -78,28 +76,14 @@ const END: &[u8] =
 
 // Prints how a command is called.
 pub fn help_of(rt: &impl Print, command: Command) -> io::Result<()> {
-    rt.write_all(help(command))?;
+    rt.write_all(command.help())?;
     rt.write_all(END)
 }
 
 // Prints how each command is called.
 pub fn help_of_all(rt: &impl Print) -> io::Result<()> {
-    rt.write_all(SUMMARIZE)?;
-    rt.write_all(JOIN)?;
-    rt.write_all(COMPARE)?;
-    rt.write_all(ROLL)?;
-    rt.write_all(UNROLL)?;
-    rt.write_all(HEARTBEAT)?;
-    rt.write_all(END)
-}
-
-fn help(command: Command) -> &'static [u8] {
-    match command {
-        Command::Summarize => SUMMARIZE,
-        Command::Join => JOIN,
-        Command::Compare => COMPARE,
-        Command::Roll => ROLL,
-        Command::Unroll => UNROLL,
-        Command::Heartbeat => HEARTBEAT,
+    for command in Command::ALL {
+        rt.write_all(command.help())?;
     }
+    rt.write_all(END)
 }

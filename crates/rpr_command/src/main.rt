@@ -7,7 +7,8 @@ mod line;
 mod streams;
 
 use command::Command;
-use console::status::TROUBLE;
+use console::status::Status;
+use console::tell::Said;
 use console::{Behind, Host, tell};
 use std::alloc::{AllocError, Global};
 use std::env::FillError;
@@ -25,94 +26,82 @@ const RECORD: usize = 6000018;
 const ROOM: usize = 6000014;
 
 fn main(rt: HostRuntime) -> ExitCode {
-    ExitCode::from(status(&rt))
+    ExitCode::from(asked(&rt).unwrap_or(Status::Trouble))
 }
 
 // Does what the first word asks for, and answers the status.
-fn status(rt: &HostRuntime) -> u8 {
+fn asked(rt: &HostRuntime) -> Result<Status, Said> {
     let mut room = [0u8; 64];
     match rt.arg(1, &mut room) {
         Ok(n) => called(rt, &room[..n]),
-        Err(FillError::TooLong) => line::unknown(rt),
-        Err(FillError::NotPresent) => line::usage(rt),
+        Err(FillError::TooLong) => Err(line::unknown(rt)),
+        Err(FillError::NotPresent) => Err(line::usage(rt)),
     }
 }
 
 // Does what this word asks for.
-fn called(rt: &HostRuntime, word: &[u8]) -> u8 {
-    if window::alike(word, b"--help") {
-        return printed(rt, command::help_of_all(rt));
-    }
-    if window::alike(word, b"--version") {
-        return printed(rt, rt.write_all(VERSION));
-    }
-    match command::named(word) {
-        Some(command) => run(rt, command),
-        None => line::unknown(rt),
+fn called(rt: &HostRuntime, word: &[u8]) -> Result<Status, Said> {
+    match word {
+        b"--help" => printed(rt, command::help_of_all(rt)),
+        b"--version" => printed(rt, rt.write_all(VERSION)),
+        _ => match Command::named(word) {
+            Some(command) => run(rt, command),
+            None => Err(line::unknown(rt)),
+        },
     }
 }
 
 // Runs a command, or tells how it is called.
-fn run(rt: &HostRuntime, command: Command) -> u8 {
+fn run(rt: &HostRuntime, command: Command) -> Result<Status, Said> {
     let behind = Behind::new(rt);
     if command::asks_help(&behind) {
         return printed(rt, command::help_of(rt, command));
     }
-    if let Err(why) = streams::keep(rt) {
-        return line::no_null(rt, why);
-    }
-    narrowed(ran(&behind, rt.alloc(), command))
+    streams::keep(rt).map_err(|why| line::no_null(rt, why))?;
+    ran(&behind, rt.alloc(), command)
 }
 
-// The status of a command.
-fn ran(rt: &impl Host, alloc: Global, command: Command) -> u64 {
+// The status of a command. Roll and unroll are lent their memory.
+fn ran(rt: &impl Host, alloc: Global, command: Command) -> Result<Status, Said> {
     match command {
-        Command::Summarize => commands::rpr_main_summarize(rt),
-        Command::Join => commands::rpr_main_join(rt),
-        Command::Compare => commands::rpr_main_compare(rt),
-        Command::Roll => moved(rt, alloc, true),
-        Command::Unroll => moved(rt, alloc, false),
-        Command::Heartbeat => commands::rpr_main_heartbeat(rt),
+        Command::Summarize => Ok(commands::rpr_main_summarize(rt)),
+        Command::Join => Ok(commands::rpr_main_join(rt)),
+        Command::Compare => Ok(commands::rpr_main_compare(rt)),
+        Command::Roll => lent(rt, alloc, |record: &mut [u8], room: &mut [u8]| {
+            commands::rpr_main_roll(rt, record, room)
+        }),
+        Command::Unroll => lent(rt, alloc, |record: &mut [u8], room: &mut [u8]| {
+            commands::rpr_main_unroll(rt, record, room)
+        }),
+        Command::Heartbeat => Ok(commands::rpr_main_heartbeat(rt)),
     }
 }
 
-// The status of roll and of unroll, or of there being no memory for them.
-fn moved(rt: &impl Host, alloc: Global, rolls: bool) -> u64 {
-    match lent(rt, alloc, rolls) {
-        Ok(status) => status,
-        Err(AllocError) => {
-            line::no_memory(rt);
-            TROUBLE
-        }
+// Lends a command the memory that roll and unroll need, or says that there is none.
+fn lent<F: FnOnce(&mut [u8], &mut [u8]) -> Status + Drop>(
+    rt: &impl Host,
+    alloc: Global,
+    command: F,
+) -> Result<Status, Said>
+    requires { F.IsAlwaysCallable command }
+{
+    match rooms(alloc) {
+        Ok((mut record, mut room)) => Ok(command(&mut record, &mut room)),
+        Err(AllocError) => Err(line::no_memory(rt)),
     }
 }
 
-// The status of roll and of unroll, which are lent their memory.
-fn lent(rt: &impl Host, alloc: Global, rolls: bool) -> Result<u64, AllocError> {
-    let mut record = vec![in alloc; 0u8; RECORD]?;
-    let mut room = vec![in alloc; 0u8; ROOM]?;
-    if rolls {
-        return Ok(commands::rpr_main_roll(rt, &mut record, &mut room));
-    }
-    Ok(commands::rpr_main_unroll(rt, &mut record, &mut room))
-}
-
-// A status as the system takes it.
-fn narrowed(status: u64) -> u8 {
-    if status == 0 {
-        return 0;
-    }
-    if status == 1 {
-        return 1;
-    }
-    2
+// The memory to read a record into, and the room for what is written.
+fn rooms(alloc: Global) -> Result<(Vec<u8>, Vec<u8>), AllocError> {
+    let record = vec![in alloc; 0u8; RECORD]?;
+    let room = vec![in alloc; 0u8; ROOM]?;
+    Ok((record, room))
 }
 
 // The status once all that was printed is written, or says why it is not.
-fn printed(rt: &impl Host, written: io::Result<()>) -> u8 {
-    if let Err(why) = written {
-        tell::unwritten(rt, why);
-        return 2;
+fn printed(rt: &impl Host, written: io::Result<()>) -> Result<Status, Said> {
+    match written {
+        Ok(()) => Ok(Status::Yes),
+        Err(why) => Err(tell::unwritten(rt, why)),
     }
-    0
 }

@@ -21,10 +21,9 @@ pub fn keep(rt: &HostRuntime) -> io::Result<()> {
 }
 
 fn is_closed(stream: BorrowedFd<'_>) -> bool {
-    match stream.try_clone_to_owned() {
-        Ok(_) => false,
-        Err(why) => why.raw_os_error() == Some(CLOSED),
-    }
+    stream
+        .try_clone_to_owned()
+        .is_err_and(|why| why.raw_os_error() == Some(CLOSED))
 }
 
 // A file that stays open at a stream's number.

@@ -47,7 +47,7 @@ impl Sight {
     {
         let credits = flow.credits;
         Sight {
-            credits: credits,
+            credits,
             stage: flow.stage,
             control: flow.control.front(),
             primary: flow.primary.front(),
@@ -86,8 +86,8 @@ impl Sight {
         let frame = front.first();
         Pick {
             origin: origin(line),
-            frame: frame,
-            credits: credits,
+            frame,
+            credits,
             stage: self.stage,
         }
     }
@@ -97,12 +97,9 @@ impl Sight {
         requires { permits_of settings self.credits which ≡ true }
         ensures { result ≡ pick_from (leaves_charged settings (seen_in self) line which) }
     {
-        let mut next = self.goes(line);
-        let frame = next.frame;
-        let credits = self.credits;
-        let paid = credits.charge(settings, which, frame.size);
-        next.credits = paid;
-        next
+        let next = self.goes(line);
+        let credits = self.credits.charge(settings, which, next.frame.size);
+        Pick { credits, ..next }
     }
 
     // The frame in the stage goes and leaves it empty. It was charged for as it came.
@@ -113,8 +110,8 @@ impl Sight {
         let frame = Frame::of(self.stage);
         Pick {
             origin: 4,
-            frame: frame,
-            credits: credits,
+            frame,
+            credits,
             stage: queue::EMPTY,
         }
     }
@@ -128,7 +125,7 @@ impl Sight {
         Pick {
             origin: 0,
             frame: none,
-            credits: credits,
+            credits,
             stage: self.stage,
         }
     }

@@ -52,7 +52,7 @@ pub struct Fairness {
 }
 
 // The settings whose words stand behind those of all other parts: the number of stations on the ring, the method of adjusting localFairRate (0 aggressive,
-// 1 conservative), a fairness round trip in intervals, rampDn.
+// 1 conservative), a fairness round trip in intervals, rampDn. The method is a number and no enum: a lent word may hold another, and `in_range` has to see it.
 #[derive(Clone, Copy)]
 pub struct Site {
     pub stations: u32,
@@ -117,7 +117,7 @@ impl Address {
     pub fn number(self) -> u64
         ensures { result ≡ address_of self }
     {
-        wide(self.high) * 4294967296 + wide(self.low)
+        self.high as u64 * 4294967296 + self.low as u64
     }
 }
 
@@ -136,7 +136,7 @@ impl Bucket {
         ensures { result ≡ limits_of mtu self }
     {
         Limits {
-            mtu: mtu,
+            mtu,
             lo: self.lo,
             hi: self.hi,
         }
@@ -171,7 +171,7 @@ impl Queues {
     pub fn in_range(self, mtu: u32) -> bool
         ensures { result ≡ test (queues_ok mtu self) }
     {
-        let least = wide(mtu);
+        let least = mtu as u64;
         capacity_ok(least, self.primary)
             & capacity_ok(least, self.control)
             & capacity_ok(2 * least, self.secondary)
@@ -199,10 +199,10 @@ impl Fairness {
         ensures { result ≡ usual_of weight unit ticks unreserved }
     {
         Fairness {
-            weight: weight,
-            unit: unit,
-            ticks: ticks,
-            unreserved: unreserved,
+            weight,
+            unit,
+            ticks,
+            unreserved,
             age: Fairness::DEFAULT_AGE,
             lp: Fairness::DEFAULT_LP,
             ramp: Fairness::DEFAULT_RAMP,
@@ -270,7 +270,7 @@ pub fn in_range_at(s: &[u8], at: usize) -> bool
 fn capacity_ok(least: u64, capacity: u32) -> bool
     ensures { result ≡ test (capacity_ok least capacity) }
 {
-    (least <= wide(capacity)) & (capacity <= Queues::MAX_CAPACITY)
+    (least <= capacity as u64) & (capacity <= Queues::MAX_CAPACITY)
 }
 
 // Whether an ageCoef is one of its five values.
@@ -285,11 +285,4 @@ fn coef_ok(x: u32) -> bool
     ensures { result ≡ test (coef_ok x) }
 {
     (x == 16) | (x == 32) | (x == 64) | (x == 128) | (x == 256) | (x == 512)
-}
-
-// A 32-bit number as a 64-bit one.
-fn wide(x: u32) -> u64
-    ensures { (result ≡ x) × (result ≤ 4294967295) }
-{
-    x as u64
 }

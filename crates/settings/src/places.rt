@@ -1,4 +1,5 @@
 // The words of the settings, each of 4 bytes, read from lent bytes and written there. Each part stands behind the one before it.
+// No trait has these reads and writes: nothing is generic over the parts, and each names its own fields either way.
 ghost use Rattle.std.specs.Prelude.{◌≡◌, ◌+◌, ◌≤◌, length};
 ghost use Rattle.wire.specs.Wire.{put};
 ghost use Rattle.settings.specs.Words.{address_length, address_at, address_bytes, bucket_length, bucket_at, bucket_bytes, shapers_length, shapers_at, shapers_bytes};
@@ -65,10 +66,8 @@ impl Address {
         requires { at + address_length ≤ length s.now }
         ensures { result ≡ address_at s.now at }
     {
-        Address {
-            high: wire::get32(s, at),
-            low: wire::get32(s, at + 4),
-        }
+        let [high, low] = wire::read_words::<2>(s, at);
+        Address { high, low }
     }
 
     // Writes the words of an address to `s` from `at` on.
@@ -76,8 +75,7 @@ impl Address {
         requires { at + address_length ≤ length s.old }
         ensures { s.new ≡ put s.old at (address_bytes self) }
     {
-        wire::put32(s, at, self.high);
-        wire::put32(s, at + 4, self.low);
+        wire::write_words([self.high, self.low], s, at);
     }
 }
 
@@ -89,11 +87,8 @@ impl Bucket {
         requires { at + bucket_length ≤ length s.now }
         ensures { result ≡ bucket_at s.now at }
     {
-        Bucket {
-            lo: wire::get32(s, at),
-            hi: wire::get32(s, at + 4),
-            amount: wire::get32(s, at + 8),
-        }
+        let [lo, hi, amount] = wire::read_words::<3>(s, at);
+        Bucket { lo, hi, amount }
     }
 
     // Writes the words of a shaper's settings to `s` from `at` on.
@@ -101,9 +96,7 @@ impl Bucket {
         requires { at + bucket_length ≤ length s.old }
         ensures { s.new ≡ put s.old at (bucket_bytes self) }
     {
-        wire::put32(s, at, self.lo);
-        wire::put32(s, at + 4, self.hi);
-        wire::put32(s, at + 8, self.amount);
+        wire::write_words([self.lo, self.hi, self.amount], s, at);
     }
 }
 
@@ -145,11 +138,12 @@ impl Queues {
         requires { at + queues_length ≤ length s.now }
         ensures { result ≡ queues_at s.now at }
     {
+        let [control, primary, secondary, threshold] = wire::read_words::<4>(s, at);
         Queues {
-            control: wire::get32(s, at),
-            primary: wire::get32(s, at + 4),
-            secondary: wire::get32(s, at + 8),
-            threshold: wire::get32(s, at + 12),
+            control,
+            primary,
+            secondary,
+            threshold,
         }
     }
 
@@ -158,10 +152,11 @@ impl Queues {
         requires { at + queues_length ≤ length s.old }
         ensures { s.new ≡ put s.old at (queues_bytes self) }
     {
-        wire::put32(s, at, self.control);
-        wire::put32(s, at + 4, self.primary);
-        wire::put32(s, at + 8, self.secondary);
-        wire::put32(s, at + 12, self.threshold);
+        wire::write_words(
+            [self.control, self.primary, self.secondary, self.threshold],
+            s,
+            at,
+        );
     }
 }
 
@@ -173,14 +168,15 @@ impl Fairness {
         requires { at + fairness_length ≤ length s.now }
         ensures { result ≡ fairness_at s.now at }
     {
+        let [weight, unit, ticks, unreserved, age, lp, ramp] = wire::read_words::<7>(s, at);
         Fairness {
-            weight: wire::get32(s, at),
-            unit: wire::get32(s, at + 4),
-            ticks: wire::get32(s, at + 8),
-            unreserved: wire::get32(s, at + 12),
-            age: wire::get32(s, at + 16),
-            lp: wire::get32(s, at + 20),
-            ramp: wire::get32(s, at + 24),
+            weight,
+            unit,
+            ticks,
+            unreserved,
+            age,
+            lp,
+            ramp,
         }
     }
 
@@ -189,13 +185,19 @@ impl Fairness {
         requires { at + fairness_length ≤ length s.old }
         ensures { s.new ≡ put s.old at (fairness_bytes self) }
     {
-        wire::put32(s, at, self.weight);
-        wire::put32(s, at + 4, self.unit);
-        wire::put32(s, at + 8, self.ticks);
-        wire::put32(s, at + 12, self.unreserved);
-        wire::put32(s, at + 16, self.age);
-        wire::put32(s, at + 20, self.lp);
-        wire::put32(s, at + 24, self.ramp);
+        wire::write_words(
+            [
+                self.weight,
+                self.unit,
+                self.ticks,
+                self.unreserved,
+                self.age,
+                self.lp,
+                self.ramp,
+            ],
+            s,
+            at,
+        );
     }
 }
 
@@ -207,11 +209,12 @@ impl Site {
         requires { at + site_length ≤ length s.now }
         ensures { result ≡ site_at s.now at }
     {
+        let [stations, method, trip, down] = wire::read_words::<4>(s, at);
         Site {
-            stations: wire::get32(s, at),
-            method: wire::get32(s, at + 4),
-            trip: wire::get32(s, at + 8),
-            down: wire::get32(s, at + 12),
+            stations,
+            method,
+            trip,
+            down,
         }
     }
 
@@ -220,9 +223,6 @@ impl Site {
         requires { at + site_length ≤ length s.old }
         ensures { s.new ≡ put s.old at (site_bytes self) }
     {
-        wire::put32(s, at, self.stations);
-        wire::put32(s, at + 4, self.method);
-        wire::put32(s, at + 8, self.trip);
-        wire::put32(s, at + 12, self.down);
+        wire::write_words([self.stations, self.method, self.trip, self.down], s, at);
     }
 }

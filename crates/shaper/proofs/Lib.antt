@@ -3,3 +3,4 @@ pub mod Short
 pub mod Charge
 pub mod Kind
 pub mod Ranges
+pub mod Turned

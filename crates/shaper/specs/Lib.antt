@@ -1,5 +1,6 @@
 pub mod Limits
 pub mod Credit
 pub mod Short
+pub mod Refused
 pub mod Shaper
 pub mod Kind

@@ -5,10 +5,15 @@ ghost use Rattle.std.specs.Prelude.{◌≡◌, ◌+◌, ◌-◌, min};
 ghost use Rattle.decide.specs.Test.{test};
 ghost use Rattle.shaper.specs.Limits.{limits_ok, same_limits};
 ghost use Rattle.shaper.specs.Short.{shortfall};
+ghost use Rattle.shaper.specs.Refused.{plain};
 ghost use Rattle.shaper.specs.Shaper.{fresh_of, ticked_of, charge_of};
 
+use decide::Refusal;
+use std::error::Error;
+use std::fmt;
+
 // The settings of a shaper that bound its credit, and the longest frame.
-#[derive(Clone, Copy)]
+#[derive(Clone, Copy, PartialEq, Eq)]
 pub struct Limits {
     pub mtu: u32,
     pub lo: u32,
@@ -41,14 +46,32 @@ pub struct Shaper {
     pub credit: u32,
 }
 
-// What a charge answers: 0, or 6 where the shaper does not permit, and the shaper afterwards. `detail` is what a refusal says beside its number: how far short the
-// shaper is.
-#[derive(Clone, Copy)]
-pub struct Charged {
-    pub number: u8,
+// Why a call is turned down. `detail` is what is said beside it: of `NoCredit` how far short the shapers are, else 0.
+#[derive(Clone, Copy, Debug, PartialEq, Eq)]
+pub struct Refused {
+    pub refusal: Refusal,
     pub detail: u64,
-    pub shaper: Shaper,
 }
+
+impl From<Refusal> for Refused {
+    ghost from_gives = { λ r e. e ≡ plain r };
+
+    fn from(refusal: Refusal) -> Refused {
+        Refused { refusal, detail: 0 }
+    }
+}
+
+impl fmt::Display for Refused {
+    fn fmt<W: fmt::Write>(&self, f: &mut fmt::Formatter<W>) -> fmt::Result {
+        write!(f, "{}", self.refusal)?;
+        if self.detail != 0 {
+            write!(f, " short {}", self.detail)?;
+        }
+        Ok(())
+    }
+}
+
+impl Error for Refused {}
 
 impl Limits {
     pub const MIN_MTU: u32 = 64;
@@ -63,41 +86,19 @@ impl Limits {
     pub fn in_range(self) -> bool
         ensures { result ≡ test (limits_ok self) }
     {
-        if self.mtu < Limits::MIN_MTU {
-            return false;
-        }
-        if Limits::MAX_MTU < self.mtu {
-            return false;
-        }
-        if self.lo < self.mtu {
-            return false;
-        }
-        if Limits::MAX_LO < self.lo {
-            return false;
-        }
-        if self.hi <= self.lo {
-            return false;
-        }
-        if Limits::MAX_HI < self.hi {
-            return false;
-        }
-        true
+        (Limits::MIN_MTU <= self.mtu)
+            & (self.mtu <= Limits::MAX_MTU)
+            & (self.mtu <= self.lo)
+            & (self.lo <= Limits::MAX_LO)
+            & (self.lo < self.hi)
+            & (self.hi <= Limits::MAX_HI)
     }
 
     // Whether two shapers have the same settings.
     pub fn same(self, other: Limits) -> bool
         ensures { result ≡ test (same_limits self other) }
     {
-        if self.mtu != other.mtu {
-            return false;
-        }
-        if self.lo != other.lo {
-            return false;
-        }
-        if self.hi != other.hi {
-            return false;
-        }
-        true
+        self == other
     }
 }
 
@@ -106,7 +107,7 @@ impl Limits {
 pub fn ask(credit: u32, lo: u32) -> u64
     ensures { result ≡ shortfall credit lo }
 {
-    decide::less(lo as u64 + 1, credit as u64)
+    (lo as u64 + 1).saturating_sub(credit as u64)
 }
 
 impl Shaper {
@@ -115,10 +116,7 @@ impl Shaper {
         ensures { result ≡ fresh_of limits }
     {
         let credit = limits.lo;
-        Shaper {
-            limits: limits,
-            credit: credit,
-        }
+        Shaper { limits, credit }
     }
 
     // The shaper after a tick, while traffic waits or while it does not.
@@ -126,57 +124,31 @@ impl Shaper {
         ensures { result ≡ ticked_of self waiting amount }
     {
         let limits = self.limits;
-        if waiting {
-            let credit = raised(self.credit, amount, limits.hi);
-            return Shaper {
-                limits: limits,
-                credit: credit,
-            };
-        }
-        let credit = raised(self.credit, amount, limits.lo);
-        Shaper {
-            limits: limits,
-            credit: credit,
-        }
+        let cut = if waiting { limits.hi } else { limits.lo };
+        let credit = self.credit.saturating_add(amount).min(cut);
+        Shaper { limits, credit }
     }
 
-    // The shaper after a send of this size, or as it was where it does not permit.
-    pub fn charge(self, size: u32) -> Charged
+    // The shaper after a send of this size, or `NoCredit` and how far short it is where it does not permit: then nothing is taken off.
+    pub fn charge(self, size: u32) -> Result<Shaper, Refused>
         ensures { result ≡ charge_of self size }
     {
         let limits = self.limits;
         let short = ask(self.credit, limits.lo);
         if 0 < short {
-            return Charged {
-                number: 6,
+            return Err(Refused {
+                refusal: Refusal::NoCredit,
                 detail: short,
-                shaper: self,
-            };
+            });
         }
         let credit = lowered(self.credit, size);
-        let left = Shaper {
-            limits: limits,
-            credit: credit,
-        };
-        Charged {
-            number: 0,
-            detail: 0,
-            shaper: left,
-        }
+        Ok(Shaper { limits, credit })
     }
-}
-
-// The sum of a credit and an amount, cut. It is added in 64 bits, so that no sum wraps.
-fn raised(credit: u32, amount: u32, cut: u32) -> u32
-    ensures { result ≡ min (credit + amount) cut }
-{
-    let sum = credit as u64 + amount as u64;
-    if sum < cut as u64 { sum as u32 } else { cut }
 }
 
 // A credit less a size; 0 where the size is larger, which no permitted send of a valid size is.
 fn lowered(credit: u32, size: u32) -> u32
     ensures { result ≡ credit - size }
 {
-    if credit < size { 0 } else { credit - size }
+    credit.saturating_sub(size)
 }

@@ -2,8 +2,7 @@
 -- Assumes nothing.
 use Rattle.std.specs.Prelude.{ℕ, not, List, [], ◌∷◌, eqb, length}
 use Rattle.decide.specs.Refusal.{Fault, fault, first_of}
-use Rattle.summary.specs.declared.Answer.{Answer}
-use Rattle.summary.specs.Answer.{answered, and_then, join_next}
+use Rattle.summary.specs.Answer.{answered, and_then, join_next, Answer}
 use Rattle.summary.specs.Range.{in_range}
 use Rattle.sheet.specs.Sheet.{sheet_length, summary_at, handed}
 

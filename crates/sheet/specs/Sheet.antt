@@ -1,12 +1,12 @@
 -- A summary as 48 bytes, words little-endian: mtu, loLimit, hiLimit and events 4 bytes each; accrued, sent, ceiling (two's complement) and need 8 each.
 -- Assumes nothing.
-use Rattle.std.specs.Prelude.{List, [], ◌∷◌, ℕ, ◌<◌}
+use Rattle.std.specs.Prelude.{List, [], ◌∷◌, ℕ, ◌<◌, Ok, Err}
 use Rattle.std.specs.Int.Signed.{mag}
 use Rattle.wire.specs.Wire.{le}
 use Rattle.wire.specs.Parts.{Part, number, laid_out}
 use Rattle.wire.specs.Signed.{signed_of, unsigned_of}
 use Rattle.summary.specs.declared.Summary.{Summary}
-use Rattle.summary.specs.declared.Answer.{Answer}
+use Rattle.summary.specs.Answer.{Answer}
 
 -- how many bytes a summary takes
 abbrev pub sheet_length : ℕ
@@ -31,8 +31,8 @@ sheet_of s = laid_out (sheet_parts s)
 
 -- a summary in the room, or the room as it was where there is none
 abbrev pub handed : List ℕ → Answer → List ℕ
-handed room (Answer.Summed s) = sheet_of s
-handed room (Answer.Refused n) = room
+handed room (Ok s) = sheet_of s
+handed room (Err r) = room
 
 -- the summary that bytes hold: each field at its place
 unfoldable pub summary_at : List ℕ → Summary

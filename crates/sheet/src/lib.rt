@@ -6,8 +6,9 @@ ghost use Rattle.summary.specs.Answer.{answer_number};
 ghost use Rattle.sheet.specs.Sheet.{sheet_length, sheet_of, summary_at, handed};
 ghost use Rattle.sheet.specs.Files.{opened_of, joined_with};
 
+use decide::Refusal;
 use shaper::Limits;
-use summary::{Answer, Summary};
+use summary::Summary;
 
 // How many bytes a summary takes.
 pub const LENGTH: usize = 48;
@@ -23,7 +24,7 @@ pub fn read(s: &[u8]) -> Summary
         hi: wire::get32(s, 8),
     };
     Summary {
-        limits: limits,
+        limits,
         events: wire::get32(s, 12),
         accrued: wire::get64(s, 16),
         sent: wire::get64(s, 24),
@@ -50,40 +51,37 @@ pub fn write(v: Summary, s: &mut [u8])
 }
 
 // Writes the summary of an answer to the room and answers 0, or answers the number of a refusal and writes nothing.
-pub fn hand_over(answer: Answer, room: &mut [u8]) -> u64
+pub fn hand_over(answer: Result<Summary, Refusal>, room: &mut [u8]) -> u64
     requires { length room.old ≡ sheet_length }
     ensures value { result ≡ answer_number answer }
     ensures room_after { room.new ≡ handed room.old answer }
 {
     match answer {
-        Answer::Summed(whole) => {
+        Ok(whole) => {
             write(whole, room);
             0
         }
-        Answer::Refused(number) => number,
+        Err(refusal) => refusal.number(),
     }
 }
 
 // The summary that a file's bytes hold. 2 where they are not 48, then 3 where it is outside its range.
-pub fn opened(s: &[u8]) -> Answer
+pub fn opened(s: &[u8]) -> Result<Summary, Refusal>
     ensures { result ≡ opened_of s.now }
 {
     if s.len() != LENGTH {
-        return Answer::Refused(2);
+        return Err(Refusal::NotWhole);
     }
     let held = read(s);
     if !held.in_range() {
-        return Answer::Refused(3);
+        return Err(Refusal::OutOfRange);
     }
-    Answer::Summed(held)
+    Ok(held)
 }
 
 // The summary so far joined with that of the next file's bytes, or the first refusal.
-pub fn joined(before: Answer, s: &[u8]) -> Answer
+pub fn joined(before: Result<Summary, Refusal>, s: &[u8]) -> Result<Summary, Refusal>
     ensures { result ≡ joined_with before s.now }
 {
-    match before {
-        Answer::Summed(sum) => sum.join_next(opened(s)),
-        Answer::Refused(n) => Answer::Refused(n),
-    }
+    before?.join_next(opened(s))
 }

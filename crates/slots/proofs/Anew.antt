@@ -16,7 +16,8 @@ use Rattle.queue.specs.declared.Frame.{Frame}
 use Rattle.queue.specs.declared.Queue.{Queue}
 use Rattle.queue.specs.Frame.{word_of}
 use Rattle.queue.specs.Queue.{pushed}
-use Rattle.slots.specs.Slots.{queue_length, words_bytes, words_length, queue_bytes, queue_parts, queue_length_lem, words_at, queue_at, slot_anew}
+use Rattle.slots.specs.Slots.{queue_length, queue_bytes, queue_parts, queue_length_lem, queue_at, slot_anew}
+use Rattle.wire.specs.Words.{words_bytes, words_length, words_at}
 use Rattle.slots.proofs.Round.{slots_length, queue_stand}
 
 -- ---- parts

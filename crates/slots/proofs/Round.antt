@@ -20,7 +20,8 @@ use Rattle.queue.specs.declared.Queue.{Queue}
 use Rattle.queue.specs.Queue.{frames_of}
 use Rattle.queue.specs.Range.{QueueOk}
 use Rattle.queue.proofs.Ring.{in_all}
-use Rattle.slots.specs.Slots.{queue_length, words_bytes, queue_bytes, words_length, queue_parts, queue_length_lem, words_at, queue_at, WordsFit, QueueFits}
+use Rattle.slots.specs.Slots.{queue_length, queue_bytes, queue_parts, queue_length_lem, queue_at, WordsFit, QueueFits}
+use Rattle.wire.specs.Words.{words_bytes, words_length, words_at}
 
 -- a word, and those behind it
 abbrev pair : ℕ → List ℕ → List Part

@@ -1,8 +1,9 @@
 -- A queue as 518 bytes: its 128 slots, a word of 4 bytes each; the bytes held, 4; the head, 1; the count, 1. Each number has its least byte first.
 -- Assumes nothing.
-use Rattle.std.specs.Prelude.{ℕ, zero, suc, ◌+◌, ◌*◌, ◌^◌, ◌<◌, List, [], ◌∷◌, ◌++◌, ◌≡◌, refl, length, set}
-use Rattle.std.proofs.Common.{arith, length-append}
-use Rattle.wire.specs.Wire.{le, digits, length_digits}
+use Rattle.std.specs.Prelude.{ℕ, ◌+◌, ◌^◌, ◌<◌, List, [], ◌∷◌, ◌++◌, ◌≡◌, length, set}
+use Rattle.std.proofs.Common.{arith}
+use Rattle.wire.specs.Wire.{le}
+use Rattle.wire.specs.Words.{words_bytes, words_length, words_at}
 use Rattle.wire.specs.Parts.{Part, number, laid_out, length_laid_out}
 use Rattle.decide.specs.Test.{test}
 use Rattle.queue.specs.declared.Bounds.{Bounds}
@@ -18,19 +19,8 @@ queue_length = 518
 
 -- ---- what is written: slots, bytes held, head and count, one after another
 
--- words, 4 bytes each
-unfoldable pub words_bytes : List ℕ → List ℕ
-words_bytes [] = []
-words_bytes (w ∷ ws) = digits 4 w ++ words_bytes ws
-
 unfoldable pub queue_bytes : Queue → List ℕ
 queue_bytes q = words_bytes q.slots ++ laid_out (number 4 q.held ∷ number 1 q.head ∷ number 1 q.count ∷ [])
-
--- how many bytes they are
-pub words_length : (ws : List ℕ) → length (words_bytes ws) ≡ 4 * length ws
-unfolding words_bytes
-words_length [] = refl
-words_length (w ∷ ws) = omega (arith, length-append (digits 4 w) (words_bytes ws), length_digits 4 w, words_length ws)
 
 -- the slots, where they are 128, as one part
 abbrev pub slots_part : (ws : List ℕ) → length ws ≡ 128 → Part
@@ -48,11 +38,6 @@ abbrev pub queue_part : (q : Queue) → length q.slots ≡ 128 → Part
 queue_part q e = record { size = queue_length; bytes = queue_bytes q; sized = queue_length_lem q e }
 
 -- ---- what is read: each number at its place
-
--- the n words that stand in xs from index at on
-unfoldable pub words_at : ℕ → List ℕ → ℕ → List ℕ
-words_at zero xs at = []
-words_at (suc n) xs at = le 4 xs at ∷ words_at n xs (at + 4)
 
 unfoldable pub queue_at : List ℕ → ℕ → Queue
 queue_at xs at =

@@ -1,20 +1,21 @@
 // A queue as 518 bytes, in which a host keeps it: its slots, the bytes held, the head and the count.
 #![tactic(auto)]
 
-ghost use Rattle.std.specs.Prelude.{◌≡◌, ◌+◌, ◌-◌, ◌≤◌, ◌<◌, length};
+ghost use Rattle.std.specs.Prelude.{◌≡◌, ◌+◌, ◌*◌, ◌-◌, ◌≤◌, ◌<◌, length};
 ghost use Rattle.decide.specs.Test.{test};
 ghost use Rattle.wire.specs.Wire.{put};
 ghost use Rattle.queue.specs.Front.{front_of};
 ghost use Rattle.queue.specs.Queue.{frames_from, pushed, taken};
 ghost use Rattle.queue.specs.Range.{queue_ok, used_in, empty_ok};
-ghost use Rattle.slots.specs.Slots.{queue_length, words_bytes, queue_bytes, words_at, queue_at, slot_anew, found_of};
+ghost use Rattle.slots.specs.Slots.{queue_length, queue_bytes, queue_at, slot_anew, found_of};
+ghost use Rattle.wire.specs.Words.{words_bytes, words_at};
 
 use queue::{Bounds, Frame, Front, Queue};
 
 // How many bytes a queue takes.
 pub const LENGTH: usize = 518;
 
-// What frames come to: whether each may be held, and their bytes.
+// What frames come to: whether each may be held, and their bytes. No Option of the bytes: both are gathered without a branch, and `found_of` says both.
 #[derive(Clone, Copy)]
 struct Found {
     good: bool,
@@ -26,9 +27,9 @@ pub fn read(s: &[u8], at: usize) -> Queue
     requires { at + queue_length ≤ length s.now }
     ensures { result ≡ queue_at s.now at }
 {
-    let slots = read_words(s, at);
+    let slots = wire::read_words(s, at);
     Queue {
-        slots: slots,
+        slots,
         head: s[at + 516],
         count: s[at + 517],
         held: wire::get32(s, at + 512),
@@ -54,8 +55,7 @@ pub fn write(q: Queue, s: &mut [u8], at: usize)
     requires { at + queue_length ≤ length s.old }
     ensures { (s.new ≡ put s.old at (queue_bytes q)) × (length q.slots ≡ 128) }
 {
-    let slots = q.slots;
-    write_words(slots, s, at);
+    wire::write_words(q.slots, s, at);
     wire::put32(s, at + 512, q.held);
     s[at + 516] = q.head;
     s[at + 517] = q.count;
@@ -68,8 +68,8 @@ pub fn push(f: Frame, s: &mut [u8], at: usize)
 {
     let q = read(s, at);
     let i = (q.head as usize + q.count as usize) % 128;
-    let held = ((q.held as u64 + f.size as u64) % 4294967296) as u32;
-    let count = ((q.count as u32 + 1) % 256) as u8;
+    let held = q.held.wrapping_add(f.size);
+    let count = q.count.wrapping_add(1);
     write_slot(i, f.word(), held, q.head, count, s, at);
 }
 
@@ -81,9 +81,9 @@ pub fn take(s: &mut [u8], at: usize)
     let q = read(s, at);
     let i = q.head as usize % 128;
     let first = Frame::of(wire::get32(s, at + 4 * i));
-    let held = decide::less(q.held as u64, first.size as u64) as u32;
+    let held = q.held.saturating_sub(first.size);
     let head = ((q.head as u32 + 1) % 128) as u8;
-    let count = decide::less(q.count as u64, 1) as u8;
+    let count = q.count.saturating_sub(1);
     write_slot(i, queue::EMPTY, held, head, count, s, at);
 }
 
@@ -121,10 +121,8 @@ fn none_used(s: &[u8], at: usize) -> bool
     ensures { result ≡ test (empty_ok (words_at 128 s.now at) 0 128) }
 {
     let mut good = true;
-    let mut i: usize = 0;
-    while i < 128 {
+    for i in 0..128 {
         good = good & (wire::get32(s, at + 4 * i) == queue::EMPTY);
-        i += 1;
     }
     good
 }
@@ -135,10 +133,8 @@ fn used(s: &[u8], at: usize) -> u32
     ensures { result ≡ used_in (words_at 128 s.now at) }
 {
     let mut n: u32 = 0;
-    let mut i: usize = 0;
-    while i < 128 {
+    for i in 0..128 {
         n += queue::word_used(wire::get32(s, at + 4 * i));
-        i += 1;
     }
     n
 }
@@ -149,7 +145,7 @@ fn frames(s: &[u8], at: usize, bounds: Bounds, head: usize, count: usize) -> Fou
     ensures { result ≡ found_of bounds (frames_from (words_at 128 s.now at) head count) }
 {
     let end = head + count;
-    let near = decide::lesser(end as u64, 128) as usize;
+    let near = end.min(128);
     let first = run(s, at, bounds, head, near);
     let rest = run(s, at, bounds, 0, end - near);
     Found {
@@ -165,17 +161,12 @@ fn run(s: &[u8], at: usize, bounds: Bounds, from: usize, to: usize) -> Found
 {
     let mut good = true;
     let mut bytes: u32 = 0;
-    let mut i = from;
-    while i < to {
+    for i in from..to {
         let w = wire::get32(s, at + 4 * i);
         good = good & queue::word_ok(bounds, w);
         bytes += Frame::of(w).size;
-        i += 1;
     }
-    Found {
-        good: good,
-        bytes: bytes,
-    }
+    Found { good, bytes }
 }
 
 // Writes one slot of the queue whose bytes stand in `s` from `at` on, and what stands behind the slots.
@@ -187,30 +178,4 @@ fn write_slot(i: usize, word: u32, held: u32, head: u8, count: u8, s: &mut [u8],
     wire::put32(s, at + 512, held);
     s[at + 516] = head;
     s[at + 517] = count;
-}
-
-// The 128 words that stand in `s` from `at` on.
-fn read_words(s: &[u8], at: usize) -> [u32; 128]
-    requires { at + 512 ≤ length s.now }
-    ensures { result ≡ words_at 128 s.now at }
-{
-    let mut words: [u32; 128] = [0; 128];
-    let mut i: usize = 0;
-    while i < 128 {
-        words[i] = wire::get32(s, at + 4 * i);
-        i += 1;
-    }
-    words
-}
-
-// Writes 128 words to `s` from `at` on.
-fn write_words(words: [u32; 128], s: &mut [u8], at: usize)
-    requires { at + 512 ≤ length s.old }
-    ensures { (s.new ≡ put s.old at (words_bytes words)) × (length words ≡ 128) }
-{
-    let mut i: usize = 0;
-    while i < 128 {
-        wire::put32(s, at + 4 * i, words[i]);
-        i += 1;
-    }
 }

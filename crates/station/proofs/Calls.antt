@@ -1,12 +1,13 @@
 -- The calls, row by row: rows stand in the order of their ranks, so they may be tried one after the other.
 -- Assumes nothing.
+use Rattle.std.specs.Prelude.{Ok}
 use Prim.Native.Nat.{ℕ}
 use mathlib.Core.Bool.{true, false}
 use mathlib.Core.Path.{◌≡◌, refl}
 use lib.Dec.{eqb}
 use Rattle.decide.specs.Test.{test}
 use Rattle.decide.specs.Refusal.{refused_or}
-use Rattle.decide.proofs.Refusal.{in_order_lem}
+use Rattle.decide.proofs.Given.{in_order_lem}
 use Rattle.settings.specs.declared.Settings.{Settings}
 use Rattle.settings.specs.Range.{settings_ok}
 use Rattle.station.specs.declared.Station.{Station}
@@ -18,7 +19,7 @@ use Rattle.station.specs.Calls.{start_faults, fresh_of, start_of, flags_ok, tick
 
 module _ (st : Station) (s : Settings) where
   -- 1 where a setting is outside its range
-  pub start_refused_lem : test (settings_ok s) ≡ false → start_of st s ≡ refused_of st 1
+  pub start_refused_lem : test (settings_ok s) ≡ false → start_of st s ≡ refused_of 1
   unfolding refused_or
   start_refused_lem e = rw (in_order_lem (start_faults s) refl, e)
 
@@ -31,12 +32,12 @@ module _ (st : Station) where
 
   module _ (a b c : ℕ) where
     -- 1 where the station is out of range
-    pub tick_lost : test (station_ok st) ≡ false → tick_of st a b c ≡ refused_of st 1
+    pub tick_lost : test (station_ok st) ≡ false → tick_of st a b c ≡ refused_of 1
     unfolding refused_or
     tick_lost e = rw (in_order_lem (tick_faults st a b c) refl, e)
 
     -- else 3 where a flag is neither 0 nor 1
-    pub tick_coded : test (station_ok st) ≡ true → test (flags_ok a b c) ≡ false → tick_of st a b c ≡ refused_of st 3
+    pub tick_coded : test (station_ok st) ≡ true → test (flags_ok a b c) ≡ false → tick_of st a b c ≡ refused_of 3
     unfolding refused_or
     tick_coded e f = rw (in_order_lem (tick_faults st a b c) refl, e, f)
 
@@ -47,17 +48,17 @@ module _ (st : Station) where
 
   -- ---- select
 
-  pub select_lost : test (station_ok st) ≡ false → select_of st ≡ not_chosen_of st 1
+  pub select_lost : test (station_ok st) ≡ false → select_of st ≡ not_chosen_of 1
   unfolding refused_or
   select_lost e = rw (in_order_lem (select_faults st) refl, e)
 
-  pub select_done : test (station_ok st) ≡ true → select_of st ≡ chosen_of st
+  pub select_done : test (station_ok st) ≡ true → select_of st ≡ Ok (chosen_of st)
   unfolding refused_or
   select_done e = rw (in_order_lem (select_faults st) refl, e)
 
   -- ---- age
 
-  pub age_lost : test (station_ok st) ≡ false → age_of st ≡ refused_of st 1
+  pub age_lost : test (station_ok st) ≡ false → age_of st ≡ refused_of 1
   unfolding refused_or
   age_lost e = rw (in_order_lem (age_faults st) refl, e)
 

@@ -1,4 +1,5 @@
 -- A few stations, their numbers worked out by hand from document 01 and here computed. Assumes nothing.
+use Rattle.shaper.specs.Refused.{number_said, afterwards}
 use Prim.Native.Nat.{ℕ}
 use mathlib.Core.List.{List, [], ◌∷◌, ◌++◌}
 use mathlib.Core.Path.{◌≡◌, refl}
@@ -28,7 +29,7 @@ use Rattle.fair.specs.Advertise.{told_of}
 use Rattle.station.specs.declared.Station.{Station}
 use Rattle.station.specs.Range.{station_ok}
 use Rattle.station.specs.Calls.{fresh_of}
-use Rattle.station.specs.Hear.{hear_of, tell_of}
+use Rattle.station.specs.Hear.{hear_of, advert_said, tell_of}
 use Rattle.station.specs.History.{Call, tick, offer_client, offer_transit, select, age, step, after, record_of}
 
 -- mtu 64; each shaper loLimit 100, hiLimit 300, amount 50; 10 ticks per interval, unreservedRate 1,999, default coefficients; 8 stations
@@ -58,7 +59,7 @@ abbrev pub choke : ℕ → List ℕ
 choke ttl = ttl ∷ 160 ∷ 0 ∷ 3 ∷ 0 ∷ 0 ∷ 0 ∷ 4 ∷ 0 ∷ 0 ∷ 0 ∷ 125 ∷ []
 
 abbrev pub choked : ℕ → Station
-choked ttl = (hear_of (fresh_of settings) (choke ttl)).station
+choked ttl = afterwards (fresh_of settings) (hear_of (fresh_of settings) (choke ttl))
 
 -- two transit frames of this class, 80 bytes together, and then an interval ends
 abbrev pub loaded : ℕ → List Call
@@ -81,8 +82,8 @@ pub record Examples : Type 0 where
   pub loaded_b : (after (fresh_of settings) (loaded 1)).fair.decided.congested ≡ 1
   pub loaded_a : (after (fresh_of settings) (loaded 0)).fair.decided.congested ≡ 0
   -- A received frame is passed on with its ttl less 1, but for 7 hops, which is ttl 249: then FULL_RATE, with own address and ttl 255.
-  pub told_250 : (tell_of (choked 250)).advert ≡ record { ringlet = 1; ttl = 249; high = 3; low = 4; rate = 125 }
-  pub told_249 : (tell_of (choked 249)).advert ≡ record { ringlet = 1; ttl = 255; high = 1; low = 2; rate = 65535 }
+  pub told_250 : advert_said (tell_of (choked 250)) ≡ record { ringlet = 1; ttl = 249; high = 3; low = 4; rate = 125 }
+  pub told_249 : advert_said (tell_of (choked 249)) ≡ record { ringlet = 1; ttl = 255; high = 1; low = 2; rate = 65535 }
   -- A client frame with 7 hops to go is looked at further (6: no credit yet), one with 8 is 13, one with 64 is 3; so it is with transit frames.
   pub client_7 : (step (offer_client 2 64 7) (fresh_of settings)).answer.number ≡ 6
   pub client_8 : (step (offer_client 2 64 8) (fresh_of settings)).answer.number ≡ 13
@@ -91,11 +92,11 @@ pub record Examples : Type 0 where
   pub transit_8 : (step (offer_transit 2 64 8 1) (fresh_of settings)).answer.number ≡ 13
   pub transit_64 : (step (offer_transit 2 64 64 1) (fresh_of settings)).answer.number ≡ 3
   -- Congestion 8 hops away, ttl 248, and forty, ttl 216, is 13, and 64 hops away, ttl 192, is 3. What was known before stays, and frames count by it.
-  pub heard_8 : (hear_of (choked 250) (choke 248)).number ≡ 13
-  pub heard_40 : (hear_of (choked 250) (choke 216)).number ≡ 13
-  pub heard_64 : (hear_of (choked 250) (choke 192)).number ≡ 3
-  pub known_40 : (hear_of (choked 250) (choke 216)).station.fair.received.ttl ≡ 250
-  pub counted_40 : (after (hear_of (choked 250) (choke 216)).station (sent 7)).fair.counters ≡ record { add = 64; fw = 0; addc = 64; fwc = 0 }
+  pub heard_8 : number_said (hear_of (choked 250) (choke 248)) ≡ 13
+  pub heard_40 : number_said (hear_of (choked 250) (choke 216)) ≡ 13
+  pub heard_64 : number_said (hear_of (choked 250) (choke 192)) ≡ 3
+  pub known_40 : (afterwards (choked 250) (hear_of (choked 250) (choke 216))).fair.received.ttl ≡ 250
+  pub counted_40 : (after (afterwards (choked 250) (hear_of (choked 250) (choke 216))) (sent 7)).fair.counters ≡ record { add = 64; fw = 0; addc = 64; fwc = 0 }
 
 pub examples : Examples
 unfolding test station_ok settings_ok flow_ok fair_ok queue_ok each_from slot_ok occupied frames_from sizes first_of first refused_or flow.start_of flow.tick_of queue_for way_of selection.select_of empty_queue space_of queue.first_frame queue.pushed queue.taken own_rate_of share_of counted_of raised_of be received_of told_of aggressive_of adjust_of allowed_of allowedc_of part_of smoothed_of shown_of aged_of ramped_of allowance_of

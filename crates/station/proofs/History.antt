@@ -1,5 +1,7 @@
 -- Over any calls from a fresh station each shaper's credit is that of its record: each call feeds each shaper its events, so that the calls feed it their sum.
 -- Assumes nothing.
+use Rattle.std.specs.Prelude.{Result, Ok, Err}
+use Rattle.shaper.specs.declared.Refused.{Refused}
 use Prim.Native.Nat.{ℕ}
 use mathlib.Core.Bool.{Bool, cond}
 use mathlib.Core.List.{List, [], ◌∷◌}
@@ -17,19 +19,20 @@ use Rattle.flow.specs.declared.Flow.{Flow}
 use Rattle.flow.specs.declared.Line.TheVariants.{Control}
 use Rattle.flow.specs.Parts.{with_credits}
 use Rattle.flow.specs.Tick.{waits, amount_of}
-use Rattle.flow.specs.Offer.{queue_for, control_frame}
-use Rattle.flow.specs.Events.{no_events, Feeds}
+use Rattle.flow.specs.declared.Client as flow
+use Rattle.shaper.specs.Refused.{number_said, afterwards}
+use Rattle.flow.specs.Offer.{Entered, queue_for, control_frame, mark_said, flow_after}
+use Rattle.flow.specs.Events.{no_events, client_events, Feeds}
 use Rattle.flow.proofs.Range.{start_credit}
 use Rattle.flow.proofs.Events.{none_feeds, feeds_then, tick_feeds, enter_feeds, client_feeds}
 use Rattle.selection.proofs.Events.{select_feeds}
 use Rattle.station.specs.declared.Station.{Station}
-use Rattle.station.specs.declared.Done.{Done}
 use Rattle.station.specs.declared.Client.{Client}
 use Rattle.station.specs.declared.Selected.{Selected}
 use Rattle.station.specs.Range.{StationOk}
-use Rattle.station.specs.Answers.{with_flow}
+use Rattle.station.specs.Answers.{with_flow, Done}
 use Rattle.station.specs.Calls.{fresh_of, share_for}
-use Rattle.station.specs.Offers.{given_frame, over_for}
+use Rattle.station.specs.Offers.{given_frame, over_for, brought_of, staging, staged_of}
 use Rattle.station.specs.History.{Call, tick, offer_client, offer_transit, offer_control, select, age, hear, tell, show, Answer, Stepped, of_done, of_client, of_selected, step, trace, after, record_of, Recorded}
 use Rattle.station.proofs.Range.{fresh_ok}
 use Rattle.station.proofs.Refused.{never_1}
@@ -69,31 +72,46 @@ module _ {st : Station} (ok : StationOk st) where
   idle : Feeds st.settings st.flow st.flow no_events
   idle = none_feeds st.settings st.flow st.flow refl
 
+  -- what the stage said, and what a queue said
+  client_goes : (class size hops : ℕ) (r : Result flow.Client Refused) → Feeds st.settings st.flow (flow_after st.flow r) (client_events class size (number_said r) (mark_said r))
+      → Goes (offer_client class size hops) (of_client st (staged_of st r))
+  client_goes class size hops (Ok r) h = record { feeds = h; settings = refl }
+  client_goes class size hops (Err e) h = record { feeds = h; settings = refl }
+
+  transit_goes : (class size hops eligible : ℕ) (r : Entered) → Feeds st.settings st.flow (afterwards st.flow r) no_events
+      → Goes (offer_transit class size hops eligible) (of_done st (brought_of st r))
+  transit_goes class size hops eligible (Ok f) h = record { feeds = h; settings = refl }
+  transit_goes class size hops eligible (Err e) h = record { feeds = h; settings = refl }
+
+  control_goes : (size : ℕ) (r : Entered) → Feeds st.settings st.flow (afterwards st.flow r) no_events → Goes (offer_control size) (of_done st (brought_of st r))
+  control_goes size (Ok f) h = record { feeds = h; settings = refl }
+  control_goes size (Err e) h = record { feeds = h; settings = refl }
+
   pub step_goes : (c : Call) → Goes c (step c st)
   step_goes (tick a b c) =
-      tick_cases ok (λ (r : Done). Goes (tick a b c) (of_done r)) a b c
+      tick_cases ok (λ (r : Done). Goes (tick a b c) (of_done st r)) a b c
       (record { feeds = tick_feeds st.settings st.flow ok.settings (share_for st) (eqb a 1) (eqb b 1) (eqb c 1); settings = refl })
       (record { feeds = idle; settings = refl })
   step_goes (offer_client class size hops) =
-      client_cases ok (λ (r : Client). Goes (offer_client class size hops) (of_client r)) class size hops
-      (λ x. record { feeds = client_feeds st.settings st.flow class size hops (over_for st size hops) (x.frame.least, x.frame.most); settings = refl })
+      client_cases ok (λ (r : Result Client Refused). Goes (offer_client class size hops) (of_client st r)) class size hops
+      (λ x. client_goes class size hops (staging st class size hops) (client_feeds st.settings st.flow class size hops (over_for st size hops) (x.frame.least, x.frame.most)))
       (record { feeds = idle; settings = refl })
       (record { feeds = idle; settings = refl })
   step_goes (offer_transit class size hops eligible) =
       let x = given_frame class size hops eligible in
-      offer_cases ok (λ (r : Done). Goes (offer_transit class size hops eligible) (of_done r)) (queue_for st.settings class) x
-      (λ h. record { feeds = enter_feeds st.settings st.flow (queue_for st.settings class) x; settings = refl })
+      offer_cases ok (λ (r : Done). Goes (offer_transit class size hops eligible) (of_done st r)) (queue_for st.settings class) x
+      (λ h. transit_goes class size hops eligible _ (enter_feeds st.settings st.flow (queue_for st.settings class) x))
       (λ n. record { feeds = idle; settings = refl })
   step_goes (offer_control size) =
-      offer_cases ok (λ (r : Done). Goes (offer_control size) (of_done r)) Control (control_frame size)
-      (λ h. record { feeds = enter_feeds st.settings st.flow Control (control_frame size); settings = refl })
+      offer_cases ok (λ (r : Done). Goes (offer_control size) (of_done st r)) Control (control_frame size)
+      (λ h. control_goes size _ (enter_feeds st.settings st.flow Control (control_frame size)))
       (λ n. record { feeds = idle; settings = refl })
   step_goes select =
-      select_case ok (λ (r : Selected). Goes select (of_selected r))
+      select_case ok (λ (r : Result Selected Refused). Goes select (of_selected st r))
       (record { feeds = select_feeds st.settings st.flow ok.flow; settings = refl })
-  step_goes age = age_case ok (λ (r : Done). Goes age (of_done r)) (record { feeds = idle; settings = refl })
+  step_goes age = age_case ok (λ (r : Done). Goes age (of_done st r)) (record { feeds = idle; settings = refl })
   step_goes (hear xs bytes) =
-      hear_cases ok (λ (r : Done). Goes (hear xs bytes) (of_done r)) xs
+      hear_cases ok (λ (r : Done). Goes (hear xs bytes) (of_done st r)) xs
       (λ t g. record { feeds = idle; settings = refl })
       (λ n. record { feeds = idle; settings = refl })
   step_goes tell = record { feeds = idle; settings = refl }

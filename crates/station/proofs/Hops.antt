@@ -16,7 +16,7 @@ use Rattle.flow.specs.Parts.{queue_of, bounds_of, stage_holds}
 use Rattle.heard.specs.Range.{hops_of}
 use Rattle.fair.proofs.ReadBack.{told_in_ring}
 use Rattle.station.specs.declared.Station.{Station}
-use Rattle.station.specs.declared.Told.{Told}
+use Rattle.station.specs.Hear.{Told, advert_said}
 use Rattle.station.specs.Range.{StationOk}
 use Rattle.station.specs.Calls.{fresh_of}
 use Rattle.station.specs.History.{Call, after}
@@ -40,7 +40,7 @@ in_range_within {st} ok =
           (λ e. tt);
       received = ok.fair.of_received.ring;
       told =
-          subst (λ (r : Told). hops_of r.advert.ttl < st.settings.site.stations) (sym (tell_done st (facts_in_range st ok)))
+          subst (λ (r : Told). hops_of (advert_said r).ttl < st.settings.site.stations) (sym (tell_done st (facts_in_range st ok)))
           (told_in_ring st.settings st.fair ok.settings ok.fair);
     }
 

@@ -1,5 +1,8 @@
 -- The aging interval of a station: what it looks at is the bytes of the frames in the secondary queue; and what holds till the next one.
 -- Assumes nothing.
+use Rattle.std.specs.Prelude.{Result}
+use Rattle.shaper.specs.declared.Refused.{Refused}
+use Rattle.shaper.specs.Refused.{afterwards}
 use Prim.Native.Nat.{ℕ}
 use mathlib.Core.Path.{◌≡◌, refl, ap, ◌∙◌}
 use Rattle.decide.proofs.Refused.{of_answer}
@@ -8,12 +11,12 @@ use Rattle.flow.specs.declared.Line.TheVariants.{Secondary}
 use Rattle.fair.specs.declared.Fair.{Fair}
 use Rattle.fair.specs.Age as interval
 use Rattle.station.specs.declared.Station.{Station}
-use Rattle.station.specs.declared.Done.{Done}
 use Rattle.station.specs.declared.Client.{Client}
 use Rattle.station.specs.declared.Selected.{Selected}
 use Rattle.station.specs.Range.{StationOk}
-use Rattle.station.specs.Answers.{with_fair, refused_of, done_of, not_chosen_of}
+use Rattle.station.specs.Answers.{with_fair, Done, refused_of, done_of, not_chosen_of, rest_after}
 use Rattle.station.specs.Calls.{age_of}
+use Rattle.station.specs.Offers.{station_left}
 use Rattle.station.specs.History.{Call, tick, offer_client, offer_transit, offer_control, select, age, hear, tell, show, step}
 use Rattle.station.proofs.Range.{facts_in_range}
 use Rattle.station.proofs.Calls.{age_done}
@@ -31,17 +34,17 @@ Unaged f g = (g.decided ≡ f.decided) × (g.smoothed ≡ f.smoothed) × (g.sinc
 
 -- Local congestion and own rate hold till the next interval, and so does all else that it decides or stores: no other call changes them.
 pub holds_till_interval : (st : Station) (c : Call) → (c ≡ age → ⊥) → Unaged st.fair (step c st).station.fair
-holds_till_interval st (tick a b c) n = of_answer (refused_of st) _ (λ (r : Done). Unaged st.fair r.station.fair) _ (λ z. (refl, refl, refl)) (λ h. (refl, refl, refl))
+holds_till_interval st (tick a b c) n = of_answer refused_of _ (λ (r : Done). Unaged st.fair (afterwards st r).fair) _ (λ z. (refl, refl, refl)) (λ h. (refl, refl, refl))
 holds_till_interval st (offer_client class size hops) n =
-    of_answer _ _ (λ (r : Client). Unaged st.fair r.station.fair) _ (λ z. (refl, refl, refl)) (λ h. (refl, refl, refl))
+    of_answer _ _ (λ (r : Result Client Refused). Unaged st.fair (station_left st r).fair) _ (λ z. (refl, refl, refl)) (λ h. (refl, refl, refl))
 holds_till_interval st (offer_transit class size hops eligible) n =
-    of_answer (refused_of st) _ (λ (r : Done). Unaged st.fair r.station.fair) _ (λ z. (refl, refl, refl)) (λ h. (refl, refl, refl))
+    of_answer refused_of _ (λ (r : Done). Unaged st.fair (afterwards st r).fair) _ (λ z. (refl, refl, refl)) (λ h. (refl, refl, refl))
 holds_till_interval st (offer_control size) n =
-    of_answer (refused_of st) _ (λ (r : Done). Unaged st.fair r.station.fair) _ (λ z. (refl, refl, refl)) (λ h. (refl, refl, refl))
+    of_answer refused_of _ (λ (r : Done). Unaged st.fair (afterwards st r).fair) _ (λ z. (refl, refl, refl)) (λ h. (refl, refl, refl))
 holds_till_interval st select n =
-    of_answer (not_chosen_of st) _ (λ (r : Selected). Unaged st.fair r.station.fair) _ (λ z. (refl, refl, refl)) (λ h. (refl, refl, refl))
+    of_answer not_chosen_of _ (λ (r : Result Selected Refused). Unaged st.fair (rest_after st r).fair) _ (λ z. (refl, refl, refl)) (λ h. (refl, refl, refl))
 holds_till_interval st age n = absurd (n refl)
 holds_till_interval st (hear frame bytes) n =
-    of_answer (refused_of st) _ (λ (r : Done). Unaged st.fair r.station.fair) _ (λ z. (refl, refl, refl)) (λ h. (refl, refl, refl))
+    of_answer refused_of _ (λ (r : Done). Unaged st.fair (afterwards st r).fair) _ (λ z. (refl, refl, refl)) (λ h. (refl, refl, refl))
 holds_till_interval st tell n = (refl, refl, refl)
 holds_till_interval st show n = (refl, refl, refl)

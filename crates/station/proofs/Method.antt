@@ -1,4 +1,5 @@
 -- The conservative method over any calls, refused ones among them. Assumes nothing.
+use Rattle.shaper.specs.Refused.{afterwards}
 use Prim.Native.Nat.{◌+◌, ◌≤◌}
 use mathlib.Core.List.{List, [], ◌∷◌}
 use mathlib.Core.Logic.{◌⊎◌}
@@ -13,7 +14,7 @@ use Rattle.fair.specs.Methods.{Changes, Steps}
 use Rattle.fair.specs.Age as interval
 use Rattle.fair.proofs.Rows as rows
 use Rattle.station.specs.declared.Station.{Station}
-use Rattle.station.specs.declared.Done.{Done}
+use Rattle.station.specs.Answers.{Done}
 use Rattle.station.specs.Range.{StationOk}
 use Rattle.station.specs.Calls.{fresh_of}
 use Rattle.station.specs.History.{Call, age, step, after}
@@ -30,7 +31,7 @@ use Rattle.station.proofs.Steady.{one_or_none}
 module _ {st : Station} (ok : StationOk st) where
   -- the state that it leaves
   aged_fair : (aged st).fair ≡ interval.age_of st.fair st.settings (held_now st)
-  aged_fair = ap (λ (d : Done). d.station.fair) (age_ages ok)
+  aged_fair = ap (λ (d : Done). (afterwards st d).fair) (age_ages ok)
 
   module _ (chosen : st.settings.site.method ≡ 1) where
     change_anew : Changes (row_now st) → (aged st).fair.since ≡ 0

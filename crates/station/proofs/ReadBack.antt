@@ -12,10 +12,9 @@ use Rattle.heard.specs.Frame.{own_ringlet, own_address}
 use Rattle.fair.specs.Advertise.{told_of}
 use Rattle.fair.proofs.ReadBack.{frame_read_back}
 use Rattle.station.specs.declared.Station.{Station}
-use Rattle.station.specs.declared.Told.{Told}
 use Rattle.station.specs.Range.{StationOk}
 use Rattle.station.specs.Answers.{done_of}
-use Rattle.station.specs.Hear.{changed_of, listen_of, tell_of, hear_of}
+use Rattle.station.specs.Hear.{changed_of, listen_of, Told, advert_said, tell_of, hear_of}
 use Rattle.station.proofs.Range.{facts_in_range}
 use Rattle.station.proofs.Hear.{frame_found, hear_whole, listen_done, tell_done}
 
@@ -23,8 +22,8 @@ use Rattle.station.proofs.Hear.{frame_found, hear_whole, listen_done, tell_done}
 module _ {st : Station} (ok : StationOk st) (own_low : st.settings.address.low < 4294967296) (low : st.fair.received.low < 4294967296) {t : Station} (good : StationOk t) where
   -- Reading a written frame, with the same ringlet and number of stations but an address it doesn't bear, is not refused, and takes what was told.
   pub told_heard : t.settings.ringlet ≡ st.settings.ringlet → t.settings.site.stations ≡ st.settings.site.stations
-      → test (own_address t.settings (tell_of st).advert) ≡ false
-      → hear_of t (advert_bytes (tell_of st).advert) ≡ done_of (changed_of t (tell_of st).advert)
+      → test (own_address t.settings (advert_said (tell_of st))) ≡ false
+      → hear_of t (advert_bytes (advert_said (tell_of st))) ≡ done_of (changed_of t (advert_said (tell_of st)))
   told_heard same many other = subst Heard (sym told) said other
     where
       a : Advert
@@ -33,8 +32,8 @@ module _ {st : Station} (ok : StationOk st) (own_low : st.settings.address.low <
       Heard : Advert → Type 0
       Heard x = test (own_address t.settings x) ≡ false → hear_of t (advert_bytes x) ≡ done_of (changed_of t x)
 
-      told : (tell_of st).advert ≡ a
-      told = ap (λ (r : Told). r.advert) (tell_done st (facts_in_range st ok))
+      told : (advert_said (tell_of st)) ≡ a
+      told = ap (λ (r : Told). advert_said r) (tell_done st (facts_in_range st ok))
 
       said : Heard a
       said o =

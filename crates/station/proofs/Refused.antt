@@ -1,5 +1,9 @@
 -- Of every call: it is refused by a number exactly when a row with that number applies and none before it does; and then it leaves the station as it was.
 -- Assumes nothing.
+use Rattle.std.specs.Prelude.{Result}
+use Rattle.decide.proofs.Number.{number_told}
+use Rattle.shaper.specs.declared.Refused.{Refused}
+use Rattle.shaper.specs.Refused.{number_said, afterwards}
 use Prim.Native.Nat.{ℕ, ◌<◌}
 use mathlib.Core.Bool.{true, false, ◌&&◌, true≢false}
 use mathlib.Core.List.{List, [], ◌∷◌}
@@ -10,23 +14,20 @@ use borrow.Author.Tests.{eq-eqb}
 use lib.Dec.{eqb}
 use Rattle.decide.specs.Test.{and_i}
 use Rattle.decide.specs.Refusal.{Fault, Among, Free, ranked, first_of, refused_or, RefusedExactly}
-use Rattle.decide.proofs.Refusal.{refused_exactly, carried_out, free_carried}
+use Rattle.decide.proofs.Given.{refused_exactly, carried_out, free_carried}
 use Rattle.decide.proofs.Refused.{number_by, leaves_by}
 use Rattle.settings.specs.declared.Settings.{Settings}
 use Rattle.flow.specs.declared.Line.TheVariants.{Control}
 use Rattle.flow.specs.Offer.{queue_for, control_frame}
 use Rattle.station.specs.declared.Station.{Station}
-use Rattle.station.specs.declared.Done.{Done}
 use Rattle.station.specs.declared.Client.{Client}
 use Rattle.station.specs.declared.Selected.{Selected}
-use Rattle.station.specs.declared.Told.{Told}
-use Rattle.station.specs.declared.Shown.{Shown}
 use Rattle.station.specs.Range.{StationOk}
-use Rattle.station.specs.Answers.{refused_of, done_of}
+use Rattle.station.specs.Answers.{Done, refused_of, done_of, rest_after}
 use Rattle.station.specs.Calls.{start_faults, start_of, tick_faults, select_faults, age_faults}
-use Rattle.station.specs.Offers.{given_frame, offer_faults, offer_client_faults}
-use Rattle.station.specs.Hear.{hear_faults, tell_faults}
-use Rattle.station.specs.Show.{show_faults}
+use Rattle.station.specs.Offers.{given_frame, station_left, offer_faults, offer_client_faults}
+use Rattle.station.specs.Hear.{hear_faults, Told, tell_faults}
+use Rattle.station.specs.Show.{Shown, show_faults}
 use Rattle.station.specs.History.{Call, tick, offer_client, offer_transit, offer_control, select, age, hear, tell, show, step}
 use Rattle.station.proofs.Range.{facts_in_range}
 
@@ -44,19 +45,19 @@ rows_of tell st = tell_faults st
 rows_of show st = show_faults st
 
 -- the number of an answer is that of the rows
-done_number : (st next : Station) (n : ℕ) → (refused_or (refused_of st) n (done_of next)).number ≡ n
-done_number st next = number_by (λ (r : Done). r.number) _ _ (λ m. refl) refl
+done_number : (next : Station) (n : ℕ) → number_said (refused_or refused_of n (done_of next)) ≡ n
+done_number next = number_by (λ (r : Done). number_said r) _ _ number_told refl
 
 call_number : (c : Call) (st : Station) → (step c st).answer.number ≡ first_of (rows_of c st)
-call_number (tick a b c) st = done_number _ _ _
-call_number (offer_client class size hops) st = number_by (λ (r : Client). r.number) _ _ (λ m. refl) refl _
-call_number (offer_transit class size hops eligible) st = done_number _ _ _
-call_number (offer_control size) st = done_number _ _ _
-call_number select st = number_by (λ (r : Selected). r.number) _ _ (λ m. refl) refl _
-call_number age st = done_number _ _ _
-call_number (hear xs bytes) st = done_number _ _ _
-call_number tell st = number_by (λ (r : Told). r.number) _ _ (λ m. refl) refl _
-call_number show st = number_by (λ (r : Shown). r.number) _ _ (λ m. refl) refl _
+call_number (tick a b c) st = done_number _ _
+call_number (offer_client class size hops) st = number_by (λ (r : Result Client Refused). number_said r) _ _ number_told refl _
+call_number (offer_transit class size hops eligible) st = done_number _ _
+call_number (offer_control size) st = done_number _ _
+call_number select st = number_by (λ (r : Result Selected Refused). number_said r) _ _ number_told refl _
+call_number age st = done_number _ _
+call_number (hear xs bytes) st = done_number _ _
+call_number tell st = number_by (λ (r : Told). number_said r) _ _ number_told refl _
+call_number show st = number_by (λ (r : Shown). number_said r) _ _ number_told refl _
 
 rows_ranked : (c : Call) (st : Station) → ranked (rows_of c st) ≡ true
 rows_ranked (tick a b c) st = refl
@@ -73,8 +74,8 @@ rows_ranked show st = refl
 pub call_exactly : (c : Call) (st : Station) → RefusedExactly (step c st).answer.number (rows_of c st)
 call_exactly c st = refused_exactly (rows_of c st) (rows_ranked c st) _ (call_number c st)
 
-pub start_exactly : (st : Station) (s : Settings) → RefusedExactly (start_of st s).number (start_faults s)
-start_exactly st s = refused_exactly (start_faults s) refl _ (done_number _ _ _)
+pub start_exactly : (st : Station) (s : Settings) → RefusedExactly (number_said (start_of st s)) (start_faults s)
+start_exactly st s = refused_exactly (start_faults s) refl _ (done_number _ _)
 
 -- each row bears a number
 abbrev Bearing : List Fault → Type 0
@@ -105,18 +106,18 @@ carried_exactly c st = (
 
 -- ---- a refusal leaves the station
 
-done_leaves : (st next : Station) (n : ℕ) → 0 < (refused_or (refused_of st) n (done_of next)).number → (refused_or (refused_of st) n (done_of next)).station ≡ st
-done_leaves st next = leaves_by (λ (r : Done). r.number) _ _ (λ m. refl) refl (λ (r : Done). r.station) (λ m. refl)
+done_leaves : (st next : Station) (n : ℕ) → 0 < number_said (refused_or refused_of n (done_of next)) → afterwards st (refused_or refused_of n (done_of next)) ≡ st
+done_leaves st next = leaves_by (λ (r : Done). number_said r) _ _ number_told refl (afterwards st) (λ m. refl)
 
-pub start_leaves : (st : Station) (s : Settings) → 0 < (start_of st s).number → (start_of st s).station ≡ st
+pub start_leaves : (st : Station) (s : Settings) → 0 < number_said (start_of st s) → afterwards st (start_of st s) ≡ st
 start_leaves st s = done_leaves _ _ _
 
 pub refused_leaves : (c : Call) (st : Station) → 0 < (step c st).answer.number → (step c st).station ≡ st
 refused_leaves (tick a b c) st = done_leaves _ _ _
-refused_leaves (offer_client class size hops) st = leaves_by (λ (r : Client). r.number) _ _ (λ m. refl) refl (λ (r : Client). r.station) (λ m. refl) _
+refused_leaves (offer_client class size hops) st = leaves_by (λ (r : Result Client Refused). number_said r) _ _ number_told refl (station_left st) (λ m. refl) _
 refused_leaves (offer_transit class size hops eligible) st = done_leaves _ _ _
 refused_leaves (offer_control size) st = done_leaves _ _ _
-refused_leaves select st = leaves_by (λ (r : Selected). r.number) _ _ (λ m. refl) refl (λ (r : Selected). r.station) (λ m. refl) _
+refused_leaves select st = leaves_by (λ (r : Result Selected Refused). number_said r) _ _ number_told refl (rest_after st) (λ m. refl) _
 refused_leaves age st = done_leaves _ _ _
 refused_leaves (hear xs bytes) st = done_leaves _ _ _
 refused_leaves tell st = λ h. refl

@@ -1,5 +1,9 @@
 -- What the answer to a client's frame says beside its number: 6 how far short the needed shapers are, every other nothing.
 -- Assumes nothing.
+use Rattle.std.specs.Prelude.{Result}
+use Rattle.decide.proofs.Number.{number_told}
+use Rattle.shaper.specs.declared.Refused.{Refused}
+use Rattle.shaper.specs.Refused.{number_said, detail_said}
 use Prim.Native.Nat.{ℕ, ◌≤◌}
 use mathlib.Core.Bool.{Bool, true, false, cond, not, ◌&&◌, true≢false}
 use mathlib.Core.Path.{◌≡◌, refl, sym, ap, ◌∙◌}
@@ -9,7 +13,7 @@ use lib.Dec.{eqb}
 use Rattle.decide.specs.Test.{test}
 use Rattle.decide.specs.Hops.{in_ring}
 use Rattle.decide.specs.Refusal.{first_of}
-use Rattle.decide.proofs.Refusal.{in_order_lem}
+use Rattle.decide.proofs.Given.{in_order_lem}
 use Rattle.decide.proofs.Refused.{of_answer, number_by}
 use Rattle.shaper.specs.Short.{detail_of}
 use Rattle.queue.specs.Frame.{frame_ok}
@@ -35,27 +39,27 @@ six true true true false true true e = absurd (omega arith)
 six true true true false true false e = absurd (omega arith)
 
 module _ (st : Station) (class size hops : ℕ) where
-  abbrev answer : Client
+  abbrev answer : Result Client Refused
   answer = offer_client_of st class size hops
 
-  number_is : answer.number ≡ first_of (offer_client_faults st class size hops)
-  number_is = number_by (λ (r : Client). r.number) _ _ (λ m. refl) refl _
+  number_is : number_said answer ≡ first_of (offer_client_faults st class size hops)
+  number_is = number_by (λ (r : Result Client Refused). number_said r) _ _ number_told refl _
 
   -- A refusal other than 6 says nothing beside its number, and so does a call that was carried out.
-  pub client_alone : (answer.number ≡ 6 → ⊥) → answer.detail ≡ 0
+  pub client_alone : (number_said answer ≡ 6 → ⊥) → detail_said answer ≡ 0
   client_alone =
-      of_answer _ _ (λ (r : Client). (r.number ≡ 6 → ⊥) → r.detail ≡ 0) (first_of (offer_client_faults st class size hops))
+      of_answer _ _ (λ (r : Result Client Refused). (number_said r ≡ 6 → ⊥) → detail_said r ≡ 0) (first_of (offer_client_faults st class size hops))
       (λ z n. refl)
-      (λ p n. ap (λ (b : Bool). cond b (short_for st class) 0) (ne_eqb _ 6 n))
+      (λ p n. ap (λ (b : Bool). cond b (short_for st class) 0) (ne_eqb _ 6 (λ e. n (number_told _ ∙ e))))
 
   -- 6 says how far short the needed shapers are.
-  pub client_short : answer.number ≡ 6 → answer.detail ≡ short_for st class
+  pub client_short : number_said answer ≡ 6 → detail_said answer ≡ short_for st class
   client_short =
-      of_answer _ _ (λ (r : Client). r.number ≡ 6 → r.detail ≡ short_for st class) (first_of (offer_client_faults st class size hops))
+      of_answer _ _ (λ (r : Result Client Refused). number_said r ≡ 6 → detail_said r ≡ short_for st class) (first_of (offer_client_faults st class size hops))
       (λ z e. absurd (omega arith))
-      (λ p e. ap (λ (n : ℕ). detail_of n (short_for st class)) e)
+      (λ p e. ap (λ (n : ℕ). detail_of n (short_for st class)) (sym (number_told _) ∙ e))
 
-  module _ (e : answer.number ≡ 6) where
+  module _ (e : number_said answer ≡ 6) where
     rows_six : (test (station_ok st) ≡ true) × (permits_all st.settings st.flow.credits (needs_of (way_for st class)) ≡ false)
     rows_six =
         six (test (station_ok st)) (test (frame_ok (bounds_of st.settings) (given_frame class size hops 0))) (test (in_ring st.settings.site.stations hops)) (stage_holds st.flow)

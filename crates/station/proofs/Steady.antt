@@ -1,5 +1,6 @@
 -- A steady rate over any calls, refused ones among them: what is stored is that of as many intervals, and after enough of them the rate is shown.
 -- Assumes nothing.
+use Rattle.shaper.specs.Refused.{afterwards}
 use Prim.Native.Nat.{ℕ, ◌*◌, ◌^◌, ◌≤◌, ◌<◌}
 use mathlib.Core.List.{List, [], ◌∷◌}
 use mathlib.Core.Logic.{◌⊎◌, inl, inr}
@@ -9,13 +10,12 @@ use Rattle.decide.proofs.Cases.{by_cases}
 use Rattle.rates.specs.Rates.{smoothed_of, shown_of}
 use Rattle.rates.specs.Steady.{steady_of, gap_of}
 use Rattle.rates.proofs.Steady.{steady_add, steady_arrives}
-use Rattle.fair.specs.declared.Four.{Four}
-use Rattle.fair.specs.declared.Stored.{Stored}
+use Rattle.fair.specs.Four.{Four, Stored}
 use Rattle.fair.specs.Range.{FourOk, StoredOk}
 use Rattle.fair.specs.Age.{smooth_of}
 use Rattle.settings.proofs.Range.{coef_bounds}
 use Rattle.station.specs.declared.Station.{Station}
-use Rattle.station.specs.declared.Done.{Done}
+use Rattle.station.specs.Answers.{Done}
 use Rattle.station.specs.Range.{StationOk}
 use Rattle.station.specs.History.{Call, tick, offer_client, offer_transit, offer_control, select, age, hear, tell, show, step, after}
 use Rattle.station.specs.Steady.{Rate, add, fw, add_congested, fw_congested, counter_of, stored_of, shown_for, ends, intervals, SteadyAt}
@@ -66,7 +66,7 @@ module _ (k : Rate) (rate : ℕ) where
     aged_stored e =
         let c : ℕ = st.settings.fairness.lp in
         let s : Stored = st.fair.smoothed in
-        ap (λ (d : Done). stored_of k d.station.fair.smoothed) (age_ages ok) ∙ smooth_one k s c st.fair.counters ∙ ap (smoothed_of c (stored_of k s)) e
+        ap (λ (d : Done). stored_of k (afterwards st d).fair.smoothed) (age_ages ok) ∙ smooth_one k s c st.fair.counters ∙ ap (smoothed_of c (stored_of k s)) e
 
     call_stored : (c : Call) → (c ≡ age → counter_of k st.fair.counters ≡ rate)
         → stored_of k (step c st).station.fair.smoothed ≡ steady_of st.settings.fairness.lp rate (ends c) (stored_of k st.fair.smoothed)

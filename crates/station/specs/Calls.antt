@@ -1,8 +1,9 @@
 -- Start and the calls of a station: of each, the rows of the refusal table that it can give, in their order, and what it answers.
 -- Assumes nothing.
-use Rattle.std.specs.Prelude.{ℕ, Bool, not, List, [], ◌∷◌, eqb}
+use Rattle.std.specs.Prelude.{ℕ, Bool, not, List, [], ◌∷◌, Result, Ok, eqb}
 use Rattle.decide.specs.Test.{Test, test, ◌≤?◌, ◌∧?◌}
 use Rattle.decide.specs.Refusal.{Fault, fault, first_of, refused_or}
+use Rattle.shaper.specs.declared.Refused.{Refused}
 use Rattle.settings.specs.declared.Settings.{Settings}
 use Rattle.settings.specs.Range.{settings_ok}
 use Rattle.credits.specs.declared.Which.{Which}
@@ -12,10 +13,9 @@ use Rattle.rates.specs.Rates.{share_of}
 use Rattle.fair.specs.Start as fair
 use Rattle.fair.specs.Age as interval
 use Rattle.station.specs.declared.Station.{Station}
-use Rattle.station.specs.declared.Done.{Done}
 use Rattle.station.specs.declared.Selected.{Selected}
 use Rattle.station.specs.Range.{station_ok}
-use Rattle.station.specs.Answers.{with_flow, with_fair, refused_of, done_of, chosen_of, not_chosen_of}
+use Rattle.station.specs.Answers.{with_flow, with_fair, Done, refused_of, done_of, chosen_of, not_chosen_of}
 
 -- 1: a setting, or a lent station's state, is outside its range
 abbrev pub range_fault : Station → Fault
@@ -32,7 +32,7 @@ start_faults s = fault 1 (not (test (settings_ok s))) ∷ []
 
 -- the station is fresh, whatever it was
 abbrev pub start_of : Station → Settings → Done
-start_of st s = refused_or (refused_of st) (first_of (start_faults s)) (done_of (fresh_of s))
+start_of st s = refused_or refused_of (first_of (start_faults s)) (done_of (fresh_of s))
 
 -- ---- tick
 
@@ -62,7 +62,7 @@ ticked_of st a b c = with_flow st (flow.tick_of st.settings st.flow (share_for s
 
 -- The host's tick says whether A, B, C traffic waits.
 abbrev pub tick_of : Station → ℕ → ℕ → ℕ → Done
-tick_of st a b c = refused_or (refused_of st) (first_of (tick_faults st a b c)) (done_of (ticked_of st (eqb a 1) (eqb b 1) (eqb c 1)))
+tick_of st a b c = refused_or refused_of (first_of (tick_faults st a b c)) (done_of (ticked_of st (eqb a 1) (eqb b 1) (eqb c 1)))
 
 -- ---- select
 
@@ -70,8 +70,8 @@ abbrev pub select_faults : Station → List Fault
 select_faults st = range_fault st ∷ []
 
 -- The chosen frame leaves its queue, and is counted.
-abbrev pub select_of : Station → Selected
-select_of st = refused_or (not_chosen_of st) (first_of (select_faults st)) (chosen_of st)
+abbrev pub select_of : Station → Result Selected Refused
+select_of st = refused_or not_chosen_of (first_of (select_faults st)) (Ok (chosen_of st))
 
 -- ---- age
 
@@ -83,4 +83,4 @@ abbrev pub aged_of : Station → Station
 aged_of st = with_fair st (interval.age_of st.fair st.settings st.flow.secondary.held)
 
 abbrev pub age_of : Station → Done
-age_of st = refused_or (refused_of st) (first_of (age_faults st)) (done_of (aged_of st))
+age_of st = refused_or refused_of (first_of (age_faults st)) (done_of (aged_of st))

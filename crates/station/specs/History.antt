@@ -1,9 +1,11 @@
 -- Histories: any calls one after the other, refused ones among them, and what they are to each shaper.
 -- Assumes nothing.
-use Rattle.std.specs.Prelude.{ℕ, cond, List, [], ◌∷◌, ◌++◌, ◌≡◌, eqb}
+use Rattle.std.specs.Prelude.{ℕ, cond, List, [], ◌∷◌, ◌++◌, Result, ◌≡◌, eqb}
 use Rattle.wire.specs.Wire.{Bytes}
 use Rattle.shaper.specs.declared.Event.{Event}
 use Rattle.shaper.specs.Credit.{end_credit, Permitted, AllValid}
+use Rattle.shaper.specs.declared.Refused.{Refused}
+use Rattle.shaper.specs.Refused.{number_said, afterwards}
 use Rattle.settings.specs.declared.Settings.{Settings}
 use Rattle.queue.specs.declared.Frame.{Frame}
 use Rattle.queue.specs.Frame.{frame_of}
@@ -13,11 +15,11 @@ use Rattle.flow.specs.Tick.{tick_events}
 use Rattle.flow.specs.Events.{client_events}
 use Rattle.selection.specs.Events.{select_events}
 use Rattle.station.specs.declared.Station.{Station}
-use Rattle.station.specs.declared.Done.{Done}
 use Rattle.station.specs.declared.Client.{Client}
 use Rattle.station.specs.declared.Selected.{Selected}
+use Rattle.station.specs.Answers.{Done, origin_said, frame_said, rest_after}
 use Rattle.station.specs.Calls.{share_for, tick_of, select_of, age_of}
-use Rattle.station.specs.Offers.{offer_client_of, offer_transit_of, offer_control_of}
+use Rattle.station.specs.Offers.{mark_told, station_left, offer_client_of, offer_transit_of, offer_control_of}
 use Rattle.station.specs.Hear.{hear_of, tell_of}
 use Rattle.station.specs.Show.{show_of}
 
@@ -48,33 +50,33 @@ pub record Stepped : Type 0 where
 abbrev pub numbered : ℕ → Station → Stepped
 numbered n st = record { answer = record { number = n; mark = 0; origin = 0; frame = frame_of 0 }; station = st }
 
-abbrev pub of_done : Done → Stepped
-of_done r = numbered r.number r.station
+abbrev pub of_done : Station → Done → Stepped
+of_done st r = numbered (number_said r) (afterwards st r)
 
-abbrev pub of_client : Client → Stepped
-of_client r = record { answer = record { number = r.number; mark = r.mark; origin = 0; frame = frame_of 0 }; station = r.station }
+abbrev pub of_client : Station → Result Client Refused → Stepped
+of_client st r = record { answer = record { number = number_said r; mark = mark_told r; origin = 0; frame = frame_of 0 }; station = station_left st r }
 
-abbrev pub of_selected : Selected → Stepped
-of_selected r = record { answer = record { number = r.number; mark = 0; origin = r.origin; frame = r.frame }; station = r.station }
+abbrev pub of_selected : Station → Result Selected Refused → Stepped
+of_selected st r = record { answer = record { number = number_said r; mark = 0; origin = origin_said r; frame = frame_said r }; station = rest_after st r }
 
 -- Each call is lent what the one before left; telling and showing leave it as it is.
 abbrev pub step : Call → Station → Stepped
-step (tick a b c) st = of_done (tick_of st a b c)
-step (offer_client class size hops) st = of_client (offer_client_of st class size hops)
-step (offer_transit class size hops eligible) st = of_done (offer_transit_of st class size hops eligible)
-step (offer_control size) st = of_done (offer_control_of st size)
-step select st = of_selected (select_of st)
-step age st = of_done (age_of st)
-step (hear frame bytes) st = of_done (hear_of st frame)
-step tell st = numbered (tell_of st).number st
-step show st = numbered (show_of st).number st
+step (tick a b c) st = of_done st (tick_of st a b c)
+step (offer_client class size hops) st = of_client st (offer_client_of st class size hops)
+step (offer_transit class size hops eligible) st = of_done st (offer_transit_of st class size hops eligible)
+step (offer_control size) st = of_done st (offer_control_of st size)
+step select st = of_selected st (select_of st)
+step age st = of_done st (age_of st)
+step (hear frame bytes) st = of_done st (hear_of st frame)
+step tell st = numbered (number_said (tell_of st)) st
+step show st = numbered (number_said (show_of st)) st
 
 -- What a call with this answer was to a shaper: one event per tick that was carried out, one send per charge. No credit is asked.
 abbrev pub trace : Which → Call → Answer → Station → List Event
 trace w (tick a b c) r st =
     cond (eqb r.number 0) (tick_events st.settings st.flow (share_for st) (eqb a 1) (eqb b 1) (eqb c 1) w) []
 trace w (offer_client class size hops) r st =
-    client_events class size (record { number = r.number; detail = 0; mark = r.mark; flow = st.flow }) w
+    client_events class size r.number r.mark w
 trace w (offer_transit class size hops eligible) r st = []
 trace w (offer_control size) r st = []
 trace w select r st = select_events st.settings st.flow (record { origin = r.origin; frame = r.frame; flow = st.flow }) w

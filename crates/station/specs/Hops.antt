@@ -8,7 +8,7 @@ use Rattle.flow.specs.Parts.{queue_of}
 use Rattle.flow.specs.Frames.{stage_frames}
 use Rattle.heard.specs.Range.{hops_of}
 use Rattle.station.specs.declared.Station.{Station}
-use Rattle.station.specs.Hear.{tell_of}
+use Rattle.station.specs.Hear.{advert_said, tell_of}
 
 -- of each of these frames the hops stay below the number of stations
 abbrev pub HopsBelow : ℕ → List Frame → Type 0
@@ -23,4 +23,4 @@ pub record WithinRing (stations : ℕ) (st : Station) : Type 0 where
   -- what was received, congested or not,
   pub received : hops_of st.fair.received.ttl < stations
   -- and the frame that it tells
-  pub told : hops_of (tell_of st).advert.ttl < stations
+  pub told : hops_of (advert_said (tell_of st)).ttl < stations

@@ -1,6 +1,6 @@
 -- Frames in: what each offer can be refused for, in order, and what it answers.
 -- Assumes nothing.
-use Rattle.std.specs.Prelude.{ℕ, min, Bool, not, List, ◌∷◌}
+use Rattle.std.specs.Prelude.{ℕ, min, Bool, not, List, ◌∷◌, Result, Ok, Err}
 use Rattle.decide.specs.Test.{test}
 use Rattle.decide.specs.Hops.{in_ring}
 use Rattle.decide.specs.Refusal.{Fault, fault, first_of, refused_or}
@@ -8,19 +8,19 @@ use Rattle.queue.specs.declared.Frame.{Frame}
 use Rattle.queue.specs.Frame.{frame_ok}
 use Rattle.credits.specs.declared.Way.{Way}
 use Rattle.flow.specs.declared.Client as flow
-use Rattle.flow.specs.declared.Entered.{Entered}
 use Rattle.flow.specs.declared.Line.{Line}
 use Rattle.flow.specs.declared.Line.TheVariants.{Control}
+use Rattle.shaper.specs.declared.Refused.{Refused}
 use Rattle.shaper.specs.Short.{detail_of}
+use Rattle.shaper.specs.Refused.{refused, afterwards}
 use Rattle.credits.specs.Short.{short_all}
 use Rattle.credits.specs.Way.{needs_of, way_of}
 use Rattle.flow.specs.Parts.{bounds_of}
-use Rattle.flow.specs.Offer.{enter_faults, enter_of, queue_for, control_frame, client_faults, client_of}
+use Rattle.flow.specs.Offer.{Entered, enter_faults, enter_of, queue_for, control_frame, client_faults, mark_said, flow_after, client_of}
 use Rattle.fair.specs.Count.{over}
 use Rattle.station.specs.declared.Station.{Station}
-use Rattle.station.specs.declared.Done.{Done}
 use Rattle.station.specs.declared.Client.{Client}
-use Rattle.station.specs.Answers.{with_flow, refused_of, done_of}
+use Rattle.station.specs.Answers.{with_flow, Done, refused_of, done_of}
 use Rattle.station.specs.Calls.{range_fault}
 
 -- ---- the frame that is offered
@@ -51,11 +51,12 @@ offer_faults st l x = range_fault st ∷ frame_fault st x ∷ hops_fault st x �
 
 -- what the queue says
 abbrev pub brought_of : Station → Entered → Done
-brought_of st r = record { number = r.number; detail = 0; station = with_flow st r.flow }
+brought_of st (Ok f) = Ok (with_flow st f)
+brought_of st (Err e) = Err e
 
 -- the frame stands last in the queue
 abbrev pub offer_of : Station → Line → Frame → Done
-offer_of st l x = refused_or (refused_of st) (first_of (offer_faults st l x)) (done_of (with_flow st (enter_of st.settings st.flow l x).flow))
+offer_of st l x = refused_or refused_of (first_of (offer_faults st l x)) (done_of (with_flow st (afterwards st.flow (enter_of st.settings st.flow l x))))
 
 -- Transit A goes to the primary queue, B and C to the secondary.
 abbrev pub offer_transit_of : Station → ℕ → ℕ → ℕ → ℕ → Done
@@ -84,32 +85,43 @@ offer_client_faults st class size hops =
     ∷ client_faults st.settings st.flow (way_for st class) (over_for st size hops)
 
 -- what the stage says
-abbrev pub staged_of : Station → flow.Client → Client
-staged_of st r = record { number = r.number; detail = r.detail; mark = r.mark; station = with_flow st r.flow }
+abbrev pub staged_of : Station → Result flow.Client Refused → Result Client Refused
+staged_of st (Ok r) = Ok (record { mark = r.mark; station = with_flow st r.flow })
+staged_of st (Err e) = Err e
 
-abbrev pub staging : Station → ℕ → ℕ → ℕ → flow.Client
+abbrev pub staging : Station → ℕ → ℕ → ℕ → Result flow.Client Refused
 staging st class size hops = client_of st.settings st.flow class size hops (over_for st size hops)
 
-abbrev pub client_for : Station → Frame → Client
+abbrev pub client_for : Station → Frame → Result Client Refused
 client_for st x = staged_of st (staging st x.class x.size x.hops)
 
 -- how far short the shapers are that a client frame of this class needs; of client B, where its own share does not let it in, those of the excess attempt
 abbrev pub short_for : Station → ℕ → ℕ
 short_for st class = short_all st.settings st.flow.credits (needs_of (way_for st class))
 
--- a refusal changes nothing; it is a number, and what it says beside it
-abbrev pub turned_of : Station → ℕ → ℕ → Client
-turned_of st n detail = record { number = n; detail = detail; mark = 0; station = st }
+-- a refusal is a number, and what it says beside it: no station is answered, so that nothing is changed
+abbrev pub turned_of : ℕ → ℕ → Result Client Refused
+turned_of n detail = Err (refused n detail)
+
+-- what the answer says of the frame's mark: 0 where it is refused
+abbrev pub mark_told : Result Client Refused → ℕ
+mark_told (Ok r) = r.mark
+mark_told (Err e) = 0
+
+-- and the station afterwards: a refusal leaves it as it was
+abbrev pub station_left : Station → Result Client Refused → Station
+station_left st (Ok r) = r.station
+station_left st (Err e) = st
 
 -- what a refusal says to a client frame of this class
-abbrev pub turned_for : Station → ℕ → ℕ → Client
-turned_for st class n = turned_of st n (detail_of n (short_for st class))
+abbrev pub turned_for : Station → ℕ → ℕ → Result Client Refused
+turned_for st class n = turned_of n (detail_of n (short_for st class))
 
 -- the frame is in, with its mark
-abbrev pub taken_of : Station → flow.Client → Client
-taken_of st r = record { number = 0; detail = 0; mark = r.mark; station = with_flow st r.flow }
+abbrev pub taken_of : Station → Result flow.Client Refused → Result Client Refused
+taken_of st r = Ok (record { mark = mark_said r; station = with_flow st (flow_after st.flow r) })
 
 -- The stage holds one client frame.
-abbrev pub offer_client_of : Station → ℕ → ℕ → ℕ → Client
+abbrev pub offer_client_of : Station → ℕ → ℕ → ℕ → Result Client Refused
 offer_client_of st class size hops =
     refused_or (turned_for st class) (first_of (offer_client_faults st class size hops)) (taken_of st (staging st class size hops))

@@ -1,7 +1,9 @@
 -- The reading of a station.
 -- Assumes nothing.
-use Rattle.std.specs.Prelude.{ℕ, cond, List, [], ◌∷◌, eqb}
+use Rattle.std.specs.Prelude.{ℕ, cond, List, [], ◌∷◌, Result, Ok, Err, eqb}
 use Rattle.decide.specs.Refusal.{Fault, first_of, refused_or}
+use Rattle.shaper.specs.declared.Refused.{Refused}
+use Rattle.shaper.specs.Refused.{refused}
 use Rattle.queue.specs.declared.Queue.{Queue}
 use Rattle.queue.specs.Frame.{frame_of}
 use Rattle.fair.specs.Start.{none_counted}
@@ -9,7 +11,6 @@ use Rattle.fair.specs.Age.{shown_four}
 use Rattle.station.specs.declared.Station.{Station}
 use Rattle.station.specs.declared.Held.{Held}
 use Rattle.station.specs.declared.Reading.{Reading}
-use Rattle.station.specs.declared.Shown.{Shown}
 use Rattle.station.specs.Calls.{range_fault}
 
 -- a queue: frames, bytes
@@ -39,7 +40,7 @@ reading_of st =
 abbrev pub show_faults : Station → List Fault
 show_faults st = range_fault st ∷ []
 
--- each word 0
+-- a reading that says nothing: each word 0
 abbrev pub blank_of : Reading
 blank_of =
     record {
@@ -54,9 +55,18 @@ blank_of =
       received = record { downstream = 0; ttl = 0; high = 0; low = 0; rate = 0 };
     }
 
+-- what showing answers: the reading, or a refusal
+abbrev pub Shown : Type 0
+Shown = Result Reading Refused
+
 -- a refusal shows nothing
 abbrev pub not_shown_of : ℕ → Shown
-not_shown_of n = record { number = n; detail = 0; reading = blank_of }
+not_shown_of n = Err (refused n 0)
+
+-- the reading in the answer
+abbrev pub reading_said : Shown → Reading
+reading_said (Ok r) = r
+reading_said (Err e) = blank_of
 
 abbrev pub show_of : Station → Shown
-show_of st = refused_or not_shown_of (first_of (show_faults st)) (record { number = 0; detail = 0; reading = reading_of st })
+show_of st = refused_or not_shown_of (first_of (show_faults st)) (Ok (reading_of st))

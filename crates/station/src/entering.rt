@@ -4,44 +4,59 @@ ghost use Rattle.decide.specs.Test.{test};
 ghost use Rattle.queue.specs.Frame.{frame_ok};
 ghost use Rattle.flow.specs.Parts.{bounds_of};
 ghost use Rattle.station.specs.Range.{station_ok};
-ghost use Rattle.station.specs.Offers.{cut_of, cut_frame, brought_of, client_for, turned_of, offer_client_of, offer_transit_of, offer_control_of};
+ghost use Rattle.station.specs.Answers.{with_flow};
+ghost use Rattle.station.specs.Offers.{cut_of, cut_frame, client_for, offer_client_of, offer_transit_of, offer_control_of};
 
-use crate::{Client, Done, Station};
-use flow::Entered;
+use crate::{Client, Station};
+use decide::Refusal;
+use flow::Flow;
 use queue::Frame;
 use settings::Settings;
+use shaper::Refused;
 
 // The largest number of 32 bits. No frame has it: not as size, hops, class or mark.
 const MOST: u64 = 4294967295;
 
 impl Station {
     // Takes a client frame into the stage. Class A is 0, B 1, C 2; a client gives no mark.
-    pub fn offer_client(self, class: u64, size: u64, hops: u64) -> Client
+    pub fn offer_client(self, class: u64, size: u64, hops: u64) -> Result<Client, Refused>
         ensures { result ≡ offer_client_of self class size hops }
     {
         self.offer_client_known(self.in_range(), class, size, hops)
     }
 
     // Takes a client frame, where it is known whether the station is in range.
-    pub fn offer_client_known(self, good: bool, class: u64, size: u64, hops: u64) -> Client
+    pub fn offer_client_known(
+        self,
+        good: bool,
+        class: u64,
+        size: u64,
+        hops: u64,
+    ) -> Result<Client, Refused>
         requires { good ≡ test (station_ok self) }
         ensures { result ≡ offer_client_of self class size hops }
     {
         if !good {
-            return self.turned_down(1);
+            return Err(Refusal::Setting.into());
         }
         let frame = frame_of(class, size, hops, 0);
         if !frame_ok(self.settings, frame) {
-            return self.turned_down(3);
+            return Err(Refusal::OutOfRange.into());
         }
         if !decide::in_ring(self.settings.site.stations, frame.hops) {
-            return self.turned_down(13);
+            return Err(Refusal::BeyondRing.into());
         }
         self.client(frame)
     }
 
     // Takes a transit frame into the queue of its class; eligible is 1 or 0.
-    pub fn offer_transit(self, class: u64, size: u64, hops: u64, eligible: u64) -> Done
+    pub fn offer_transit(
+        self,
+        class: u64,
+        size: u64,
+        hops: u64,
+        eligible: u64,
+    ) -> Result<Station, Refused>
         ensures { result ≡ offer_transit_of self class size hops eligible }
     {
         self.offer_transit_known(self.in_range(), class, size, hops, eligible)
@@ -55,92 +70,66 @@ impl Station {
         size: u64,
         hops: u64,
         eligible: u64,
-    ) -> Done
+    ) -> Result<Station, Refused>
         requires { good ≡ test (station_ok self) }
         ensures { result ≡ offer_transit_of self class size hops eligible }
     {
         if !good {
-            return self.refused(1);
+            return Err(Refusal::Setting.into());
         }
         let frame = frame_of(class, size, hops, eligible);
         if !frame_ok(self.settings, frame) {
-            return self.refused(3);
+            return Err(Refusal::OutOfRange.into());
         }
         if !decide::in_ring(self.settings.site.stations, frame.hops) {
-            return self.refused(13);
+            return Err(Refusal::BeyondRing.into());
         }
         let flow = self.flow;
-        let out = flow.transit(self.settings, frame);
-        self.brought(out)
+        Ok(self.with_flow(flow.transit(self.settings, frame)?))
     }
 
     // Takes a control frame, given by its size alone, into the control queue.
-    pub fn offer_control(self, size: u64) -> Done
+    pub fn offer_control(self, size: u64) -> Result<Station, Refused>
         ensures { result ≡ offer_control_of self size }
     {
         self.offer_control_known(self.in_range(), size)
     }
 
     // Takes a control frame, where it is known whether the station is in range. Its one hop is within every ring, so 13 is not looked for.
-    pub fn offer_control_known(self, good: bool, size: u64) -> Done
+    pub fn offer_control_known(self, good: bool, size: u64) -> Result<Station, Refused>
         requires { good ≡ test (station_ok self) }
         ensures { result ≡ offer_control_of self size }
     {
         if !good {
-            return self.refused(1);
+            return Err(Refusal::Setting.into());
         }
         let frame = frame_of(0, size, 1, 0);
         if !frame_ok(self.settings, frame) {
-            return self.refused(3);
+            return Err(Refusal::OutOfRange.into());
         }
         let flow = self.flow;
-        let out = flow.control(self.settings, frame.size);
-        self.brought(out)
+        Ok(self.with_flow(flow.control(self.settings, frame.size)?))
     }
 
-    // The answer where a queue was asked to take a frame: what it said, and the station with it.
-    fn brought(self, said: Entered) -> Done
-        ensures { result ≡ brought_of self said }
+    // The station with its flow anew.
+    fn with_flow(self, flow: Flow) -> Station
+        ensures { result ≡ with_flow self flow }
     {
-        let flow = said.flow;
-        let mut next = self;
-        next.flow = flow;
-        Done {
-            number: said.number,
-            detail: 0,
-            station: next,
-        }
+        Station { flow, ..self }
     }
 
     // The answer where the stage was asked to take a frame in range and within the ring: what it said, and the station with it.
-    fn client(self, frame: Frame) -> Client
+    fn client(self, frame: Frame) -> Result<Client, Refused>
         ensures { result ≡ client_for self frame }
     {
         let fair = self.fair;
         let old = self.flow;
         let over = fair.is_over(frame.size, frame.hops);
-        let out = old.client(self.settings, frame.class, frame.size, frame.hops, over);
-        let flow = out.flow;
-        let mut next = self;
-        next.flow = flow;
-        Client {
-            number: out.number,
-            detail: out.detail,
-            mark: out.mark,
-            station: next,
-        }
-    }
-
-    // The answer to a client whose frame is turned down by this number alone: nothing is changed.
-    fn turned_down(self, number: u8) -> Client
-        ensures { result ≡ turned_of self number 0 }
-    {
-        Client {
-            number: number,
-            detail: 0,
-            mark: 0,
-            station: self,
-        }
+        let taken = old.client(self.settings, frame.class, frame.size, frame.hops, over)?;
+        Ok(Client {
+            mark: taken.mark,
+            station: self.with_flow(taken.flow),
+        })
     }
 }
 

@@ -2,77 +2,70 @@
 ghost use Rattle.std.specs.Prelude.{◌≡◌};
 ghost use Rattle.decide.specs.Test.{test};
 ghost use Rattle.station.specs.Range.{station_ok};
-ghost use Rattle.station.specs.Hear.{changed_of, listen_of, hear_of, not_told_of, tell_of};
+ghost use Rattle.station.specs.Hear.{changed_of, listen_of, hear_of, tell_of};
 
-use crate::{Done, Station, Told};
-use advert::{Advert, Parsed};
+use crate::Station;
+use advert::Advert;
+use decide::Refusal;
+use shaper::Refused;
 
 impl Station {
     // Hears the bytes of a fairness frame. What is wrong with their shape and the ringlet bit is told before the station's range.
-    pub fn hear(self, frame: &[u8]) -> Done
+    pub fn hear(self, frame: &[u8]) -> Result<Station, Refused>
         ensures { result ≡ hear_of self frame.now }
     {
         self.hear_known(self.in_range(), frame)
     }
 
     // Hears the bytes of a fairness frame, where it is known whether the station is in range.
-    pub fn hear_known(self, good: bool, frame: &[u8]) -> Done
+    pub fn hear_known(self, good: bool, frame: &[u8]) -> Result<Station, Refused>
         requires { good ≡ test (station_ok self) }
         ensures { result ≡ hear_of self frame.now }
     {
-        let parsed = advert::parse(frame);
-        match parsed {
-            Parsed::Frame(said) => self.listen(good, said),
-            Parsed::Refused(_) => self.refused(2),
-        }
+        let said = advert::parse(frame)?;
+        self.listen(good, said)
     }
 
     // What the station tells: the fairness frame that it advertises now. The station stays as it is.
-    pub fn tell(self) -> Told
+    pub fn tell(self) -> Result<Advert, Refused>
         ensures { result ≡ tell_of self }
     {
         self.tell_known(self.in_range())
     }
 
     // What the station tells, where it is known whether it is in range.
-    pub fn tell_known(self, good: bool) -> Told
+    pub fn tell_known(self, good: bool) -> Result<Advert, Refused>
         requires { good ≡ test (station_ok self) }
         ensures { result ≡ tell_of self }
     {
         if !good {
-            return not_told(1);
+            return Err(Refusal::Setting.into());
         }
         let fair = self.fair;
-        let advert = fair.told(self.settings);
-        Told {
-            number: 0,
-            detail: 0,
-            advert: advert,
-        }
+        Ok(fair.told(self.settings))
     }
 
     // Hears what a whole frame says.
-    fn listen(self, good: bool, said: Advert) -> Done
+    fn listen(self, good: bool, said: Advert) -> Result<Station, Refused>
         requires { good ≡ test (station_ok self) }
         ensures { result ≡ listen_of self said }
     {
         if heard::is_own_ringlet(self.settings, said) {
-            return self.refused(2);
+            return Err(Refusal::NotWhole.into());
         }
         if !good {
-            return self.refused(1);
+            return Err(Refusal::Setting.into());
         }
         if !heard::ttl_ok(said.ttl as u32) {
-            return self.refused(3);
+            return Err(Refusal::OutOfRange.into());
         }
         if !heard::ttl_in_ring(self.settings.site.stations, said.ttl as u32) {
-            return self.refused(13);
+            return Err(Refusal::BeyondRing.into());
         }
         if heard::is_own_address(self.settings, said) {
-            return self.refused(11);
+            return Err(Refusal::OwnAddress.into());
         }
-        let next = self.changed(said);
-        next.done()
+        Ok(self.changed(said))
     }
 
     // The station after a frame that is not refused.
@@ -84,23 +77,5 @@ impl Station {
         let mut next = self;
         next.fair = heard;
         next
-    }
-}
-
-// The answer where telling is turned down by this number.
-fn not_told(number: u8) -> Told
-    ensures { result ≡ not_told_of number }
-{
-    let nothing = Advert {
-        ringlet: 0,
-        ttl: 0,
-        high: 0,
-        low: 0,
-        rate: 0,
-    };
-    Told {
-        number: number,
-        detail: 0,
-        advert: nothing,
     }
 }

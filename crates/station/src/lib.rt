@@ -1,12 +1,12 @@
 // A station on one ringlet: settings, frames and credits, and the fairness state together. Every call takes any station and any numbers, refuses by
-// document 01's number, first fault first, and answers the station afterwards: unchanged where it refuses. A call whose name ends in `known` is told whether the
-// station is in range, by a caller that has tested it already.
+// document 01's number, first fault first, and else answers the station afterwards: a refusal leaves it as it was. A call whose name ends in `known` is told whether the station is in
+// range, by a caller that has tested it already.
 #![tactic(auto)]
 
 ghost use Rattle.std.specs.Prelude.{◌≡◌};
 ghost use Rattle.decide.specs.Test.{test};
 ghost use Rattle.station.specs.Range.{station_ok, StationOk};
-ghost use Rattle.station.specs.Answers.{refused_of, done_of, chosen_of, not_chosen_of};
+ghost use Rattle.station.specs.Answers.{chosen_of};
 ghost use Rattle.station.specs.Calls.{flags_ok, fresh_of, start_of, ticked_of, tick_of, select_of, aged_of, age_of};
 ghost use Rattle.station.specs.Pick.{seen_as_of, pick_of};
 
@@ -14,14 +14,15 @@ mod entering;
 mod hearing;
 mod showing;
 
-use advert::Advert;
 use credits::Credits;
+use decide::Refusal;
 use fair::{Decided, Fair, Four};
 use flow::Flow;
 use heard::Received;
 use queue::Frame;
 use selection::Sight;
 use settings::Settings;
+use shaper::Refused;
 
 // A station: what it was set to, its credits, queues and stage, and what it knows of rates and congestion.
 #[derive(Clone, Copy)]
@@ -31,20 +32,9 @@ pub struct Station {
     pub fair: Fair,
 }
 
-// What most calls answer: 0 or the number of the refusal, and the station afterwards. `detail`, here and below, is what a refusal says beside its number: of
-// 6 how far short the shapers are, else 0.
-#[derive(Clone, Copy)]
-pub struct Done {
-    pub number: u8,
-    pub detail: u64,
-    pub station: Station,
-}
-
-// What a client's offer answers: 0 or the number of the refusal, the mark that its frame was given, and the station afterwards.
+// A client's frame that was taken: the mark that it was given, and the station afterwards.
 #[derive(Clone, Copy)]
 pub struct Client {
-    pub number: u8,
-    pub detail: u64,
     pub mark: u32,
     pub station: Station,
 }
@@ -63,19 +53,9 @@ pub struct Pick {
 // What goes next: where it comes from, the frame, and the whole station afterwards.
 #[derive(Clone, Copy)]
 pub struct Selected {
-    pub number: u8,
-    pub detail: u64,
     pub origin: u32,
     pub frame: Frame,
     pub station: Station,
-}
-
-// What telling answers: 0 or the number of the refusal, and the frame that is advertised.
-#[derive(Clone, Copy)]
-pub struct Told {
-    pub number: u8,
-    pub detail: u64,
-    pub advert: Advert,
 }
 
 // How many frames a queue or the stage holds, and their bytes.
@@ -100,14 +80,6 @@ pub struct Reading {
     pub received: Received,
 }
 
-// What showing answers: 0 or the number of the refusal, and the reading.
-#[derive(Clone, Copy)]
-pub struct Shown {
-    pub number: u8,
-    pub detail: u64,
-    pub reading: Reading,
-}
-
 impl Station {
     // A station that has just started under these settings.
     pub fn fresh(settings: Settings) -> Station
@@ -116,9 +88,9 @@ impl Station {
         let flow = Flow::start(settings);
         let fair = Fair::start(settings);
         Station {
-            settings: settings,
-            flow: flow,
-            fair: fair,
+            settings,
+            flow,
+            fair,
         }
     }
 
@@ -133,87 +105,62 @@ impl Station {
     }
 
     // Starts the station anew, whatever it was.
-    pub fn start(self, settings: Settings) -> Done
+    pub fn start(self, settings: Settings) -> Result<Station, Refused>
         ensures { result ≡ start_of self settings }
     {
         if !settings.in_range() {
-            return self.refused(1);
+            return Err(Refusal::Setting.into());
         }
-        let next = Station::fresh(settings);
-        next.done()
+        Ok(Station::fresh(settings))
     }
 
     // A tick. The host says whether A, B and C traffic waits: 1 for yes, 0 for no.
-    pub fn tick(self, a: u64, b: u64, c: u64) -> Done
+    pub fn tick(self, a: u64, b: u64, c: u64) -> Result<Station, Refused>
         ensures { result ≡ tick_of self a b c }
     {
         self.tick_known(self.in_range(), a, b, c)
     }
 
     // A tick, where it is known whether the station is in range.
-    pub fn tick_known(self, good: bool, a: u64, b: u64, c: u64) -> Done
+    pub fn tick_known(self, good: bool, a: u64, b: u64, c: u64) -> Result<Station, Refused>
         requires { good ≡ test (station_ok self) }
         ensures { result ≡ tick_of self a b c }
     {
         if !good {
-            return self.refused(1);
+            return Err(Refusal::Setting.into());
         }
         if !flags_ok(a, b, c) {
-            return self.refused(3);
+            return Err(Refusal::OutOfRange.into());
         }
-        let next = self.ticked(a == 1, b == 1, c == 1);
-        next.done()
+        Ok(self.ticked(a == 1, b == 1, c == 1))
     }
 
     // What goes next, by table 6.4. The frame leaves its queue, and is counted where it is eligible.
-    pub fn select(self) -> Selected
+    pub fn select(self) -> Result<Selected, Refused>
         ensures { result ≡ select_of self }
     {
         if !self.in_range() {
-            return self.not_chosen(1);
+            return Err(Refusal::Setting.into());
         }
-        self.chosen()
+        Ok(self.chosen())
     }
 
     // The end of an aging interval.
-    pub fn age(self) -> Done
+    pub fn age(self) -> Result<Station, Refused>
         ensures { result ≡ age_of self }
     {
         self.age_known(self.in_range())
     }
 
     // The end of an aging interval, where it is known whether the station is in range.
-    pub fn age_known(self, good: bool) -> Done
+    pub fn age_known(self, good: bool) -> Result<Station, Refused>
         requires { good ≡ test (station_ok self) }
         ensures { result ≡ age_of self }
     {
         if !good {
-            return self.refused(1);
+            return Err(Refusal::Setting.into());
         }
-        let next = self.aged();
-        next.done()
-    }
-
-    // The answer where a call was carried out and left this station.
-    fn done(self) -> Done
-        ensures { result ≡ done_of self }
-    {
-        Done {
-            number: 0,
-            detail: 0,
-            station: self,
-        }
-    }
-
-    // The answer of a call that is turned down by this number: nothing is changed.
-    fn refused(self, number: u8) -> Done
-        ensures { result ≡ refused_of self number }
-    {
-        Done {
-            number: number,
-            detail: 0,
-            station: self,
-        }
+        Ok(self.aged())
     }
 
     // The station after a tick.
@@ -226,9 +173,9 @@ impl Station {
         let share = fair.share(settings);
         let ticked = flow.tick(settings, share, a, b, c);
         Station {
-            settings: settings,
+            settings,
             flow: ticked,
-            fair: fair,
+            fair,
         }
     }
 
@@ -245,30 +192,14 @@ impl Station {
         let fair = pick.fair;
         let rest = flow.leave(pick.origin, credits, pick.stage);
         let next = Station {
-            settings: settings,
+            settings,
             flow: rest,
-            fair: fair,
+            fair,
         };
         Selected {
-            number: 0,
-            detail: 0,
             origin: pick.origin,
-            frame: frame,
+            frame,
             station: next,
-        }
-    }
-
-    // The answer of a selection that is turned down by this number: no frame, and nothing is changed.
-    fn not_chosen(self, number: u8) -> Selected
-        ensures { result ≡ not_chosen_of self number }
-    {
-        let none = Frame::of(queue::EMPTY);
-        Selected {
-            number: number,
-            detail: 0,
-            origin: 0,
-            frame: none,
-            station: self,
         }
     }
 
@@ -283,8 +214,8 @@ impl Station {
         let held = flow.secondary.held;
         let aged = fair.age(settings, held);
         Station {
-            settings: settings,
-            flow: flow,
+            settings,
+            flow,
             fair: aged,
         }
     }
@@ -309,7 +240,7 @@ pub fn picked(settings: Settings, sight: Sight, fair: Fair) -> Pick
     Pick {
         origin: out.origin,
         frame: chosen,
-        credits: credits,
+        credits,
         stage: out.stage,
         fair: counted,
     }

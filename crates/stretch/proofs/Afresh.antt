@@ -14,8 +14,9 @@ use Rattle.wire.specs.Wire.{Bytes}
 use Rattle.wire.proofs.Places.{Stands}
 use Rattle.shaper.specs.declared.Limits.{Limits}
 use Rattle.shaper.specs.declared.Event.{Event}
-use Rattle.summary.specs.declared.Answer.{Answer}
 use Rattle.summary.specs.Summary.{empty_of, summary_of}
+use Rattle.std.specs.Prelude.{Ok, Err}
+use Rattle.decide.specs.Number.{refusal_of}
 use Rattle.summary.specs.Answer.{join_of}
 use Rattle.summary.proofs.Promises.{join_append}
 use Rattle.record.specs.Record.{written, WellFormed}
@@ -65,7 +66,7 @@ piece_none l es a b h = let z : b - a ≡ 0 = omega arith in rw z
 
 -- two pieces, one behind the other
 pieces_joined : (l : Limits) (es : List Event) → WellFormed l es → (a b c : ℕ) → a ≤ b → b ≤ c →
-    join_of (summary_of l (piece_of es a b)) (summary_of l (piece_of es b c)) ≡ Answer.Summed (summary_of l (piece_of es a c))
+    join_of (summary_of l (piece_of es a b)) (summary_of l (piece_of es b c)) ≡ Ok (summary_of l (piece_of es a c))
 pieces_joined l es w a b c h k =
     let p = piece_formed l es w a b in
     let q = piece_formed l es w b c in
@@ -93,8 +94,8 @@ comes_sum : (l : Limits) (es : List Event) (f : Found) (from to : ℕ) → Comes
 comes_sum l es f from to (none p m) some = absurd (omega arith)
 comes_sum l es f from to (sum p m) some = p
 
-comes_answer : (l : Limits) (es : List Event) (f : Found) (from to : ℕ) → Comes l es f from to → found_answer l f ≡ Answer.Summed (summary_of l (piece_of es from to))
-comes_answer l es f from to (none p m) = rw p (ap Answer.Summed (sym (piece_none l es from to m)))
+comes_answer : (l : Limits) (es : List Event) (f : Found) (from to : ℕ) → Comes l es f from to → found_answer l f ≡ Ok (summary_of l (piece_of es from to))
+comes_answer l es f from to (none p m) = rw p (ap Ok (sym (piece_none l es from to m)))
 comes_answer l es f from to (sum p m) = rw p
 
 module _ (xs : List ℕ) (l : Limits) (es : List Event) (h : read_in true xs ≡ whole l es) (b : Bytes xs) where
@@ -185,7 +186,7 @@ module _ (xs : List ℕ) (l : Limits) (es : List Event) (h : read_in true xs ≡
     pub all_afresh : first < last → found_in (source_of l xs (index_bytes l xs es) (length es)) first last top_level 0 ≡ Sum (summary_of l (piece_of es first last))
     all_afresh some = comes_sum l es _ first last comes_top some
 
-    answer_afresh : found_answer l (found_in here first last top_level 0) ≡ Answer.Summed (summary_of l (piece_of es first last))
+    answer_afresh : found_answer l (found_in here first last top_level 0) ≡ Ok (summary_of l (piece_of es first last))
     answer_afresh = comes_answer l es _ first last comes_top
 
   -- ---- how many events there are
@@ -248,12 +249,12 @@ module _ (xs : List ℕ) (l : Limits) (es : List Event) (h : read_in true xs ≡
   -- ---- the answer
 
   -- the summary of just the stretch
-  pub stretch_afresh : (first last : ℕ) → first ≤ last → last ≤ length es → stretch_of xs (index_bytes l xs es) first last ≡ Answer.Summed (summary_of l (piece_of es first last))
+  pub stretch_afresh : (first last : ℕ) → first ≤ last → last ≤ length es → stretch_of xs (index_bytes l xs es) first last ≡ Ok (summary_of l (piece_of es first last))
   stretch_afresh first last ahead within =
       let c = counted_afresh.2 in
       rw c at (row_found l xs own fits_afresh first last ahead (rw c within))
       ∙ by_cases (le_or last first)
-      (λ none. ap (found_answer l) (stretched_none here first last none) ∙ ap Answer.Summed (sym (piece_none l es first last (omega arith))))
+      (λ none. ap (found_answer l) (stretched_none here first last none) ∙ ap Ok (sym (piece_none l es first last (omega arith))))
       (λ some. ap (found_answer l) (stretched_some here first last some) ∙ answer_afresh first last ahead within)
 
   -- and so that of the piece read afresh: its header followed by its events,
@@ -263,14 +264,14 @@ module _ (xs : List ℕ) (l : Limits) (es : List Event) (h : read_in true xs ≡
   -- or by any items that stand for them
   pub stretch_items : (first last : ℕ) → first ≤ last → last ≤ length es → (is : List Item) → Formed true l is → unrolled is ≡ piece_of es first last →
       stretch_of xs (index_bytes l xs es) first last ≡ summarize_of (written_items l is)
-  stretch_items first last ahead within is f e = stretch_afresh first last ahead within ∙ sym (summarize_items true l is f ∙ ap (λ fs. Answer.Summed (summary_of l fs)) e)
+  stretch_items first last ahead within is f e = stretch_afresh first last ahead within ∙ sym (summarize_items true l is f ∙ ap (λ fs. Ok (summary_of l fs)) e)
 
   -- of no event the empty summary
-  pub empty_stretch : (first : ℕ) → first ≤ length es → stretch_of xs (index_bytes l xs es) first first ≡ Answer.Summed (empty_of l)
-  empty_stretch first within = stretch_afresh first first (omega arith) within ∙ ap Answer.Summed (piece_none l es first first (omega arith))
+  pub empty_stretch : (first : ℕ) → first ≤ length es → stretch_of xs (index_bytes l xs es) first first ≡ Ok (empty_of l)
+  empty_stretch first within = stretch_afresh first first (omega arith) within ∙ ap Ok (piece_none l es first first (omega arith))
 
   -- past the end or backwards
-  pub stretch_past : (first last : ℕ) → (last < first) ⊎ (length es < last) → stretch_of xs (index_bytes l xs es) first last ≡ Answer.Refused 3
+  pub stretch_past : (first last : ℕ) → (last < first) ⊎ (length es < last) → stretch_of xs (index_bytes l xs es) first last ≡ Err (refusal_of 3)
   stretch_past first last o = row_past l xs own fits_afresh first last (by_cases o (λ m. inl m) (λ m. inr (omega (arith, counted_afresh.2))))
 
 -- Records of the same settings and events have the same answers, each from its own index: either form of one too.

@@ -11,14 +11,17 @@ use lib.ListN.{length}
 use Rattle.decide.specs.Refusal.{Fault, fault, First, nothing, row, earlier, first, number_of, first_of}
 use Rattle.decide.specs.Test.{test, passes, or_r}
 use Rattle.decide.proofs.Cases.{by_cases, true_or_false, of_each}
-use Rattle.decide.proofs.Refusal.{in_order_lem}
+use Rattle.decide.proofs.Given.{in_order_lem}
 use Rattle.wire.specs.Wire.{le}
 use Rattle.shaper.specs.declared.Limits.{Limits}
 use Rattle.shaper.specs.Limits.{limits_ok, most_events}
-use Rattle.summary.specs.declared.Answer.{Answer}
+use Rattle.summary.specs.declared.Summary.{Summary}
 use Rattle.summary.specs.Summary.{empty_of}
-use Rattle.summary.specs.Answer.{answered, join_of}
-use Rattle.record.specs.declared.Header.TheVariants.{Settings, Unreadable}
+use Rattle.summary.specs.Answer.{Answer, answered, join_of}
+use Rattle.std.specs.Prelude.{Ok, Err}
+use Rattle.decide.specs.declared.refusal.Refusal.{Refusal}
+use Rattle.decide.specs.Number.{number_in, refusal_of}
+use Rattle.decide.proofs.Number.{number_told}
 use Rattle.record.specs.Read.{Events, faulty, events, limits_at, header_faults}
 use Rattle.record.specs.Step.{headed, header_of_of}
 use Rattle.record.proofs.Steps.{header_stands}
@@ -97,9 +100,9 @@ module _ (xs : List ℕ) where
   two_none false false false d e = (refl, refl, refl)
 
   -- where it has a fault, that is 1
-  one_then : (d : Bool) (n : ℕ) → headed (cond d 1 0) xs ≡ Unreadable n → (d ≡ true) × (n ≡ 1)
-  one_then true n e = (refl, cc)
-  one_then false n e = let z : ◌≡◌ {A = ℕ} 0 1 = cc in absurd (omega arith)
+  one_then : (d : Bool) (r : Refusal) → headed (cond d 1 0) xs ≡ Err r → (d ≡ true) × (refusal_of 1 ≡ r)
+  one_then true r e = (refl, cc)
+  one_then false r e = let z : ◌≡◌ {A = ℕ} 0 1 = cc in absurd (omega arith)
 
   module _ (head : is_header (header_of_of xs) ≡ true) where
     abbrev lefts : (ltb (length xs) 14 ≡ false) × (not (eqb (le 2 xs 0) 14) ≡ false) × (not (eqb (le 2 xs 2) 16) ≡ false)
@@ -108,31 +111,31 @@ module _ (xs : List ℕ) where
     pub header_long : 14 ≤ length xs
     header_long = ltb-false (length xs) 14 lefts.0
 
-    header_one : (n : ℕ) → header_of_of xs ≡ Unreadable n → (not (test (limits_ok (limits_at xs))) ≡ true) × (n ≡ 1)
-    header_one n e = one_then (not (test (limits_ok (limits_at xs)))) n (rw (lefts.0, lefts.1, lefts.2) at (sym header_is ∙ e))
+    header_one : (r : Refusal) → header_of_of xs ≡ Err r → (not (test (limits_ok (limits_at xs))) ≡ true) × (refusal_of 1 ≡ r)
+    header_one r e = one_then (not (test (limits_ok (limits_at xs)))) r (rw (lefts.0, lefts.1, lefts.2) at (sym header_is ∙ e))
 
--- ---- a fault that is found has a number
+-- ---- a fault that is found is named by its number
 
-abbrev Numbered : Found → Type 0
+abbrev pub Numbered : Found → Type 0
 Numbered Nothing = Unit {0}
-Numbered (Faulty n) = 0 < n
+Numbered (Faulty r) = (0 < number_in r) × (refusal_of (number_in r) ≡ r)
 Numbered Outside = Unit {0}
 Numbered (Sum s) = Unit {0}
 
 numbered_joined : (x : Answer) → Numbered (joined_found x)
-numbered_joined (Answer.Summed s) = tt
-numbered_joined (Answer.Refused n) = tt
+numbered_joined (Ok s) = tt
+numbered_joined (Err r) = tt
 
 numbered_and : (f g : Found) → Numbered f → Numbered g → Numbered (and_found f g)
 unfolding and_found
 numbered_and Nothing g p r = r
-numbered_and (Faulty n) g p r = p
+numbered_and (Faulty i) g p r = p
 numbered_and Outside Nothing p r = tt
-numbered_and Outside (Faulty n) p r = r
+numbered_and Outside (Faulty i) p r = r
 numbered_and Outside Outside p r = tt
 numbered_and Outside (Sum b) p r = tt
 numbered_and (Sum a) Nothing p r = tt
-numbered_and (Sum a) (Faulty n) p r = r
+numbered_and (Sum a) (Faulty i) p r = r
 numbered_and (Sum a) Outside p r = tt
 numbered_and (Sum a) (Sum b) p r = numbered_joined (join_of a b)
 
@@ -146,7 +149,9 @@ unfolding part_found
 numbered_part q x skipped count = by (read_part q.limits.mtu count q.bytes (place_in q.index (80 * x))) refl
   where
     by : (r : Events) → read_part q.limits.mtu count q.bytes (place_in q.index (80 * x)) ≡ r → Numbered (part_summed q.limits skipped (read_part q.limits.mtu count q.bytes (place_in q.index (80 * x))))
-    by (faulty n) e = rw e (part_number q.limits.mtu q.bytes count n (place_in q.index (80 * x)) e)
+    by (faulty n) e =
+        let told = number_told n in
+        rw e (omega (arith, part_number q.limits.mtu q.bytes count n (place_in q.index (80 * x)) e, told), ap refusal_of told)
     by (events es) e = rw e tt
 
 numbered_in : (q : Source) (first last k x : ℕ) → Numbered (found_in q first last k x)
@@ -157,19 +162,30 @@ numbered_in q first last =
     (λ x a w. rw (found_part q first last x a w) (numbered_part q x _ _))
     (λ k x a w f g. rw (found_both q first last k x a w) (numbered_and _ _ f g))
 
+pub numbered_stretched : (q : Source) (first last : ℕ) → Numbered (stretched q first last)
+unfolding stretched
+numbered_stretched q first last = of_each Numbered (leb last first) Nothing (found_in q first last top_level 0) (λ e. tt) (λ e. numbered_in q first last top_level 0)
+
 numbered_of : (xs ix : List ℕ) (first last : ℕ) → Numbered (found_of xs ix first last)
-unfolding found_of stretched
-numbered_of xs ix first last =
-    of_each Numbered (leb last first) Nothing (found_in (source_of (limits_at xs) xs ix (events_counted xs ix)) first last top_level 0) (λ e. tt) (λ e. numbered_in _ first last top_level 0)
+unfolding found_of
+numbered_of xs ix first last = numbered_stretched (source_of (limits_at xs) xs ix (events_counted xs ix)) first last
+
+-- so its number is answered by it
+pub answered_named : (s : Summary) (r : Refusal) → (0 < number_in r) × (refusal_of (number_in r) ≡ r) → answered (number_in r) s ≡ Err r
+answered_named s r p = by (number_in r) refl
+  where
+    by : (m : ℕ) → number_in r ≡ m → answered m s ≡ Err r
+    by zero e = absurd (omega (arith, p.0))
+    by (suc m) e = ap Err (ap refusal_of (sym e) ∙ p.1)
 
 -- ---- what is asked where 2, 1 and 9 do not apply
 
 module _ (l : Limits) (xs ix : List ℕ) (n first last : ℕ) where
-  pub asked_backwards : last < first → asked_of l xs ix n first last ≡ Answer.Refused 3
+  pub asked_backwards : last < first → asked_of l xs ix n first last ≡ Err (refusal_of 3)
   unfolding asked_of
   asked_backwards h = rw (lt-ltb last first h)
 
-  pub asked_past : n < last → asked_of l xs ix n first last ≡ Answer.Refused 3
+  pub asked_past : n < last → asked_of l xs ix n first last ≡ Err (refusal_of 3)
   unfolding asked_of
   asked_past h = rw (or_r (ltb last first) (ltb n last) (lt-ltb n last h))
 
@@ -178,15 +194,14 @@ module _ (l : Limits) (xs ix : List ℕ) (n first last : ℕ) where
   asked_found h k = rw (le-ltb last first (omega arith), le-ltb n last k, lt-leb last first h)
 
   -- an empty stretch is the empty summary
-  pub asked_empty : first ≡ last → last ≤ n → asked_of l xs ix n first last ≡ Answer.Summed (empty_of l)
+  pub asked_empty : first ≡ last → last ≤ n → asked_of l xs ix n first last ≡ Ok (empty_of l)
   unfolding asked_of stretched
   asked_empty e k = rw (le-ltb last first (omega arith), le-ltb n last k, le-leb last first (omega arith))
 
 -- what is found is answered: a fault, an entry out of range, or the summary
 found_answer_lem : (l : Limits) (f : Found) → Numbered f → answered (cond (has_fault f) (part_fault f) (cond (is_outside f) 3 0)) (summary_found l f) ≡ found_answer l f
 found_answer_lem l Nothing p = refl
-found_answer_lem l (Faulty zero) p = absurd (omega arith)
-found_answer_lem l (Faulty (suc n)) p = refl
+found_answer_lem l (Faulty r) p = answered_named (empty_of l) r p
 found_answer_lem l Outside p = refl
 found_answer_lem l (Sum s) p = refl
 
@@ -213,12 +228,12 @@ module _ (xs ix : List ℕ) (first last : ℕ) where
       (number_chained (ltb (length xs) 14) (not (eqb (le 2 xs 0) 14)) (not (eqb (le 2 xs 2) 16)) (not (test (limits_ok (limits_at xs)))) (not (length_ok (length ix))) (not (belongs xs ix))
       (ltb most_events (events_counted xs ix)) outside (has_fault found) (is_outside found) (part_fault found))
 
-  asked_is : asked_of (limits_at xs) xs ix (events_counted xs ix) first last ≡ cond outside (Answer.Refused 3) (found_answer (limits_at xs) found)
+  asked_is : asked_of (limits_at xs) xs ix (events_counted xs ix) first last ≡ cond outside (Err (refusal_of 3)) (found_answer (limits_at xs) found)
   unfolding asked_of found_of
   asked_is = refl
 
   -- 2: no header
-  pub stretch_headless : is_header (header_of_of xs) ≡ false → stretch_of xs ix first last ≡ Answer.Refused 2
+  pub stretch_headless : is_header (header_of_of xs) ≡ false → stretch_of xs ix first last ≡ Err (refusal_of 2)
   stretch_headless e =
       stretch_is
       ∙ ap (λ n. answered n (summary_found (limits_at xs) found))
@@ -235,25 +250,25 @@ module _ (xs ix : List ℕ) (first last : ℕ) where
     behind_header = let f = lefts xs head in stretch_is ∙ rw (f.0, f.1, f.2)
 
     -- 2: an index of another length
-    pub stretch_length : length_ok (length ix) ≡ false → stretch_of xs ix first last ≡ Answer.Refused 2
+    pub stretch_length : length_ok (length ix) ≡ false → stretch_of xs ix first last ≡ Err (refusal_of 2)
     stretch_length e = behind_header ∙ rw e
 
     module _ (long : length_ok (length ix) ≡ true) where
       -- 2: of another record
-      pub stretch_other : belongs xs ix ≡ false → stretch_of xs ix first last ≡ Answer.Refused 2
+      pub stretch_other : belongs xs ix ≡ false → stretch_of xs ix first last ≡ Err (refusal_of 2)
       stretch_other e = behind_header ∙ rw (long, e)
 
       module _ (own : belongs xs ix ≡ true) where
         -- 1: the settings
-        pub stretch_settings : (n : ℕ) → header_of_of xs ≡ Unreadable n → stretch_of xs ix first last ≡ Answer.Refused n
-        stretch_settings n e = let o = header_one xs head n e in behind_header ∙ rw (long, own, o.0, o.1)
+        pub stretch_settings : (r : Refusal) → header_of_of xs ≡ Err r → stretch_of xs ix first last ≡ Err r
+        stretch_settings r e = let o = header_one xs head r e in behind_header ∙ rw (long, own, o.0) (ap Err o.1)
 
-        module _ (l : Limits) (set : header_of_of xs ≡ Settings l) where
+        module _ (l : Limits) (set : header_of_of xs ≡ Ok l) where
           settled : not (test (limits_ok (limits_at xs))) ≡ false
           settled = let h = header_stands xs l set in ap not (passes (limits_ok (limits_at xs)) (rw h.settings at h.in_range_lem))
 
           -- 9: too many events
-          pub stretch_many : ltb most_events (events_counted xs ix) ≡ true → stretch_of xs ix first last ≡ Answer.Refused 9
+          pub stretch_many : ltb most_events (events_counted xs ix) ≡ true → stretch_of xs ix first last ≡ Err (refusal_of 9)
           stretch_many e = behind_header ∙ rw (long, own, settled, e)
 
           -- else what is asked

@@ -17,9 +17,10 @@ use Rattle.shaper.specs.Limits.{most_events}
 use Rattle.index.specs.Tree.{blocks_of, index_length}
 use Rattle.index.specs.Entry.{place_in}
 use Rattle.index.proofs.Nodes.{blocks_hold}
-use Rattle.stretch.specs.declared.Counted.{Counted}
-use Rattle.stretch.specs.declared.Counted.TheVariants.{Events, TooMany, Other}
-use Rattle.stretch.specs.Stretch.{length_ok, last_block, last_place, last_events, belongs, events_counted, counted_of}
+use Rattle.std.specs.Prelude.{Option, Some, None, Ok, Err}
+use Rattle.decide.specs.declared.refusal.Refusal.{Refusal}
+use Rattle.decide.specs.Number.{refusal_of}
+use Rattle.stretch.specs.Stretch.{Counted, length_ok, last_block, last_place, last_events, belongs, events_counted, counted_of}
 
 -- ---- both ends of a stretch
 
@@ -54,11 +55,11 @@ place_bound ix at b = (le_bound 4 ix (at + 4) b, le_bound 4 ix (at + 8) b)
 module _ (xs ix : List ℕ) where
   -- ---- of no block
   module _ (none : length ix ≡ 0) where
-    pub counted_longer : 14 < length xs → counted_of xs ix ≡ Other
+    pub counted_longer : 14 < length xs → counted_of xs ix ≡ Err (refusal_of 2)
     unfolding counted_of belongs
     counted_longer h = rw (eq-eqb (length ix) 0 none, lt-leb (length xs) 14 h)
 
-    pub counted_none : length xs ≤ 14 → counted_of xs ix ≡ Events 0
+    pub counted_none : length xs ≤ 14 → counted_of xs ix ≡ Ok (Some 0)
     unfolding counted_of belongs events_counted
     counted_none h = rw (eq-eqb (length ix) 0 none, le-leb (length xs) 14 h)
 
@@ -71,16 +72,16 @@ module _ (xs ix : List ℕ) where
     unfolding belongs
     belongs_some = rw (ne_eqb (length ix) 0 some)
 
-    pub counted_few : last_events xs ix ≡ 0 → counted_of xs ix ≡ Other
+    pub counted_few : last_events xs ix ≡ 0 → counted_of xs ix ≡ Err (refusal_of 2)
     unfolding counted_of
     counted_few h = rw (belongs_some, h)
 
-    pub counted_past : 256 < last_events xs ix → counted_of xs ix ≡ Other
+    pub counted_past : 256 < last_events xs ix → counted_of xs ix ≡ Err (refusal_of 2)
     unfolding counted_of
     counted_past h = rw (belongs_some, le-leb 1 (last_events xs ix) (omega arith), lt-leb (last_events xs ix) 256 h)
 
     module _ (one : 1 ≤ last_events xs ix) (most : last_events xs ix ≤ 256) where
-      pub counted_far : 14 + 6 * (256 * last_block ix) < far → counted_of xs ix ≡ Other
+      pub counted_far : 14 + 6 * (256 * last_block ix) < far → counted_of xs ix ≡ Err (refusal_of 2)
       unfolding counted_of
       counted_far h = rw (belongs_some, le-leb 1 (last_events xs ix) one, le-leb (last_events xs ix) 256 most, lt-leb far (14 + 6 * (256 * last_block ix)) h)
 
@@ -89,12 +90,12 @@ module _ (xs ix : List ℕ) where
         unfolding events_counted
         counted_all = rw (ne_eqb (length ix) 0 some)
 
-        pub counted_many : most_events < 256 * last_block ix + last_events xs ix → counted_of xs ix ≡ TooMany
+        pub counted_many : most_events < 256 * last_block ix + last_events xs ix → counted_of xs ix ≡ Ok None
         unfolding counted_of
         counted_many h =
             rw (belongs_some, le-leb 1 (last_events xs ix) one, le-leb (last_events xs ix) 256 most, le-leb far (14 + 6 * (256 * last_block ix)) near, counted_all, lt-ltb most_events (256 * last_block ix + last_events xs ix) h)
 
-        pub counted_events : 256 * last_block ix + last_events xs ix ≤ most_events → counted_of xs ix ≡ Events (256 * last_block ix + last_events xs ix)
+        pub counted_events : 256 * last_block ix + last_events xs ix ≤ most_events → counted_of xs ix ≡ Ok (Some (256 * last_block ix + last_events xs ix))
         unfolding counted_of
         counted_events h =
             rw (belongs_some, le-leb 1 (last_events xs ix) one, le-leb (last_events xs ix) 256 most, le-leb far (14 + 6 * (256 * last_block ix)) near, counted_all, le-ltb most_events (256 * last_block ix + last_events xs ix) h)
@@ -108,25 +109,29 @@ module _ (xs ix : List ℕ) where
   -- ---- what a count says
 
   abbrev MeansCounted : Counted → Type 0
-  MeansCounted (Events n) = (belongs xs ix ≡ true) × (n ≡ events_counted xs ix) × (ltb most_events (events_counted xs ix) ≡ false)
-  MeansCounted TooMany = (belongs xs ix ≡ true) × (ltb most_events (events_counted xs ix) ≡ true)
-  MeansCounted Other = belongs xs ix ≡ false
+  MeansCounted (Ok (Some n)) = (belongs xs ix ≡ true) × (n ≡ events_counted xs ix) × (ltb most_events (events_counted xs ix) ≡ false)
+  MeansCounted (Ok None) = (belongs xs ix ≡ true) × (ltb most_events (events_counted xs ix) ≡ true)
+  MeansCounted (Err r) = (belongs xs ix ≡ false) × (refusal_of 2 ≡ r)
 
   means_counted : MeansCounted (counted_of xs ix)
   unfolding counted_of
   means_counted =
       by_cases (true_or_false (belongs xs ix))
       (λ b. by_cases (true_or_false (ltb most_events (events_counted xs ix))) (λ m. rw (b, m) (b, m)) (λ m. rw (b, m) (b, refl, m)))
-      (λ b. rw b b)
+      (λ b. rw b (b, refl))
 
-  pub counted_says : (n : ℕ) → counted_of xs ix ≡ Events n → (belongs xs ix ≡ true) × (n ≡ events_counted xs ix) × (ltb most_events (events_counted xs ix) ≡ false)
+  pub counted_says : (n : ℕ) → counted_of xs ix ≡ Ok (Some n) → (belongs xs ix ≡ true) × (n ≡ events_counted xs ix) × (ltb most_events (events_counted xs ix) ≡ false)
   counted_says n e = rw e at means_counted
 
-  pub counted_too_many : counted_of xs ix ≡ TooMany → (belongs xs ix ≡ true) × (ltb most_events (events_counted xs ix) ≡ true)
+  pub counted_too_many : counted_of xs ix ≡ Ok None → (belongs xs ix ≡ true) × (ltb most_events (events_counted xs ix) ≡ true)
   counted_too_many e = rw e at means_counted
 
-  pub counted_other : counted_of xs ix ≡ Other → belongs xs ix ≡ false
-  counted_other e = rw e at means_counted
+  pub counted_other : (r : Refusal) → counted_of xs ix ≡ Err r → (belongs xs ix ≡ false) × (refusal_of 2 ≡ r)
+  counted_other r e = rw e at means_counted
+
+  pub counted_own : (o : Option ℕ) → counted_of xs ix ≡ Ok o → belongs xs ix ≡ true
+  counted_own (Some n) e = (counted_says n e).0
+  counted_own None e = (counted_too_many e).0
 
   -- the index of a record of so many events has that length
   pub length_right : length_ok (length ix) ≡ true → belongs xs ix ≡ true → length ix ≡ index_length (events_counted xs ix)

@@ -11,33 +11,31 @@ use lib.Dec.{leb, ltb, eqb}
 use lib.ListN.{length}
 use Rattle.decide.specs.Test.{passes, either, or_r}
 use Rattle.decide.specs.Refusal.{first, first_of, RefusedExactly}
-use Rattle.decide.proofs.Cases.{by_cases, of_each}
-use Rattle.decide.proofs.Refusal.{refused_exactly}
+use Rattle.decide.proofs.Cases.{by_cases}
+use Rattle.decide.proofs.Given.{refused_exactly}
+use Rattle.std.specs.Prelude.{Ok, Err}
+use Rattle.decide.specs.declared.refusal.Refusal.{Refusal}
+use Rattle.decide.specs.Number.{refusal_of}
+use Rattle.decide.proofs.Number.{number_told}
 use Rattle.wire.specs.Wire.{le, Bytes}
 use Rattle.shaper.specs.declared.Limits.{Limits}
-use Rattle.shaper.specs.declared.Event.{Event}
 use Rattle.shaper.specs.Limits.{limits_ok, most_events}
 use Rattle.summary.specs.declared.Summary.{Summary}
-use Rattle.summary.specs.declared.Answer.{Answer}
 use Rattle.summary.specs.Summary.{empty_of}
-use Rattle.summary.specs.Answer.{answered, join_of, answer_number}
-use Rattle.record.specs.Read.{limits_at, Events, faulty, events, onward}
+use Rattle.summary.specs.Answer.{answered, answer_number}
+use Rattle.record.specs.Read.{limits_at}
 use Rattle.record.proofs.Steps.{Headed}
-use Rattle.excerpt.specs.declared.Place.{Place}
-use Rattle.excerpt.specs.Place.{next_place, place_faults}
-use Rattle.excerpt.specs.Excerpt.{read_part}
-use Rattle.index.specs.Tree.{entry_length, top_level, size_of, stands_at}
+use Rattle.index.specs.Tree.{entry_length, top_level, stands_at}
 use Rattle.index.proofs.Sizes.{size_some, size_top}
-use Rattle.index.specs.Entry.{summary_in, place_in}
 use Rattle.stretch.specs.declared.Found.{Found}
 use Rattle.stretch.specs.declared.Found.TheVariants.{Nothing, Faulty, Outside, Sum}
-use Rattle.stretch.specs.Found.{Source, source_of, joined_found, and_found, entry_ok, entry_found, part_summed, part_found, found_in}
+use Rattle.stretch.specs.Found.{Source, source_of, found_in}
 use Rattle.stretch.specs.Used.{Node, used_of, read_of, Among, first_fault}
 use Rattle.stretch.specs.Stretch.{length_ok, last_block, last_place, last_events, belongs, events_counted, stretched, found_of, part_fault, has_fault, is_outside, summary_found, later, stretch_faults, stretch_of, found_answer, asked_of}
 use Rattle.stretch.proofs.Facts.{whole_facts, apart_not}
 use Rattle.stretch.proofs.Used.{used_exactly}
-use Rattle.stretch.proofs.Rows.{by_halves, found_apart, found_whole, found_part, found_both}
 use Rattle.stretch.proofs.Refused.{SomeOut, fault_first}
+use Rattle.stretch.proofs.Answers.{Numbered, answered_named, numbered_stretched}
 use Rattle.stretch.proofs.Refused as R
 use Rattle.stretch.proofs.Free.{SameBytes, place_same, other_bytes_free}
 use Rattle.stretch.proofs.Kept.{part_kept}
@@ -46,7 +44,7 @@ use Rattle.stretch.proofs.Kept.{part_kept}
 
 answered_number : (n : ℕ) (s : Summary) → answer_number (answered n s) ≡ n
 answered_number zero s = refl
-answered_number (suc n) s = refl
+answered_number (suc n) s = number_told (suc n)
 
 pub stretch_refused_exactly : (xs ix : List ℕ) (first last : ℕ) → RefusedExactly (answer_number (stretch_of xs ix first last)) (stretch_faults xs ix first last)
 unfolding stretch_of
@@ -60,66 +58,7 @@ length_ok_exactly m = (
   λ o. by_cases o (λ z. rw z) (λ z. let f = z.1 in or_r (eqb m 0) (eqb (m % 80) 40) (eq-eqb (m % 80) 40 (omega arith))),
 )
 
--- ---- a fault has a number
-
-abbrev Given : Found → Type 0
-Given Nothing = Unit {0}
-Given (Faulty n) = 0 < n
-Given Outside = Unit {0}
-Given (Sum s) = Unit {0}
-
-given_onward : (n : ℕ) (e : Event) (r : Events) → ((m : ℕ) → r ≡ faulty m → 0 < m) → (m : ℕ) → onward n e r ≡ faulty m → 0 < m
-given_onward zero e (events es) f m h = let z : ◌≡◌ {A = ℕ} 0 1 = cc in absurd (omega arith)
-given_onward zero e (faulty i) f m h = f m h
-given_onward (suc n) e r f m h = let z : suc n ≡ m = cc in omega arith
-
-given_part : (mtu count : ℕ) (xs : List ℕ) (p : Place) (m : ℕ) → read_part mtu count xs p ≡ faulty m → 0 < m
-unfolding read_part
-given_part mtu zero xs p m h = let z : ◌≡◌ {A = ℕ} 0 1 = cc in absurd (omega arith)
-given_part mtu (suc count) xs p m h = given_onward (first_of (place_faults mtu xs p)) _ _ (given_part mtu count xs (next_place xs p)) m h
-
-given_read : (q : Source) (x skipped count : ℕ) → Given (part_found q x skipped count)
-unfolding part_found
-given_read q x skipped count = by (read_part q.limits.mtu count q.bytes (place_in q.index (80 * x))) refl
-  where
-    by : (r : Events) → read_part q.limits.mtu count q.bytes (place_in q.index (80 * x)) ≡ r → Given (part_summed q.limits skipped r)
-    by (faulty n) e = given_part q.limits.mtu count q.bytes (place_in q.index (80 * x)) n e
-    by (events es) e = tt
-
-given_joined : (x : Answer) → Given (joined_found x)
-given_joined (Answer.Summed s) = tt
-given_joined (Answer.Refused n) = tt
-
-given_and : (f g : Found) → Given f → Given g → Given (and_found f g)
-unfolding and_found
-given_and Nothing g u v = v
-given_and (Faulty n) g u v = u
-given_and Outside Nothing u v = tt
-given_and Outside (Faulty n) u v = v
-given_and Outside Outside u v = tt
-given_and Outside (Sum b) u v = tt
-given_and (Sum a) Nothing u v = tt
-given_and (Sum a) (Faulty n) u v = v
-given_and (Sum a) Outside u v = tt
-given_and (Sum a) (Sum b) u v = given_joined (join_of a b)
-
-given_entry : (q : Source) (entry covers : ℕ) → Given (entry_found q entry covers)
-unfolding entry_found
-given_entry q entry covers =
-    let s = summary_in q.limits q.index (entry_length * entry) in
-    of_each Given (entry_ok covers s) (Sum s) Outside (λ t. tt) (λ t. tt)
-
-given_found : (q : Source) (first last k x : ℕ) → Given (found_in q first last k x)
-given_found q first last =
-    by_halves q.events first last (λ k x. Given (found_in q first last k x))
-    (λ k x a. rw (found_apart q first last k x a) tt)
-    (λ k x a w. rw (found_whole q first last k x a w) (given_entry q _ _))
-    (λ x a w. rw (found_part q first last x a w) (given_read q x _ _))
-    (λ k x a w f g. rw (found_both q first last k x a w) (given_and (found_in q first last k x) (found_in q first last k (x + size_of k)) f g))
-
-given_stretched : (q : Source) (first last : ℕ) → Given (stretched q first last)
-unfolding stretched
-given_stretched q first last = of_each Given (leb last first) Nothing (found_in q first last top_level 0) (λ t. tt) (λ t. given_found q first last top_level 0)
+-- ---- the stretch
 
 -- an empty stretch comes to nothing, and any other to what is found
 pub stretched_none : (q : Source) (first last : ℕ) → last ≤ first → stretched q first last ≡ Nothing
@@ -140,22 +79,21 @@ pub record Fits (l : Limits) (xs ix : List ℕ) : Type 0 where
   pub few : events_counted xs ix ≤ most_events
 
 -- the rows behind that of 9, one after the other
-last_rows : (l : Limits) (past : Bool) (f : Found) → Given f →
-    answered (first_of (later 1 3 past ∷ later 2 (part_fault f) (has_fault f) ∷ later 3 3 (is_outside f) ∷ [])) (summary_found l f) ≡ cond past (Answer.Refused 3) (found_answer l f)
+last_rows : (l : Limits) (past : Bool) (f : Found) → Numbered f →
+    answered (first_of (later 1 3 past ∷ later 2 (part_fault f) (has_fault f) ∷ later 3 3 (is_outside f) ∷ [])) (summary_found l f) ≡ cond past (Err (refusal_of 3)) (found_answer l f)
 unfolding first_of first
 last_rows l true Nothing u = refl
-last_rows l true (Faulty n) u = refl
+last_rows l true (Faulty r) u = refl
 last_rows l true Outside u = refl
 last_rows l true (Sum s) u = refl
 last_rows l false Nothing u = refl
-last_rows l false (Faulty zero) u = absurd (omega arith)
-last_rows l false (Faulty (suc n)) u = refl
+last_rows l false (Faulty r) u = answered_named (empty_of l) r u
 last_rows l false Outside u = refl
 last_rows l false (Sum s) u = refl
 
-summed : (l : Limits) (f : Found) → has_fault f ≡ false → is_outside f ≡ false → found_answer l f ≡ Answer.Summed (summary_found l f)
+summed : (l : Limits) (f : Found) → has_fault f ≡ false → is_outside f ≡ false → found_answer l f ≡ Ok (summary_found l f)
 summed l Nothing a b = refl
-summed l (Faulty n) a b = absurd (mathlib.Core.Bool.true≢false a)
+summed l (Faulty r) a b = absurd (mathlib.Core.Bool.true≢false a)
 summed l Outside a b = absurd (mathlib.Core.Bool.true≢false b)
 summed l (Sum s) a b = refl
 
@@ -174,10 +112,10 @@ module _ (l : Limits) (xs ix : List ℕ) (w : Fits l xs ix) (first last : ℕ) w
       let h = w.header in
       let ok = rw h.settings at h.in_range_lem in
       rw (le-ltb (length xs) 14 h.long, eq-eqb (le 2 xs 0) 14 h.length_field, eq-eqb (le 2 xs 2) 16 h.kind_field, passes (limits_ok (limits_at xs)) ok, w.long, w.own, le-ltb most_events (events_counted xs ix) w.few, found_there, ← h.settings)
-      (last_rows l (ltb last first || ltb (events_counted xs ix) last) (stretched here first last) (given_stretched here first last))
+      (last_rows l (ltb last first || ltb (events_counted xs ix) last) (stretched here first last) (numbered_stretched here first last))
 
   -- 3: it runs past the end or backwards
-  pub row_past : (last < first) ⊎ (events_counted xs ix < last) → stretch_of xs ix first last ≡ Answer.Refused 3
+  pub row_past : (last < first) ⊎ (events_counted xs ix < last) → stretch_of xs ix first last ≡ Err (refusal_of 3)
   unfolding asked_of
   row_past o =
       let past : (ltb last first || ltb (events_counted xs ix) last) ≡ true =
@@ -191,7 +129,7 @@ module _ (l : Limits) (xs ix : List ℕ) (w : Fits l xs ix) (first last : ℕ) w
     row_found = row_asked ∙ rw (le-ltb last first ahead, le-ltb (events_counted xs ix) last within)
 
     -- an empty one is the empty summary, whatever the index holds,
-    pub row_empty : first ≡ last → stretch_of xs ix first last ≡ Answer.Summed (empty_of l)
+    pub row_empty : first ≡ last → stretch_of xs ix first last ≡ Ok (empty_of l)
     row_empty e = row_found ∙ ap (found_answer l) (stretched_none here first last (omega arith))
 
     -- and of any other what is found
@@ -199,12 +137,12 @@ module _ (l : Limits) (xs ix : List ℕ) (w : Fits l xs ix) (first last : ℕ) w
     found_some some = row_found ∙ ap (found_answer l) (stretched_some here first last some)
 
     -- then the earliest fault of the partly read blocks
-    pub row_part : first < last → (n : ℕ) → first_fault (source_of l xs ix (events_counted xs ix)) first last (read_of (events_counted xs ix) first last) ≡ Faulty n → stretch_of xs ix first last ≡ Answer.Refused n
-    row_part some n e = found_some some ∙ ap (found_answer l) ((fault_first here first last top_level 0 n).1 e)
+    pub row_part : first < last → (r : Refusal) → first_fault (source_of l xs ix (events_counted xs ix)) first last (read_of (events_counted xs ix) first last) ≡ Faulty r → stretch_of xs ix first last ≡ Err r
+    row_part some r e = found_some some ∙ ap (found_answer l) ((fault_first here first last top_level 0 r).1 e)
 
     -- then 3 for an entry used that is out of range
     pub row_entry : Bytes xs → first_fault (source_of l xs ix (events_counted xs ix)) first last (read_of (events_counted xs ix) first last) ≡ Nothing → SomeOut (source_of l xs ix (events_counted xs ix)) (used_of (events_counted xs ix) first last) →
-        stretch_of xs ix first last ≡ Answer.Refused 3
+        stretch_of xs ix first last ≡ Err (refusal_of 3)
     row_entry b none out =
         let n = events_counted xs ix in
         let t = size_top in
@@ -216,7 +154,7 @@ module _ (l : Limits) (xs ix : List ℕ) (w : Fits l xs ix) (first last : ℕ) w
         found_some some ∙ ap (found_answer l) ((R.refused_exactly here (part_kept here w.header.in_range_lem b) first last some within m top_level 0 meets).1 (none, out))
 
     -- and where no row applies the summary
-    pub row_answer : has_fault (found_of xs ix first last) ≡ false → is_outside (found_of xs ix first last) ≡ false → stretch_of xs ix first last ≡ Answer.Summed (summary_found l (found_of xs ix first last))
+    pub row_answer : has_fault (found_of xs ix first last) ≡ false → is_outside (found_of xs ix first last) ≡ false → stretch_of xs ix first last ≡ Ok (summary_found l (found_of xs ix first last))
     row_answer f o = row_found ∙ ap (found_answer l) (sym found_there) ∙ summed l (found_of xs ix first last) f o
 
 -- ---- what is not asked for

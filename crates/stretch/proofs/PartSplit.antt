@@ -7,16 +7,18 @@ use native.Mathlib.Omega.{arith}
 use native.Mathlib.Nat.{zero-add, suc-add}
 use lib.ListN.{length}
 use lib.Seq.{drop_at}
+use Rattle.std.specs.Prelude.{Ok, Err}
+use Rattle.decide.specs.declared.refusal.Refusal.{Refusal}
+use Rattle.decide.specs.Number.{refusal_of}
 use Rattle.decide.specs.Refusal.{first_of}
 use Rattle.shaper.specs.declared.Limits.{Limits}
 use Rattle.shaper.specs.declared.Event.{Event}
-use Rattle.summary.specs.declared.Summary.{Summary}
 use Rattle.summary.specs.Summary.{summary_of}
 use Rattle.record.specs.Read.{Events, faulty, events, onward}
 use Rattle.excerpt.specs.declared.Place.{Place}
 use Rattle.excerpt.specs.declared.Excerpt.{Excerpt}
 use Rattle.excerpt.specs.Place.{event_from, next_place, place_after, place_faults}
-use Rattle.excerpt.specs.Excerpt.{read_part, excerpted, excerpt_of}
+use Rattle.excerpt.specs.Excerpt.{Answered, read_part, excerpted, excerpt_of}
 use Rattle.excerpt.proofs.Parts.{after_none, after_next}
 use Rattle.index.specs.Entry.{place_in}
 use Rattle.stretch.specs.declared.Found.TheVariants.{Faulty, Sum}
@@ -88,23 +90,23 @@ module _ (mtu : ℕ) (xs : List ℕ) where
 -- ---- an excerpt
 
 module _ (l : Limits) (count : ℕ) (xs : List ℕ) (p : Place) where
-  abbrev MeansExcerpt : Excerpt → Type 0
-  MeansExcerpt (Excerpt.Summed s next) = (es : List Event) × (read_part l.mtu count xs p ≡ events es) × (s ≡ summary_of l es) × (next ≡ place_after count xs p)
-  MeansExcerpt (Excerpt.Refused n) = read_part l.mtu count xs p ≡ faulty n
+  abbrev MeansExcerpt : Answered → Type 0
+  MeansExcerpt (Ok x) = (es : List Event) × (read_part l.mtu count xs p ≡ events es) × (x.sum ≡ summary_of l es) × (x.next ≡ place_after count xs p)
+  MeansExcerpt (Err r) = (n : ℕ) × (read_part l.mtu count xs p ≡ faulty n) × (refusal_of n ≡ r)
 
   means_excerpt : MeansExcerpt (excerpt_of l count xs p)
   unfolding excerpt_of
   means_excerpt = by (read_part l.mtu count xs p) refl
     where
       by : (r : Events) → read_part l.mtu count xs p ≡ r → MeansExcerpt (excerpted l (place_after count xs p) (read_part l.mtu count xs p))
-      by (faulty n) e = rw e e
+      by (faulty n) e = rw e (n, e, refl)
       by (events es) e = rw e (es, e, refl, refl)
 
-  pub excerpt_summed : (s : Summary) (next : Place) → excerpt_of l count xs p ≡ Excerpt.Summed s next → MeansExcerpt (Excerpt.Summed s next)
-  excerpt_summed s next e = rw e at means_excerpt
+  pub excerpt_summed : (x : Excerpt) → excerpt_of l count xs p ≡ Ok x → MeansExcerpt (Ok x)
+  excerpt_summed x e = rw e at means_excerpt
 
-  pub excerpt_refused : (n : ℕ) → excerpt_of l count xs p ≡ Excerpt.Refused n → read_part l.mtu count xs p ≡ faulty n
-  excerpt_refused n e = rw e at means_excerpt
+  pub excerpt_refused : (r : Refusal) → excerpt_of l count xs p ≡ Err r → MeansExcerpt (Err r)
+  excerpt_refused r e = rw e at means_excerpt
 
 -- ---- what a part looks at
 
@@ -132,23 +134,25 @@ module _ (q : Source) (x skipped count : ℕ) (few : skipped ≤ count) where
       rw sum at (part_split q.limits.mtu q.bytes skipped (count - skipped) start)
 
   -- a fault of those skipped goes first
-  pub part_skipped_fault : (n : ℕ) → excerpt_of q.limits skipped q.bytes start ≡ Excerpt.Refused n → part_found q x skipped count ≡ Faulty n
+  pub part_skipped_fault : (r : Refusal) → excerpt_of q.limits skipped q.bytes start ≡ Err r → part_found q x skipped count ≡ Faulty r
   unfolding part_found
-  part_skipped_fault n e = rw (in_two, excerpt_refused q.limits skipped q.bytes start n e)
+  part_skipped_fault r e =
+      let b = excerpt_refused q.limits skipped q.bytes start r e in
+      rw (in_two, b.1) (ap Faulty b.2)
 
-  module _ (s : Summary) (next : Place) (e : excerpt_of q.limits skipped q.bytes start ≡ Excerpt.Summed s next) where
+  module _ (s : Excerpt) (e : excerpt_of q.limits skipped q.bytes start ≡ Ok s) where
     -- then one of those behind them
-    pub part_summed_fault : (n : ℕ) → excerpt_of q.limits (count - skipped) q.bytes next ≡ Excerpt.Refused n → part_found q x skipped count ≡ Faulty n
+    pub part_summed_fault : (r : Refusal) → excerpt_of q.limits (count - skipped) q.bytes s.next ≡ Err r → part_found q x skipped count ≡ Faulty r
     unfolding part_found
-    part_summed_fault n f =
-        let a = excerpt_summed q.limits skipped q.bytes start s next e in
-        let b = excerpt_refused q.limits (count - skipped) q.bytes again n (rw a.3 at f) in
-        rw (in_two, a.1, b)
+    part_summed_fault r f =
+        let a = excerpt_summed q.limits skipped q.bytes start s e in
+        let b = excerpt_refused q.limits (count - skipped) q.bytes again r (rw a.3 at f) in
+        rw (in_two, a.1, b.1) (ap Faulty b.2)
 
-    pub part_both : (t : Summary) (past : Place) → excerpt_of q.limits (count - skipped) q.bytes next ≡ Excerpt.Summed t past → part_found q x skipped count ≡ Sum t
+    pub part_both : (t : Excerpt) → excerpt_of q.limits (count - skipped) q.bytes s.next ≡ Ok t → part_found q x skipped count ≡ Sum t.sum
     unfolding part_found
-    part_both t past f =
-        let a = excerpt_summed q.limits skipped q.bytes start s next e in
-        let b = excerpt_summed q.limits (count - skipped) q.bytes again t past (rw a.3 at f) in
+    part_both t f =
+        let a = excerpt_summed q.limits skipped q.bytes start s e in
+        let b = excerpt_summed q.limits (count - skipped) q.bytes again t (rw a.3 at f) in
         let n = part_count q.limits.mtu q.bytes skipped start a.0 a.1 in
         rw (in_two, a.1, b.1, drop_at a.0 b.0 skipped n) (ap Sum (sym b.2))

@@ -13,10 +13,11 @@ use Rattle.decide.specs.Test.{both}
 use Rattle.decide.proofs.Cases.{by_cases, true_or_false}
 use Rattle.shaper.specs.Limits.{most_events}
 use Rattle.summary.specs.declared.Summary.{Summary}
-use Rattle.summary.specs.declared.Answer.{Answer}
+use Rattle.std.specs.Prelude.{Ok, Err}
+use Rattle.decide.specs.declared.refusal.Refusal.{Refusal}
 use Rattle.summary.specs.Summary.{joined, summary_of}
 use Rattle.summary.specs.Range.{in_range}
-use Rattle.summary.specs.Answer.{join_of}
+use Rattle.summary.specs.Answer.{Answer, join_of}
 use Rattle.summary.proofs.Promises.{joins_few, joined_range, joined_events, joined_limits}
 use Rattle.record.specs.Read.{Events, faulty, events}
 use Rattle.excerpt.specs.Excerpt.{read_part}
@@ -35,8 +36,8 @@ use Rattle.stretch.proofs.Rows.{by_halves, found_apart, found_whole, found_part,
 
 -- a join is no fault
 joined_or : (x : Answer) (h : Found) → fault_or (joined_found x) h ≡ h
-joined_or (Answer.Summed s) h = refl
-joined_or (Answer.Refused n) h = refl
+joined_or (Ok s) h = refl
+joined_or (Err r) h = refl
 
 -- of two parts the first one's fault goes before the second's, and a fault before an entry out of range
 and_or : (f g h : Found) → fault_or (and_found f g) h ≡ fault_or f (fault_or g h)
@@ -58,7 +59,7 @@ or_or (Faulty n) g h = refl
 or_or Outside g h = refl
 or_or (Sum a) g h = refl
 
-fault_said : (f : Found) (m : ℕ) → (fault_or f Nothing ≡ Faulty m) ↔ (f ≡ Faulty m)
+fault_said : (f : Found) (m : Refusal) → (fault_or f Nothing ≡ Faulty m) ↔ (f ≡ Faulty m)
 fault_said Nothing m = (λ e. e, λ e. e)
 fault_said (Faulty n) m = (λ e. e, λ e. e)
 fault_said Outside m = (λ e. cc, λ e. cc)
@@ -105,7 +106,7 @@ module _ (q : Source) (first last : ℕ) where
       ∙ sym (faults_append (read_in q.events first last k x) (read_in q.events first last k (x + size_of k)))))
 
   -- A stretch is refused with a fault exactly where a partly read block has one, with the first one's: also before an entry that is out of range.
-  pub fault_first : (k x m : ℕ) → (found_in q first last k x ≡ Faulty m) ↔ (first_fault q first last (read_in q.events first last k x) ≡ Faulty m)
+  pub fault_first : (k x : ℕ) (m : Refusal) → (found_in q first last k x ≡ Faulty m) ↔ (first_fault q first last (read_in q.events first last k x) ≡ Faulty m)
   fault_first k x m = (
     λ e. sym (first_fault_lem k x) ∙ (fault_said (found_in q first last k x) m).1 e,
     λ e. (fault_said (found_in q first last k x) m).0 (first_fault_lem k x ∙ e),
@@ -138,7 +139,7 @@ part_told q x skipped count f = of_events (read_part q.limits.mtu count q.bytes 
     of_events (events es) g = (g (summary_of q.limits (drop skipped es)) refl, λ d m. absurd m)
 
 -- two summaries of few enough events are joined
-kept_joined : (q : Source) (m n : ℕ) (a b : Summary) → m + n ≤ most_events → Kept q m a → Kept q n b → (join_of a b ≡ Answer.Summed (joined a b)) × Kept q (m + n) (joined a b)
+kept_joined : (q : Source) (m n : ℕ) (a b : Summary) → m + n ≤ most_events → Kept q m a → Kept q n b → (join_of a b ≡ Ok (joined a b)) × Kept q (m + n) (joined a b)
 kept_joined q m n a b h u v =
     let e : a.limits ≡ b.limits = u.0 ∙ sym v.0 in
     let f : a.events + b.events ≤ most_events = omega arith in (

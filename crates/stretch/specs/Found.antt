@@ -1,14 +1,14 @@
 -- What a stretch of a record's events comes to, put together from its index by repeated halving and at most two partly read blocks (document 02, A1).
 -- Assumes nothing.
-use Rattle.std.specs.Prelude.{ℕ, zero, suc, ◌+◌, ◌-◌, ◌*◌, ◌≤◌, ◌<◌, min, max, Bool, ◌&&◌, ◌||◌, cond, List, leb, eqb, ◌≡◌, length, drop}
+use Rattle.std.specs.Prelude.{ℕ, zero, suc, ◌+◌, ◌-◌, ◌*◌, ◌≤◌, ◌<◌, min, max, Bool, ◌&&◌, ◌||◌, cond, List, leb, eqb, ◌≡◌, length, drop, Ok, Err}
+use Rattle.decide.specs.Number.{refusal_of}
 use Rattle.decide.specs.Test.{Holds}
 use Rattle.shaper.specs.declared.Limits.{Limits}
 use Rattle.shaper.specs.Limits.{limits_ok, most_events}
 use Rattle.summary.specs.declared.Summary.{Summary}
-use Rattle.summary.specs.declared.Answer.{Answer}
 use Rattle.summary.specs.Summary.{summary_of}
 use Rattle.summary.specs.Range.{in_range}
-use Rattle.summary.specs.Answer.{join_of}
+use Rattle.summary.specs.Answer.{Answer, join_of}
 use Rattle.record.specs.Read.{Events, faulty, events}
 use Rattle.excerpt.specs.Excerpt.{read_part}
 use Rattle.index.specs.Tree.{entry_length, index_length, size_of, from_of, to_of, stands_at}
@@ -39,18 +39,18 @@ pub record Asking (l : Limits) (ix : List ℕ) (n first last : ℕ) : Type 0 whe
 -- One part and then the next. Nothing is neutral; a fault of a partly read block goes before an entry that is out of range, and the first block's before the second's; else they
 -- are joined.
 abbrev pub joined_found : Answer → Found
-joined_found (Answer.Summed s) = Sum s
-joined_found (Answer.Refused n) = Outside
+joined_found (Ok s) = Sum s
+joined_found (Err r) = Outside
 
 unfoldable pub and_found : Found → Found → Found
 and_found Nothing g = g
-and_found (Faulty n) g = Faulty n
+and_found (Faulty r) g = Faulty r
 and_found Outside Nothing = Outside
-and_found Outside (Faulty n) = Faulty n
+and_found Outside (Faulty r) = Faulty r
 and_found Outside Outside = Outside
 and_found Outside (Sum b) = Outside
 and_found (Sum a) Nothing = Sum a
-and_found (Sum a) (Faulty n) = Faulty n
+and_found (Sum a) (Faulty r) = Faulty r
 and_found (Sum a) Outside = Outside
 and_found (Sum a) (Sum b) = joined_found (join_of a b)
 
@@ -64,7 +64,7 @@ entry_found q entry covers =
 
 -- A partly read block, from its first event to the last of the stretch in it: the earliest fault there, or the summary of those from the stretch's first event on.
 abbrev pub part_summed : Limits → ℕ → Events → Found
-part_summed l skipped (faulty n) = Faulty n
+part_summed l skipped (faulty n) = Faulty (refusal_of n)
 part_summed l skipped (events es) = Sum (summary_of l (drop skipped es))
 
 unfoldable pub part_found : Source → ℕ → ℕ → ℕ → Found

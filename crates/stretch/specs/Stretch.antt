@@ -1,25 +1,23 @@
 -- A question (document 02, A1): the summary of just the stretch from event `first` to just before event `last`, from a record and its index, or the number of a refusal.
 -- Assumes nothing.
-use Rattle.std.specs.Prelude.{ℕ, ◌+◌, ◌*◌, ◌/◌, ◌%◌, Bool, true, false, not, ◌&&◌, ◌||◌, cond, List, [], ◌∷◌, ◌++◌, leb, ltb, eqb, length}
+use Rattle.std.specs.Prelude.{ℕ, ◌+◌, ◌*◌, ◌/◌, ◌%◌, Bool, true, false, not, ◌&&◌, ◌||◌, cond, List, [], ◌∷◌, ◌++◌, leb, ltb, eqb, length, Option, Some, None, Result, Ok, Err}
+use Rattle.decide.specs.declared.refusal.Refusal.{Refusal}
+use Rattle.decide.specs.Number.{number_in, refusal_of}
 use Rattle.decide.specs.Refusal.{Fault, fault, rank_of, first_of}
 use Rattle.wire.specs.Wire.{le}
 use Rattle.shaper.specs.declared.Limits.{Limits}
 use Rattle.shaper.specs.Limits.{most_events}
 use Rattle.summary.specs.declared.Summary.{Summary}
-use Rattle.summary.specs.declared.Answer.{Answer}
 use Rattle.summary.specs.Summary.{empty_of}
-use Rattle.summary.specs.Answer.{answered}
+use Rattle.summary.specs.Answer.{Answer, answered}
 use Rattle.record.specs.Read.{limits_at, header_faults}
-use Rattle.record.specs.declared.Header.{Header}
-use Rattle.record.specs.declared.Header.TheVariants.{Settings, Unreadable}
+use Rattle.record.specs.Step.{Header}
 use Rattle.excerpt.specs.declared.Place.{Place}
 use Rattle.excerpt.specs.Last.{events_left}
 use Rattle.index.specs.Tree.{block_events, top_level}
 use Rattle.index.specs.Entry.{place_in}
 use Rattle.stretch.specs.declared.Found.{Found}
 use Rattle.stretch.specs.declared.Found.TheVariants.{Nothing, Faulty, Outside, Sum}
-use Rattle.stretch.specs.declared.Counted.{Counted}
-use Rattle.stretch.specs.declared.Counted.TheVariants.{Events, TooMany, Other}
 use Rattle.stretch.specs.Found.{Source, source_of, found_in}
 
 -- ---- the index
@@ -64,25 +62,25 @@ found_of xs ix first last = stretched (source_of (limits_at xs) xs ix (events_co
 -- the fault of a partly read block, or 0; whether an entry is out of range; and the summary, of an empty stretch the empty one
 abbrev pub part_fault : Found → ℕ
 part_fault Nothing = 0
-part_fault (Faulty n) = n
+part_fault (Faulty r) = number_in r
 part_fault Outside = 0
 part_fault (Sum s) = 0
 
 abbrev pub has_fault : Found → Bool
 has_fault Nothing = false
-has_fault (Faulty n) = true
+has_fault (Faulty r) = true
 has_fault Outside = false
 has_fault (Sum s) = false
 
 abbrev pub is_outside : Found → Bool
 is_outside Nothing = false
-is_outside (Faulty n) = false
+is_outside (Faulty r) = false
 is_outside Outside = true
 is_outside (Sum s) = false
 
 abbrev pub summary_found : Limits → Found → Summary
 summary_found l Nothing = empty_of l
-summary_found l (Faulty n) = empty_of l
+summary_found l (Faulty r) = empty_of l
 summary_found l Outside = empty_of l
 summary_found l (Sum s) = s
 
@@ -110,19 +108,23 @@ stretch_of xs ix first last = answered (first_of (stretch_faults xs ix first las
 
 -- whether a header is one, its settings in range or not
 unfoldable pub is_header : Header → Bool
-is_header (Settings l) = true
-is_header (Unreadable n) = not (eqb n 2)
+is_header (Ok l) = true
+is_header (Err Refusal.NotWhole) = false
+is_header (Err r) = true
 
 -- the answer where 2, 1 and 9 do not apply
 abbrev pub found_answer : Limits → Found → Answer
-found_answer l Nothing = Answer.Summed (empty_of l)
-found_answer l (Faulty n) = Answer.Refused n
-found_answer l Outside = Answer.Refused 3
-found_answer l (Sum s) = Answer.Summed s
+found_answer l Nothing = Ok (empty_of l)
+found_answer l (Faulty r) = Err r
+found_answer l Outside = Err (refusal_of 3)
+found_answer l (Sum s) = Ok s
 
 unfoldable pub asked_of : Limits → List ℕ → List ℕ → ℕ → ℕ → ℕ → Answer
-asked_of l xs ix n first last = cond (ltb last first || ltb n last) (Answer.Refused 3) (found_answer l (stretched (source_of l xs ix n) first last))
+asked_of l xs ix n first last = cond (ltb last first || ltb n last) (Err (refusal_of 3)) (found_answer l (stretched (source_of l xs ix n) first last))
 
--- the events of a record by an index of a right length; more than there may be, or an index of another record
+-- the events of a record by an index of a right length: none where they are more than there may be, and 2 for an index of another record
+abbrev pub Counted : Type 0
+Counted = Result (Option ℕ) Refusal
+
 unfoldable pub counted_of : List ℕ → List ℕ → Counted
-counted_of xs ix = cond (belongs xs ix) (cond (ltb most_events (events_counted xs ix)) TooMany (Events (events_counted xs ix))) Other
+counted_of xs ix = cond (belongs xs ix) (cond (ltb most_events (events_counted xs ix)) (Ok None) (Ok (Some (events_counted xs ix)))) (Err (refusal_of 2))

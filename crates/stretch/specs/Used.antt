@@ -53,7 +53,7 @@ node_ok q d =
 
 -- The earliest fault of the partly read blocks, along a list of them: the first one's, if it has one, or that of those behind it; nothing where none has one.
 abbrev pub fault_or : Found → Found → Found
-fault_or (Faulty n) g = Faulty n
+fault_or (Faulty r) g = Faulty r
 fault_or Nothing g = g
 fault_or Outside g = g
 fault_or (Sum s) g = g

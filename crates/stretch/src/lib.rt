@@ -12,66 +12,51 @@ ghost use Rattle.stretch.specs.Found.{Asking};
 
 mod parts;
 
+use decide::Refusal;
 use parts::{and_found, block_found, covers, entry_found, parted_at};
-use record::Header;
 use shaper::Limits;
-use summary::{Answer, Summary};
+use summary::Summary;
 
 // How many events a block has.
 const BLOCK: u64 = index::BLOCK;
 
-// The refusal of a stretch that runs past the end or backwards, and of an entry that is out of range.
-const OUTSIDE: u64 = 3;
-
-// What a part of a stretch comes to: nothing where it is empty; the number of the earliest fault of a partly read block; an entry that is out of range; or its summary.
+// What a part of a stretch comes to: nothing where it is empty; the earliest fault of a partly read block; an entry that is out of range, which counts behind each fault; or its
+// summary.
 #[derive(Clone, Copy)]
 pub enum Found {
     Nothing,
-    Faulty(u64),
+    Faulty(Refusal),
     Outside,
     Sum(Summary),
 }
 
-// How many events a record has, told from its index: so many, more than there may be, or the index is another record's.
-#[derive(Clone, Copy)]
-pub enum Counted {
-    Events(u64),
-    TooMany,
-    Other,
-}
-
 // The summary of the events from `first` to just before `last`, counted from 0, of a record with its index. 2, 1 and 9; then 3 for a stretch that runs past the end or backwards; then
 // the earliest fault of the partly read blocks; then 3 for an entry used that is out of range.
-pub fn stretch(s: &[u8], index: &[u8], first: u64, last: u64) -> Answer
+pub fn stretch(s: &[u8], index: &[u8], first: u64, last: u64) -> Result<Summary, Refusal>
     ensures { result ≡ stretch_of s.now index.now first last }
 {
     let header = record::header_of(s);
     if !is_header(header) {
-        return Answer::Refused(2);
+        return Err(Refusal::NotWhole);
     }
     if !is_length(index.len()) {
-        return Answer::Refused(2);
+        return Err(Refusal::NotWhole);
     }
-    match count_events(s, index) {
-        Counted::Events(n) => match header {
-            Header::Settings(limits) => asked(s, index, limits, n, first, last),
-            Header::Unreadable(fault) => Answer::Refused(fault),
-        },
-        Counted::TooMany => match header {
-            Header::Settings(_) => Answer::Refused(9),
-            Header::Unreadable(fault) => Answer::Refused(fault),
-        },
-        Counted::Other => Answer::Refused(2),
+    let counted = count_events(s, index)?;
+    let limits = header?;
+    match counted {
+        Some(n) => asked(s, index, limits, n, first, last),
+        None => Err(Refusal::TooMany),
     }
 }
 
 // Whether it is a header, its settings in range or not.
-fn is_header(header: Header) -> bool
+fn is_header(header: Result<Limits, Refusal>) -> bool
     ensures { result ≡ is_header header }
 {
     match header {
-        Header::Settings(_) => true,
-        Header::Unreadable(fault) => fault != 2,
+        Ok(_) => true,
+        Err(fault) => !matches!(fault, Refusal::NotWhole),
     }
 }
 
@@ -88,57 +73,65 @@ fn is_length(bytes: usize) -> bool
 // How many blocks stand before the last, at most so many that no sum wraps: from there on a record has too many events, and no place is too far.
 const MOST_BEFORE: u64 = 4294967296;
 
-// How many events a record has, told by its index, which has a right length: 256 for each block but the last, and those that its place leads through to the record's end.
-fn count_events(s: &[u8], index: &[u8]) -> Counted
+// How many events a record has, told by its index, which has a right length: 256 for each block but the last, and those that its place leads through to the record's end. None where
+// they are more than there may be; 2 where the index is another record's.
+fn count_events(s: &[u8], index: &[u8]) -> Result<Option<u64>, Refusal>
     requires { (14 ≤ length s.now) × (length_ok (length index.now) ≡ true) }
     ensures { result ≡ counted_of s.now index.now }
 {
     if index.len() == 0 {
         if HEADER < s.len() {
-            return Counted::Other;
+            return Err(Refusal::NotWhole);
         }
-        return Counted::Events(0);
+        return Ok(Some(0));
     }
     let place = index::entries::place_at(index, 80 * (index.len() / 80));
     let before = BLOCK * decide::lesser(index.len() as u64 / 80, MOST_BEFORE);
     let left = excerpt::events_left(s, wire::get16(s, 4) as u32, place, BLOCK);
     if left == 0 {
-        return Counted::Other;
+        return Err(Refusal::NotWhole);
     }
     if BLOCK < left {
-        return Counted::Other;
+        return Err(Refusal::NotWhole);
     }
     if 14 + 6 * before < place.at as u64 + 6 * place.gone {
-        return Counted::Other;
+        return Err(Refusal::NotWhole);
     }
     if (Summary::MAX_EVENTS as u64) < before + left {
-        return Counted::TooMany;
+        return Ok(None);
     }
-    Counted::Events(before + left)
+    Ok(Some(before + left))
 }
 
 // How many bytes a record's header has.
 const HEADER: usize = 14;
 
 // The answer of a record of n events, whose settings and whose index's length are right.
-fn asked(s: &[u8], index: &[u8], limits: Limits, n: u64, first: u64, last: u64) -> Answer
+fn asked(
+    s: &[u8],
+    index: &[u8],
+    limits: Limits,
+    n: u64,
+    first: u64,
+    last: u64,
+) -> Result<Summary, Refusal>
     requires { Holds (limits_ok limits) × (length index.now ≡ index_length n) × (n ≤ most_events) }
     ensures { result ≡ asked_of limits s.now index.now n first last }
 {
     if last < first {
-        return Answer::Refused(OUTSIDE);
+        return Err(Refusal::OutOfRange);
     }
     if n < last {
-        return Answer::Refused(OUTSIDE);
+        return Err(Refusal::OutOfRange);
     }
     if first == last {
         return Summary::empty(limits);
     }
     match halved(s, index, limits, n, first, last) {
         Found::Nothing => Summary::empty(limits),
-        Found::Faulty(fault) => Answer::Refused(fault),
-        Found::Outside => Answer::Refused(OUTSIDE),
-        Found::Sum(sum) => Answer::Summed(sum),
+        Found::Faulty(fault) => Err(fault),
+        Found::Outside => Err(Refusal::OutOfRange),
+        Found::Sum(sum) => Ok(sum),
     }
 }
 

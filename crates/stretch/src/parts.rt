@@ -7,9 +7,8 @@ ghost use Rattle.stretch.specs.Found.{source_of, found_in, and_found, entry_foun
 ghost use Rattle.stretch.specs.Parting.{Parted, covers_of};
 
 use crate::Found;
-use excerpt::Excerpt;
 use shaper::Limits;
-use summary::{Answer, Summary};
+use summary::Summary;
 
 // How many events a block has.
 const BLOCK: u64 = index::BLOCK;
@@ -34,7 +33,7 @@ pub(crate) fn parted_at(x: u64, y: u64) -> Middle
         b = b / 2;
         h = h * 2;
     }
-    Middle { m: b * h, h: h }
+    Middle { m: b * h, h }
 }
 
 // Whether a stretch of n events is just what the entry covers that parts before block m, h blocks on each side.
@@ -87,11 +86,11 @@ fn part_found(s: &[u8], index: &[u8], limits: Limits, x: u64, skipped: u64, coun
 {
     let place = index::entries::place_at(index, 80 * x as usize);
     match excerpt::part(s, limits, place, skipped) {
-        Excerpt::Summed { sum: _, next } => match excerpt::part(s, limits, next, count - skipped) {
-            Excerpt::Summed { sum, next: _ } => Found::Sum(sum),
-            Excerpt::Refused(fault) => Found::Faulty(fault),
+        Ok(before) => match excerpt::part(s, limits, before.next, count - skipped) {
+            Ok(part) => Found::Sum(part.sum),
+            Err(fault) => Found::Faulty(fault),
         },
-        Excerpt::Refused(fault) => Found::Faulty(fault),
+        Err(fault) => Found::Faulty(fault),
     }
 }
 
@@ -128,8 +127,8 @@ fn sum_and(sum: Summary, right: Found) -> Found
         Found::Faulty(fault) => Found::Faulty(fault),
         Found::Outside => Found::Outside,
         Found::Sum(next) => match sum.join(next) {
-            Answer::Summed(both) => Found::Sum(both),
-            Answer::Refused(_) => Found::Outside,
+            Ok(both) => Found::Sum(both),
+            Err(_) => Found::Outside,
         },
     }
 }

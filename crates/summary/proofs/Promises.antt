@@ -1,5 +1,6 @@
 -- What joins and settling promise, for every summary in range and for every list of events. Each follows from the same law by natural numbers.
 -- Assumes nothing.
+use Rattle.std.specs.Prelude.{Ok, Err, Some, None}
 use Prim.Native.Nat.{ℕ, ◌+◌, ◌-◌, ◌≤◌, ◌<◌}
 use mathlib.Core.Bool.{true}
 use mathlib.Core.List.{List, [], ◌∷◌, ◌++◌}
@@ -20,8 +21,6 @@ use Rattle.plain.specs.Range.{Same}
 use Rattle.plain.proofs.Laws.{in_range_sound, sound_in_range, joined_sound, joined_assoc, empty_left, empty_right}
 use Rattle.plain.proofs.Meaning.{single_limits, plain_limits, events_length, plain_accrued, plain_sent, alike, plain_sound, plain_append, permitted_need, need_permitted, end_credit_lem, sent_bound}
 use Rattle.summary.specs.declared.Summary.{Summary}
-use Rattle.summary.specs.declared.Answer.{Answer}
-use Rattle.summary.specs.declared.Outcome.{Outcome}
 use Rattle.summary.specs.Summary.{empty_of, ticks_of, single_of, joined, summary_of}
 use Rattle.summary.specs.Range.{in_range}
 use Rattle.summary.specs.Answer.{join_of, and_then, settle_of}
@@ -30,6 +29,7 @@ use Rattle.summary.specs.Plain.{plain_from, signed_from}
 use Rattle.summary.proofs.Integers.{pos_sub, pos_less, sub_eq}
 use Rattle.summary.proofs.Paper.{signed_eq, plain_signed, joined_signed, same_signed, in_range_plain, in_range_signed, joined_plain, settled_plain}
 use Rattle.summary.proofs.Rows.{joins, join_9, settles, settles_not}
+use Rattle.decide.specs.Number.{refusal_of}
 
 -- settings that are equal pass the test of equality
 same_settings : (a b : Summary) → a.limits ≡ b.limits → test (same_limits a.limits b.limits) ≡ true
@@ -51,10 +51,10 @@ module _ (a b : Summary) (ha : in_range a ≡ true) (hb : in_range b ≡ true) (
       ∙ in_range_signed (plain_joined (plain_from a) (plain_from b))
       (sound_in_range _ (joined_sound (plain_from a) (plain_from b) (in_range_sound _ (in_range_plain a ha)) (in_range_sound _ (in_range_plain b hb)) same_plain) n)
 
-  pub joins_few : a.events + b.events ≤ most_events → join_of a b ≡ Answer.Summed (joined a b)
+  pub joins_few : a.events + b.events ≤ most_events → join_of a b ≡ Ok (joined a b)
   joins_few n = joins a b ha hb (same_settings a b e) n
 
-  refuses : most_events < a.events + b.events → join_of a b ≡ Answer.Refused 9
+  refuses : most_events < a.events + b.events → join_of a b ≡ Err (refusal_of 9)
   refuses n = join_9 a b ha hb (same_settings a b e) n
 
   pub joined_events : (joined a b).events ≡ a.events + b.events
@@ -69,7 +69,7 @@ module _ (a b : Summary) (ha : in_range a ≡ true) (hb : in_range b ≡ true) (
   plain_joined_lem = ap plain_from by_plain ∙ plain_signed (plain_joined (plain_from a) (plain_from b))
 
 -- Range kept by join: a join of two in range is in range, or 9.
-pub join_range : (a b : Summary) → in_range a ≡ true → in_range b ≡ true → a.limits ≡ b.limits → ((join_of a b ≡ Answer.Summed (joined a b)) × (in_range (joined a b) ≡ true)) ⊎ ((join_of a b ≡ Answer.Refused 9) × (most_events < a.events + b.events))
+pub join_range : (a b : Summary) → in_range a ≡ true → in_range b ≡ true → a.limits ≡ b.limits → ((join_of a b ≡ Ok (joined a b)) × (in_range (joined a b) ≡ true)) ⊎ ((join_of a b ≡ Err (refusal_of 9)) × (most_events < a.events + b.events))
 join_range a b ha hb e =
     ⊎_elim
     (λ n. inl (joins_few a b ha hb e n, joined_range a b ha hb e n))
@@ -94,7 +94,7 @@ module _ (a b c : Summary) (ha : in_range a ≡ true) (hb : in_range b ≡ true)
       ∙ ap (λ p. signed_from (plain_joined (plain_from a) p)) (sym (plain_joined_lem b c hb hc f))
       ∙ sym (by_plain a (joined b c) ha (joined_range b c hb hc f (omega arith)) same_joined_right)
 
-  many_left : most_events < a.events + (b.events + c.events) → and_then (join_of a b) (λ z. join_of z c) ≡ Answer.Refused 9
+  many_left : most_events < a.events + (b.events + c.events) → and_then (join_of a b) (λ z. join_of z c) ≡ Err (refusal_of 9)
   many_left n =
       ⊎_elim
       (λ m. let k = joined_events a b ha hb e in
@@ -102,7 +102,7 @@ module _ (a b c : Summary) (ha : in_range a ≡ true) (hb : in_range b ≡ true)
       (λ m. rw (refuses a b ha hb e m))
       (le_or (a.events + b.events) most_events)
 
-  many_right : most_events < a.events + (b.events + c.events) → and_then (join_of b c) (λ z. join_of a z) ≡ Answer.Refused 9
+  many_right : most_events < a.events + (b.events + c.events) → and_then (join_of b c) (λ z. join_of a z) ≡ Err (refusal_of 9)
   many_right n =
       ⊎_elim
       (λ m. let k = joined_events b c hb hc f in
@@ -116,7 +116,7 @@ module _ (a b c : Summary) (ha : in_range a ≡ true) (hb : in_range b ≡ true)
       let m = joined_events b c hb hc f in
       rw (joins_few a b ha hb e (omega arith), joins_few b c hb hc f (omega arith))
       (joins_few (joined a b) c (joined_range a b ha hb e (omega arith)) hc same_joined_left (omega arith)
-      ∙ ap Answer.Summed (joined_associative n)
+      ∙ ap Ok (joined_associative n)
       ∙ sym (joins_few a (joined b c) ha (joined_range b c hb hc f (omega arith)) same_joined_right (omega arith)))
 
   -- Join is associative for in-range summaries of the same settings; both groupings give 9 or neither does.
@@ -140,21 +140,21 @@ module _ (a : Summary) (h : in_range a ≡ true) where
   few : a.events ≤ most_events
   few = (in_range_plain a h).1.0
 
-  pub join_empty_left : join_of (empty_of a.limits) a ≡ Answer.Summed a
+  pub join_empty_left : join_of (empty_of a.limits) a ≡ Ok a
   join_empty_left =
       let n = few in
       joins_few (empty_of a.limits) a empty_range h refl (omega arith)
-      ∙ ap Answer.Summed
+      ∙ ap Ok
       (by_plain (empty_of a.limits) a empty_range h refl
       ∙ ap (λ p. signed_from (plain_joined p (plain_from a))) plain_empty_lem
       ∙ ap signed_from (empty_left (plain_from a) (in_range_sound _ (in_range_plain a h)))
       ∙ same_signed a h)
 
-  pub join_empty_right : join_of a (empty_of a.limits) ≡ Answer.Summed a
+  pub join_empty_right : join_of a (empty_of a.limits) ≡ Ok a
   join_empty_right =
       let n = few in
       joins_few a (empty_of a.limits) h empty_range refl (omega arith)
-      ∙ ap Answer.Summed
+      ∙ ap Ok
       (by_plain a (empty_of a.limits) h empty_range refl
       ∙ ap (λ p. signed_from (plain_joined (plain_from a) p)) plain_empty_lem
       ∙ ap signed_from (empty_right (plain_from a) (in_range_sound _ (in_range_plain a h)))
@@ -202,7 +202,7 @@ module _ (l : Limits) (ok : Holds (limits_ok l)) where
       ap in_range (summary_signed es) ∙ in_range_signed (plain_of l es) (sound_in_range (plain_of l es) (plain_sound l ok es v) (omega arith))
 
   -- the summaries of two runs of events, joined, are the summary of both
-  pub join_append : (xs ys : List Event) → AllValid l xs → AllValid l ys → length xs + length ys ≤ most_events → join_of (summary_of l xs) (summary_of l ys) ≡ Answer.Summed (summary_of l (xs ++ ys))
+  pub join_append : (xs ys : List Event) → AllValid l xs → AllValid l ys → length xs + length ys ≤ most_events → join_of (summary_of l xs) (summary_of l ys) ≡ Ok (summary_of l (xs ++ ys))
   join_append xs ys v w n =
       let p = summary_events xs in
       let q = summary_events ys in
@@ -210,7 +210,7 @@ module _ (l : Limits) (ok : Holds (limits_ok l)) where
       let hx = summary_range xs v (omega arith) in
       let hy = summary_range ys w (omega arith) in
       joins_few (summary_of l xs) (summary_of l ys) hx hy e (omega arith)
-      ∙ ap Answer.Summed
+      ∙ ap Ok
       (by_plain (summary_of l xs) (summary_of l ys) hx hy e
       ∙ ap (λ s. signed_from (plain_joined (plain_from s) (plain_from (summary_of l ys)))) (summary_signed xs)
       ∙ ap (λ s. signed_from (plain_joined (plain_from (signed_from (plain_of l xs))) (plain_from s))) (summary_signed ys)
@@ -230,32 +230,32 @@ module _ (l : Limits) (ok : Holds (limits_ok l)) where
     need_here = ap (λ (s : Summary). s.need) (summary_signed es)
 
     -- every send was permitted, event by event: settling says so, and the credit at the end
-    pub settle_permitted : Permitted l c es → settle_of (summary_of l es) c ≡ Outcome.Permitted (end_credit l c es)
+    pub settle_permitted : Permitted l c es → settle_of (summary_of l es) c ≡ Ok (Some (end_credit l c es))
     settle_permitted p =
         let need = permitted_need l ok es v c most p in
         let k = need_here in
         settles (summary_of l es) c range_here most_here (omega arith)
-        ∙ ap Outcome.Permitted
+        ∙ ap (λ x. Ok (Some x))
         (settled_plain (summary_of l es) c range_here most_here (omega arith)
         ∙ ap (λ q. plain_end_of q c) (ap plain_from (summary_signed es) ∙ plain_signed (plain_of l es))
         ∙ sym (end_credit_lem l ok es v c most need))
 
     -- some send was not: settling says that
-    pub settle_not_permitted : (Permitted l c es → ⊥) → settle_of (summary_of l es) c ≡ Outcome.NotPermitted
+    pub settle_not_permitted : (Permitted l c es → ⊥) → settle_of (summary_of l es) c ≡ Ok None
     settle_not_permitted p =
         let k = need_here in
         let need : c < (plain_of l es).need = ⊎_elim (λ h. absurd (p (need_permitted l ok es v c most h))) (λ h. h) (le_or (plain_of l es).need c) in
         settles_not (summary_of l es) c range_here most_here (omega arith)
 
     -- and the other way round: what settling says is what was
-    pub permitted_settle : (x : ℕ) → settle_of (summary_of l es) c ≡ Outcome.Permitted x → Permitted l c es × (end_credit l c es ≡ x)
+    pub permitted_settle : (x : ℕ) → settle_of (summary_of l es) c ≡ Ok (Some x) → Permitted l c es × (end_credit l c es ≡ x)
     permitted_settle x s =
         ⊎_elim
         (λ h. let q = need_permitted l ok es v c most h in let t = settle_permitted q in (q, (cc)))
         (λ h. let t = settle_not_permitted (λ q. let k = permitted_need l ok es v c most q in omega arith) in let z : ◌≡◌ {A = ℕ} 0 1 = cc in absurd (omega arith))
         (le_or (plain_of l es).need c)
 
-    pub not_permitted_settle : settle_of (summary_of l es) c ≡ Outcome.NotPermitted → Permitted l c es → ⊥
+    pub not_permitted_settle : settle_of (summary_of l es) c ≡ Ok None → Permitted l c es → ⊥
     not_permitted_settle s p = let t = settle_permitted p in let z : ◌≡◌ {A = ℕ} 0 1 = cc in omega arith
 
     -- the bytes sent are then fewer than the bytes accrued plus hiLimit

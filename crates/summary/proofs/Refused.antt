@@ -5,7 +5,8 @@ use mathlib.Core.Bool.{Bool, true, false}
 use mathlib.Core.Path.{◌≡◌, refl}
 use lib.Dec.{leb}
 use Rattle.decide.specs.Refusal.{first_of, RefusedExactly}
-use Rattle.decide.proofs.Refusal.{refused_exactly}
+use Rattle.decide.proofs.Number.{number_told}
+use Rattle.decide.proofs.Given.{refused_exactly}
 use Rattle.shaper.specs.declared.Limits.{Limits}
 use Rattle.shaper.specs.declared.Event.{Event}
 use Rattle.summary.specs.declared.Summary.{Summary}
@@ -13,7 +14,7 @@ use Rattle.summary.specs.Answer.{answered, empty_faults, empty_answer, single_fa
 
 answered_number : (n : ℕ) (s : Summary) → answer_number (answered n s) ≡ n
 answered_number zero s = refl
-answered_number (suc n) s = refl
+answered_number (suc n) s = number_told (suc n)
 
 settled_number : (n : ℕ) (s : Summary) (c : ℕ) → outcome_number (settled n s c) ≡ n
 settled_number zero s c = go (leb s.need c) refl
@@ -21,7 +22,7 @@ settled_number zero s c = go (leb s.need c) refl
     go : (b : Bool) → leb s.need c ≡ b → outcome_number (settled zero s c) ≡ zero
     go true e = rw e
     go false e = rw e
-settled_number (suc n) s c = refl
+settled_number (suc n) s c = number_told (suc n)
 
 pub empty_refused_exactly : (l : Limits) → RefusedExactly (answer_number (empty_answer l)) (empty_faults l)
 unfolding empty_answer

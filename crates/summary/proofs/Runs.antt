@@ -1,5 +1,6 @@
 -- A run of equal ticks: its summary in closed form is that of its events, and joining it is joining its events one by one.
 -- Assumes nothing.
+use Rattle.std.specs.Prelude.{Ok, Err}
 use Prim.Native.Nat.{ℕ, zero, suc, ◌+◌, ◌*◌, ◌≤◌, ◌<◌}
 use mathlib.Core.Bool.{true, false}
 use mathlib.Core.List.{[], ◌∷◌}
@@ -9,6 +10,8 @@ use native.Mathlib.Numerals.{add-one}
 use native.Mathlib.Omega.{arith}
 use borrow.Author.Tests.{ne_eqb}
 use lib.ListN.{replicate, length-replicate, replicate-append-replicate}
+use Rattle.decide.specs.Number.{refusal_of}
+use Rattle.decide.specs.declared.refusal.Refusal.{Refusal}
 use Rattle.decide.specs.Test.{Holds, test, facts, passes, decided, split, ◌≡?◌}
 use Rattle.decide.proofs.Cases.{by_cases, true_or_false, le_or}
 use Rattle.shaper.specs.declared.Limits.{Limits}
@@ -22,7 +25,6 @@ use Rattle.plain.specs.Plain.{plain_run}
 use Rattle.plain.specs.Range.{count_ok}
 use Rattle.plain.proofs.Runs.{run_valid, plain_alone, run_plain}
 use Rattle.summary.specs.declared.Summary.{Summary}
-use Rattle.summary.specs.declared.Answer.{Answer}
 use Rattle.summary.specs.Summary.{ticks_of, single_of, run_summary, joined, summary_of}
 use Rattle.summary.specs.Range.{in_range}
 use Rattle.summary.specs.Answer.{single_answer, counted_answer, run_answer, join_of, and_then, join_next, one_more_of, counted_of}
@@ -56,7 +58,7 @@ module _ (l : Limits) (ok : Holds (limits_ok l)) where
   settings : test (limits_ok l) ≡ true
   settings = passes (limits_ok l) ok
 
-  pub counted_summed : (e : Event) → Valid l e → (c : ℕ) → Holds (count_ok e c) → c ≤ most_events → counted_answer l e c ≡ Answer.Summed (summary_of l (replicate c e))
+  pub counted_summed : (e : Event) → Valid l e → (c : ℕ) → Holds (count_ok e c) → c ≤ most_events → counted_answer l e c ≡ Ok (summary_of l (replicate c e))
   counted_summed e v c h n = counted_made l e c settings ((valid_exactly l e).1 v) (passes (count_ok e c) h) n
 
   -- a run of ticks that leave credit under one ceiling
@@ -65,7 +67,7 @@ module _ (l : Limits) (ok : Holds (limits_ok l)) where
       by_cases (split (c ≡? 0))
       (λ z. run_3 l ceiling x c z ∙ sym (counted_3_count l e c settings (sym (decided (count_ok e c) false (λ h. omega arith)))))
       (λ z. by_cases (le_or c most_events)
-      (λ n. run_made l ceiling x c z n ∙ ap Answer.Summed (sym (run_closed e v c (some z) ∙ s)) ∙ sym (counted_summed e v c (some z) n))
+      (λ n. run_made l ceiling x c z n ∙ ap Ok (sym (run_closed e v c (some z) ∙ s)) ∙ sym (counted_summed e v c (some z) n))
       (λ n. run_9 l ceiling x c n ∙ sym (counted_9 l e c settings ((valid_exactly l e).1 v) (passes (count_ok e c) (some z)) n)))
     where
       some : (c ≡ 0 → ⊥) → Holds (count_ok e c)
@@ -75,17 +77,17 @@ module _ (l : Limits) (ok : Holds (limits_ok l)) where
   pub counted_alone : (e : Event) (c : ℕ) → c ≡ 1 → single_answer l e ≡ counted_answer l e c
   counted_alone e c h =
       by_cases (true_or_false (test (event_ok l e)))
-      (λ v. single_made l e settings v ∙ ap Answer.Summed (sym (single_closed e ((valid_exactly l e).0 v)))
+      (λ v. single_made l e settings v ∙ ap Ok (sym (single_closed e ((valid_exactly l e).0 v)))
       ∙ sym (rw h (counted_summed e ((valid_exactly l e).0 v) 1 (omega arith, inl refl) (omega arith))))
       (λ v. single_3 l e settings v ∙ sym (counted_3_number l e c settings v))
 
 -- ---- one by one
 
 -- a refusal of the first stays
-first_refused : (s : Summary) (e : Event) (n : ℕ) → one_more_of s e ≡ Answer.Refused n → (c : ℕ) → counted_of (suc c) s e ≡ Answer.Refused n
+first_refused : (s : Summary) (e : Event) (r : Refusal) → one_more_of s e ≡ Err r → (c : ℕ) → counted_of (suc c) s e ≡ Err r
 unfolding counted_of
-first_refused s e n r zero = r
-first_refused s e n r (suc c) = rw (first_refused s e n r c)
+first_refused s e r h zero = h
+first_refused s e r h (suc c) = rw (first_refused s e r h c)
 
 module _ (s : Summary) (ok : Holds (limits_ok s.limits)) (e : Event) (v : Valid s.limits e) where
   -- c events of those settings
@@ -96,7 +98,7 @@ module _ (s : Summary) (ok : Holds (limits_ok s.limits)) (e : Event) (v : Valid 
   joins_one : (t : Summary) → t.limits ≡ s.limits → one_more_of t e ≡ join_of t (times 1)
   joins_one t m =
       ap (λ k. join_next t (single_answer k e)) m
-      ∙ ap (join_next t) (single_made s.limits e (settings s.limits ok) ((valid_exactly s.limits e).1 v) ∙ ap Answer.Summed (sym (single_closed s.limits ok e v)))
+      ∙ ap (join_next t) (single_made s.limits e (settings s.limits ok) ((valid_exactly s.limits e).1 v) ∙ ap Ok (sym (single_closed s.limits ok e v)))
 
   times_range : (c : ℕ) → c ≤ most_events → in_range (times c) ≡ true
   times_range c n = let k = length-replicate c e in summary_range s.limits ok (replicate c e) (run_valid s.limits e v c) (omega arith)
@@ -125,12 +127,12 @@ counted_one_by_one s e zero h n = absurd (omega arith)
 counted_one_by_one s e (suc c) h n =
     by_cases (true_or_false (test (limits_ok s.limits)))
     (λ o. by_cases (true_or_false (test (event_ok s.limits e))) (λ v. valid (facts (limits_ok s.limits) o) ((valid_exactly s.limits e).0 v))
-    (λ v. rw (counted_3_number s.limits e (suc c) o v) (sym (first_refused s e 3 (rw (single_3 s.limits e o v)) c))))
-    (λ o. rw (counted_1 s.limits e (suc c) o) (sym (first_refused s e 1 (rw (single_1 s.limits e o)) c)))
+    (λ v. rw (counted_3_number s.limits e (suc c) o v) (sym (first_refused s e (refusal_of 3) (rw (single_3 s.limits e o v)) c))))
+    (λ o. rw (counted_1 s.limits e (suc c) o) (sym (first_refused s e (refusal_of 1) (rw (single_1 s.limits e o)) c)))
   where
     valid : Holds (limits_ok s.limits) → Valid s.limits e → join_next s (counted_answer s.limits e (suc c)) ≡ counted_of (suc c) s e
     valid ok v =
         ap (join_next s) (counted_summed s.limits ok e v (suc c) h n)
         ∙ by_cases (true_or_false (in_range s))
         (λ r. sym (joins_all s ok e v r c n))
-        (λ r. join_3_first s _ r ∙ sym (first_refused s e 3 (joins_one s ok e v s refl ∙ join_3_first s _ r) c))
+        (λ r. join_3_first s _ r ∙ sym (first_refused s e (refusal_of 3) (joins_one s ok e v s refl ∙ join_3_first s _ r) c))

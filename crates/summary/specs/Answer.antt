@@ -1,23 +1,31 @@
 -- What the calls of a summary answer: refusals by the rows that apply, else what the paper says.
 -- Assumes nothing.
-use Rattle.std.specs.Prelude.{ℕ, zero, suc, ◌+◌, ◌*◌, cond, not, List, [], ◌∷◌, leb, ltb, eqb, nat_abs, replicate}
+use Rattle.std.specs.Prelude.{ℕ, zero, suc, ◌+◌, ◌*◌, cond, not, List, [], ◌∷◌, leb, ltb, eqb, nat_abs, replicate, Option, Some, None, Result, Ok, Err}
 use Rattle.decide.specs.Test.{test}
+use Rattle.decide.specs.Number.{number_in, refusal_of}
 use Rattle.decide.specs.Refusal.{Fault, fault, first_of}
+use Rattle.decide.specs.declared.refusal.Refusal.{Refusal}
 use Rattle.shaper.specs.declared.Limits.{Limits}
 use Rattle.shaper.specs.declared.Event.{Event}
 use Rattle.shaper.specs.Limits.{limits_ok, same_limits, most_events}
 use Rattle.shaper.specs.Credit.{event_ok}
 use Rattle.plain.specs.Range.{count_ok}
 use Rattle.summary.specs.declared.Summary.{Summary}
-use Rattle.summary.specs.declared.Answer.{Answer}
-use Rattle.summary.specs.declared.Outcome.{Outcome}
 use Rattle.summary.specs.Summary.{empty_of, ticks_of, single_of, joined, summary_of, end_ℤ}
 use Rattle.summary.specs.Range.{in_range}
 
--- a refusal's number alone, or the summary where there is none
+-- a summary, or why there is none
+abbrev pub Answer : Type 0
+Answer = Result Summary Refusal
+
+-- What a summary says of a starting credit: permitted throughout with the credit at the end, or not permitted (None); or a refusal.
+abbrev pub Outcome : Type 0
+Outcome = Result (Option ℕ) Refusal
+
+-- the refusal of a number alone, or the summary where there is none
 abbrev pub answered : ℕ → Summary → Answer
-answered zero s = Answer.Summed s
-answered (suc n) s = Answer.Refused (suc n)
+answered zero s = Ok s
+answered (suc n) s = Err (refusal_of (suc n))
 
 -- ---- of no event and of one
 
@@ -74,8 +82,8 @@ join_of a b = answered (first_of (join_faults a b)) (joined a b)
 
 -- a further join, where the first was not refused
 abbrev pub and_then : Answer → (Summary → Answer) → Answer
-and_then (Answer.Summed s) f = f s
-and_then (Answer.Refused n) f = Answer.Refused n
+and_then (Ok s) f = f s
+and_then (Err r) f = Err r
 
 -- a summary joined with the one behind it, where that was not refused
 abbrev pub join_next : Summary → Answer → Answer
@@ -87,7 +95,7 @@ one_more_of s e = join_next s (single_answer s.limits e)
 
 -- and so for as many equal events, one by one
 unfoldable pub counted_of : ℕ → Summary → Event → Answer
-counted_of zero s e = Answer.Summed s
+counted_of zero s e = Ok s
 counted_of (suc count) s e = and_then (counted_of count s e) (λ t. one_more_of t e)
 
 -- ---- settle
@@ -98,18 +106,18 @@ settle_faults s c = fault 3 (not (in_range s)) ∷ fault 3 (ltb s.limits.hi c) �
 
 -- From credit c: permitted throughout exactly if c ≥ need, ending at min(c + gain, ceiling).
 abbrev pub settled : ℕ → Summary → ℕ → Outcome
-settled zero s c = cond (leb s.need c) (Outcome.Permitted (nat_abs (end_ℤ s c))) Outcome.NotPermitted
-settled (suc n) s c = Outcome.Refused (suc n)
+settled zero s c = cond (leb s.need c) (Ok (Some (nat_abs (end_ℤ s c)))) (Ok None)
+settled (suc n) s c = Err (refusal_of (suc n))
 
 unfoldable pub settle_of : Summary → ℕ → Outcome
 settle_of s c = settled (first_of (settle_faults s c)) s c
 
 -- document 01's number of each answer
 abbrev pub answer_number : Answer → ℕ
-answer_number (Answer.Summed s) = 0
-answer_number (Answer.Refused n) = n
+answer_number (Ok s) = 0
+answer_number (Err r) = number_in r
 
 abbrev pub outcome_number : Outcome → ℕ
-outcome_number (Outcome.Permitted c) = 0
-outcome_number Outcome.NotPermitted = 0
-outcome_number (Outcome.Refused n) = n
+outcome_number (Ok (Some c)) = 0
+outcome_number (Ok None) = 0
+outcome_number (Err r) = number_in r

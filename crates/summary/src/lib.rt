@@ -10,11 +10,12 @@ ghost use Rattle.summary.specs.Range.{in_range};
 ghost use Rattle.summary.specs.Answer.{empty_answer, single_answer, counted_answer, run_answer, join_of, join_next, settle_of};
 ghost use Rattle.summary.specs.Plain.{plain_from, signed_from};
 
+use decide::Refusal;
 use plain::Plain;
 use shaper::{Event, Limits};
 
 // The settings, the events counted, the bytes accrued and sent, the ceiling, and the least credit that permits throughout.
-#[derive(Clone, Copy)]
+#[derive(Clone, Copy, PartialEq, Eq)]
 pub struct Summary {
     pub limits: Limits,
     pub events: u32,
@@ -22,21 +23,6 @@ pub struct Summary {
     pub sent: u64,
     pub ceiling: i64,
     pub need: u64,
-}
-
-// A summary, or the number of a refusal.
-#[derive(Clone, Copy)]
-pub enum Answer {
-    Summed(Summary),
-    Refused(u64),
-}
-
-// What a summary says of a starting credit: permitted throughout with the credit at the end, or not; or the number of a refusal.
-#[derive(Clone, Copy)]
-pub enum Outcome {
-    Permitted(u64),
-    NotPermitted,
-    Refused(u64),
 }
 
 impl Summary {
@@ -50,76 +36,76 @@ impl Summary {
     pub const MAX_SIZE: u32 = Limits::MAX_MTU;
 
     // The summary of no event. 1 where a setting is outside its range.
-    pub fn empty(limits: Limits) -> Answer
+    pub fn empty(limits: Limits) -> Result<Summary, Refusal>
         ensures { result ≡ empty_answer limits }
     {
         if !limits.in_range() {
-            return Answer::Refused(1);
+            return Err(Refusal::Setting);
         }
         let ceiling = limits.hi as i64;
-        Answer::Summed(Summary {
-            limits: limits,
+        Ok(Summary {
+            limits,
             events: 0,
             accrued: 0,
             sent: 0,
-            ceiling: ceiling,
+            ceiling,
             need: 0,
         })
     }
 
     // The summary of one tick while traffic waits. 1 where a setting is outside its range.
-    pub fn waiting_tick(limits: Limits, amount: u16) -> Answer
+    pub fn waiting_tick(limits: Limits, amount: u16) -> Result<Summary, Refusal>
         ensures { result ≡ single_answer limits (Event.Waiting amount) }
     {
         if !limits.in_range() {
-            return Answer::Refused(1);
+            return Err(Refusal::Setting);
         }
-        Answer::Summed(ticks(limits, limits.hi, 1, amount as u64))
+        Ok(ticks(limits, limits.hi, 1, amount as u64))
     }
 
     // The summary of one tick while no traffic waits. 1 where a setting is outside its range.
-    pub fn idle_tick(limits: Limits, amount: u16) -> Answer
+    pub fn idle_tick(limits: Limits, amount: u16) -> Result<Summary, Refusal>
         ensures { result ≡ single_answer limits (Event.Idle amount) }
     {
         if !limits.in_range() {
-            return Answer::Refused(1);
+            return Err(Refusal::Setting);
         }
-        Answer::Summed(ticks(limits, limits.lo, 1, amount as u64))
+        Ok(ticks(limits, limits.lo, 1, amount as u64))
     }
 
     // The summary of one send. 1 where a setting is outside its range, 3 where the size is.
-    pub fn send(limits: Limits, size: u32) -> Answer
+    pub fn send(limits: Limits, size: u32) -> Result<Summary, Refusal>
         ensures { result ≡ single_answer limits (Event.Send size) }
     {
         if !limits.in_range() {
-            return Answer::Refused(1);
+            return Err(Refusal::Setting);
         }
         if size < Summary::MIN_SIZE {
-            return Answer::Refused(3);
+            return Err(Refusal::OutOfRange);
         }
         if limits.mtu < size {
-            return Answer::Refused(3);
+            return Err(Refusal::OutOfRange);
         }
         let sent = size as u64;
         let ceiling = plain::ceiling_of(limits.hi, sent);
         let need = limits.lo as u64 + 1;
-        Answer::Summed(Summary {
-            limits: limits,
+        Ok(Summary {
+            limits,
             events: 1,
             accrued: 0,
-            sent: sent,
-            ceiling: ceiling,
-            need: need,
+            sent,
+            ceiling,
+            need,
         })
     }
 
     // The summary of what an item of a record stands for: so many equal events, kind 1 ticks while traffic waits, 2 ticks while none does, any other a send.
     // 1 where a setting is outside its range; 3 where the size is, or the count: ticks come in runs, a send comes alone; 9 where they are over 1,000,000.
-    pub fn counted(limits: Limits, kind: u16, number: u16, count: u32) -> Answer
+    pub fn counted(limits: Limits, kind: u16, number: u16, count: u32) -> Result<Summary, Refusal>
         ensures { result ≡ counted_answer limits (event_of kind number) count }
     {
         if !limits.in_range() {
-            return Answer::Refused(1);
+            return Err(Refusal::Setting);
         }
         if kind == 1 {
             return run(limits, limits.hi, number, count);
@@ -128,7 +114,7 @@ impl Summary {
             return run(limits, limits.lo, number, count);
         }
         if count != 1 {
-            return Answer::Refused(3);
+            return Err(Refusal::OutOfRange);
         }
         Summary::send(limits, number as u32)
     }
@@ -144,51 +130,48 @@ impl Summary {
     }
 
     // The summary of this one's events and then the other's. 3, 10 and 9 in that order.
-    pub fn join(self, other: Summary) -> Answer
+    pub fn join(self, other: Summary) -> Result<Summary, Refusal>
         ensures { result ≡ join_of self other }
     {
         if !self.in_range() {
-            return Answer::Refused(3);
+            return Err(Refusal::OutOfRange);
         }
         if !other.in_range() {
-            return Answer::Refused(3);
+            return Err(Refusal::OutOfRange);
         }
         let ours = self.limits;
         let theirs = other.limits;
         if !ours.same(theirs) {
-            return Answer::Refused(10);
+            return Err(Refusal::Unlike);
         }
         if Summary::MAX_EVENTS < self.events + other.events {
-            return Answer::Refused(9);
+            return Err(Refusal::TooMany);
         }
         let whole = self.plain().joined(other.plain());
-        Answer::Summed(signed(whole))
+        Ok(signed(whole))
     }
 
     // The same with the answer behind it: a refusal there stands.
-    pub fn join_next(self, next: Answer) -> Answer
+    pub fn join_next(self, next: Result<Summary, Refusal>) -> Result<Summary, Refusal>
         ensures { result ≡ join_next self next }
     {
-        match next {
-            Answer::Summed(other) => self.join(other),
-            Answer::Refused(number) => Answer::Refused(number),
-        }
+        self.join(next?)
     }
 
     // What the events do from a starting credit. 3 where the summary or the credit is outside its range.
-    pub fn settle(self, start: u64) -> Outcome
+    pub fn settle(self, start: u64) -> Result<Option<u64>, Refusal>
         ensures { result ≡ settle_of self start }
     {
         if !self.in_range() {
-            return Outcome::Refused(3);
+            return Err(Refusal::OutOfRange);
         }
         if (self.limits.hi as u64) < start {
-            return Outcome::Refused(3);
+            return Err(Refusal::OutOfRange);
         }
         if start < self.need {
-            return Outcome::NotPermitted;
+            return Ok(None);
         }
-        Outcome::Permitted(self.plain().end(start))
+        Ok(Some(self.plain().end(start)))
     }
 
     // Whether the ceiling is above hiLimit.
@@ -206,28 +189,28 @@ impl Summary {
         let events = self.events as u64;
         let depth = plain::depth_of(limits.hi, self.ceiling);
         Plain {
-            limits: limits,
-            events: events,
+            limits,
+            events,
             accrued: self.accrued,
             sent: self.sent,
-            depth: depth,
+            depth,
             need: self.need,
         }
     }
 }
 
 // The summary of so many equal ticks that leave credit under this ceiling: each brings the amount. 3 where there is none, 9 where they are over 1,000,000.
-fn run(limits: Limits, ceiling: u32, amount: u16, count: u32) -> Answer
+fn run(limits: Limits, ceiling: u32, amount: u16, count: u32) -> Result<Summary, Refusal>
     ensures { result ≡ run_answer limits ceiling amount count }
 {
     if count == 0 {
-        return Answer::Refused(3);
+        return Err(Refusal::OutOfRange);
     }
     if Summary::MAX_EVENTS < count {
-        return Answer::Refused(9);
+        return Err(Refusal::TooMany);
     }
     let bytes = count as u64 * amount as u64;
-    Answer::Summed(ticks(limits, ceiling, count, bytes))
+    Ok(ticks(limits, ceiling, count, bytes))
 }
 
 // The summary of so many ticks that leave credit under this ceiling and brought so many bytes in all.
@@ -236,11 +219,11 @@ fn ticks(limits: Limits, ceiling: u32, count: u32, bytes: u64) -> Summary
 {
     let ceiling = ceiling as i64;
     Summary {
-        limits: limits,
+        limits,
         events: count,
         accrued: bytes,
         sent: 0,
-        ceiling: ceiling,
+        ceiling,
         need: 0,
     }
 }
@@ -254,11 +237,11 @@ pub fn signed(p: Plain) -> Summary
     let events = p.events as u32;
     let ceiling = plain::ceiling_of(limits.hi, p.depth);
     Summary {
-        limits: limits,
-        events: events,
+        limits,
+        events,
         accrued: p.accrued,
         sent: p.sent,
-        ceiling: ceiling,
+        ceiling,
         need: p.need,
     }
 }

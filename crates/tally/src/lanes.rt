@@ -39,9 +39,9 @@ impl Part {
         let top = choose(decide::below(self.top, cut), cut, self.top);
         Self {
             total: self.total + v,
-            level: level,
-            top: top,
-            low: low,
+            level,
+            top,
+            low,
             good: self.good & good,
         }
     }
@@ -60,20 +60,18 @@ impl Tally {
         let mut peak = self.peak - rise as u64;
         let mut low = self.low;
         let mut late: u64 = 0;
-        let mut i: usize = 0;
-        while i < 8 {
+        for i in 0..8 {
             let there = base + parts.lows[i] as u64;
-            low = decide::lesser(there, low);
+            low = there.min(low);
             late += (there <= peak) as u64;
-            peak = decide::larger(peak, base + parts.tops[i] as u64);
+            peak = peak.max(base + parts.tops[i] as u64);
             base = base + parts.levels[i] as u64 - begin;
-            i += 1;
         }
         let level = base + begin;
-        let gained = decide::less(parts.total as u64 + level, self.level) / 2;
+        let gained = (parts.total as u64 + level).saturating_sub(self.level) / 2;
         Self {
             accrued: self.accrued + gained,
-            level: level,
+            level,
             peak: peak + rise as u64,
             low: bar(1, late, low),
         }

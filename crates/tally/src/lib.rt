@@ -64,7 +64,7 @@ pub fn start(lo: u32) -> Tally
         accrued: 0,
         level: BASE,
         peak: BASE,
-        low: low,
+        low,
     }
 }
 
@@ -75,17 +75,13 @@ pub fn step(t: Tally, rise: u64, k: u64, v: u64) -> Tally
 {
     let accrued = pick(k, t.accrued, t.accrued + v);
     let level = pick(k, t.level - v, t.level + v);
-    let peak = decide::larger(t.peak, level + fall(k, rise));
-    let low = pick(
-        k,
-        decide::lesser(bar(rise, t.peak - t.level, t.level), t.low),
-        t.low,
-    );
+    let peak = t.peak.max(level + fall(k, rise));
+    let low = pick(k, bar(rise, t.peak - t.level, t.level).min(t.low), t.low);
     Tally {
-        accrued: accrued,
-        level: level,
-        peak: peak,
-        low: low,
+        accrued,
+        level,
+        peak,
+        low,
     }
 }
 
@@ -99,18 +95,19 @@ pub fn finish(limits: Limits, n: u64, t: Tally) -> Plain
     let accrued = t.accrued;
     let sent = t.accrued + BASE - t.level;
     let depth = t.peak - t.level;
-    let need = decide::lesser(decide::less(BASE + lo + 1, t.low), hi + 1);
+    let need = (BASE + lo + 1).saturating_sub(t.low).min(hi + 1);
     Plain {
-        limits: limits,
+        limits,
         events: n,
-        accrued: accrued,
-        sent: sent,
-        depth: depth,
-        need: need,
+        accrued,
+        sent,
+        depth,
+        need,
     }
 }
 
 // The first number for a send, the second for a tick.
+#[tactic(auto, unfolding(crate::specs::Tally::pick_of))]
 fn pick(k: u64, send: u64, tick: u64) -> u64
     ensures { result ≡ pick_of k send tick }
 {
@@ -118,6 +115,7 @@ fn pick(k: u64, send: u64, tick: u64) -> u64
 }
 
 // How far below hiLimit the event's own cut lies: an idle tick cuts to loLimit.
+#[tactic(auto, unfolding(crate::specs::Tally::fall_of))]
 fn fall(k: u64, rise: u64) -> u64
     ensures { result ≡ fall_of k rise }
 {
@@ -125,6 +123,7 @@ fn fall(k: u64, rise: u64) -> u64
 }
 
 // The level that a send is held against: 0 where the ceiling, depth below hiLimit, is at most loLimit, so that no credit permits the send.
+#[tactic(auto, unfolding(crate::specs::Tally::bar_of))]
 fn bar(rise: u64, depth: u64, level: u64) -> u64
     ensures { result ≡ bar_of rise depth level }
 {

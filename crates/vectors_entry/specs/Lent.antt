@@ -1,28 +1,27 @@
 -- What a lender hands on: what the entry point answers, and what it leaves behind the reference.
 -- Assumes nothing.
+use Rattle.std.specs.Prelude.{Result}
 use Rattle.shaper.specs.declared.Shaper.{Shaper}
-use Rattle.shaper.specs.declared.Charged as shaper
-use Rattle.station.specs.declared.Done.{Done}
+use Rattle.shaper.specs.declared.Refused.{Refused}
+use Rattle.shaper.specs.Refused.{afterwards}
+use Rattle.shaper.specs.Shaper.{Charged}
+use Rattle.station.specs.Answers.{Done, rest_after}
+use Rattle.station.specs.Offers.{station_left}
 use Rattle.station.specs.declared.Client.{Client}
 use Rattle.station.specs.declared.Selected as station
-use Rattle.entry.specs.Brief.{brief_of, charge_brief_of, marked_of, chosen_of}
-use Rattle.vectors_entry.specs.declared.lent.Ticked.{Ticked}
-use Rattle.vectors_entry.specs.declared.lent.Charged.{Charged}
-use Rattle.vectors_entry.specs.declared.lent.Called.{Called}
-use Rattle.vectors_entry.specs.declared.lent.Offered.{Offered}
-use Rattle.vectors_entry.specs.declared.lent.Selected.{Selected}
+use Rattle.entry.specs.Brief.{Brief, Marked, brief_of, charge_brief_of, marked_of, chosen_of}
+use Rattle.station.specs.declared.Station.{Station}
+use Rattle.entry.specs.declared.Chosen.{Chosen}
+use Rattle.vectors_entry.specs.declared.lent.Lent.{Lent}
 
-abbrev pub shaper_left : Shaper → Ticked
-shaper_left s = record { shaper = s }
+abbrev pub charge_left : Shaper → Charged → Lent Brief Shaper
+charge_left s out = record { said = charge_brief_of out; left = afterwards s out }
 
-abbrev pub charge_left : shaper.Charged → Charged
-charge_left out = record { said = charge_brief_of out; shaper = out.shaper }
+abbrev pub call_left : Station → Done → Lent Brief Station
+call_left s out = record { said = brief_of out; left = afterwards s out }
 
-abbrev pub call_left : Done → Called
-call_left out = record { said = brief_of out; station = out.station }
+abbrev pub offer_left : Station → Result Client Refused → Lent Marked Station
+offer_left s out = record { said = marked_of out; left = station_left s out }
 
-abbrev pub offer_left : Client → Offered
-offer_left out = record { said = marked_of out; station = out.station }
-
-abbrev pub select_left : station.Selected → Selected
-select_left out = record { said = chosen_of out; station = out.station }
+abbrev pub select_left : Station → Result station.Selected Refused → Lent (Result Chosen Refused) Station
+select_left s out = record { said = chosen_of out; left = rest_after s out }

@@ -1,9 +1,13 @@
-// The calls of a script. Each takes the station and what stands behind its name, prints what it answers, and gives the station afterwards. Settings or a
-// room of another length are refused here, by the length that the script gives, as the exported calls refuse them.
+// The calls of a script. Each is given the station and what stands behind its name, prints what it answers, and leaves the station as it is afterwards.
+// Settings or a room of another length are refused here, by the length that the script gives, as the exported calls refuse them.
 use crate::{print, reading};
-use script::{Row, Value};
+use decide::Refusal;
+use script::Words;
+use script::print::wrong;
 use settings::Settings;
-use station::{Done, Reading, Station};
+use shaper::Refused;
+use station::{Reading, Station};
+use std::io;
 
 // How many bytes a fairness frame takes, and a reading.
 const FRAME: u64 = advert::LENGTH as u64;
@@ -13,177 +17,165 @@ const READING: u64 = 4 * Reading::WORDS as u64;
 // The largest number of 32 bits.
 const MOST: u64 = u32::MAX as u64;
 
-// The call of this name. What stands behind `hear` is hex; behind the others stand numbers.
-pub fn call(rt: &impl Print, station: Station, name: &[u8], rest: &[u8]) -> Station {
-    if check::same(name, b"hear") {
-        return hear(rt, station, rest);
+// The call of this name. Behind `hear` stands hex; the others are given the numbers that stand behind them, or none where a word is no number.
+pub fn call(
+    rt: &impl Print,
+    station: &mut Station,
+    name: &[u8],
+    words: Words<'_>,
+) -> io::Result<()> {
+    let row = script::numbers(words).ok();
+    let row = row.as_ref().map(|numbers| numbers.as_slice());
+    match name {
+        b"hear" => hear(rt, station, words),
+        b"start" => start(rt, station, row),
+        b"tick" => tick(rt, station, row),
+        b"client" => client(rt, station, row),
+        b"transit" => transit(rt, station, row),
+        b"control" => control(rt, station, row),
+        b"select" => select(rt, station, row),
+        b"age" => age(rt, station, row),
+        b"tell" => tell(rt, station, row),
+        b"show" => show(rt, station, row),
+        _ => wrong(rt, name, "it is no call"),
     }
-    numbered(rt, station, name, script::numbers(rest))
-}
-
-fn numbered(rt: &impl Print, station: Station, name: &[u8], row: Row) -> Station {
-    if check::same(name, b"start") {
-        return start(rt, station, row);
-    }
-    if check::same(name, b"tick") {
-        return tick(rt, station, row);
-    }
-    if check::same(name, b"client") {
-        return client(rt, station, row);
-    }
-    if check::same(name, b"transit") {
-        return transit(rt, station, row);
-    }
-    if check::same(name, b"control") {
-        return control(rt, station, row);
-    }
-    if check::same(name, b"select") {
-        return select(rt, station, row);
-    }
-    if check::same(name, b"age") {
-        return age(rt, station, row);
-    }
-    if check::same(name, b"tell") {
-        return tell(rt, station, row);
-    }
-    if check::same(name, b"show") {
-        return show(rt, station, row);
-    }
-    wrong(rt, station, name, b"it is no call")
 }
 
 // The words of the settings, each of 4 bytes; another number of words is another length.
-fn start(rt: &impl Print, station: Station, row: Row) -> Station {
-    let words = row.values;
-    if row.wrong | (MOST < row.largest) {
-        return wrong(rt, station, b"start", b"numbers of 32 bits are wanted");
+fn start(rt: &impl Print, station: &mut Station, row: Option<&[u64]>) -> io::Result<()> {
+    match row {
+        Some(words) if words.iter().all(|word| *word <= MOST) => {
+            match <&[u64; Settings::WORDS]>::try_from(words) {
+                Ok(words) => after(rt, station, "start", station.start(settings_of(words))),
+                Err(_) => print::refused(rt, "start", Refusal::NotWhole.into()),
+            }
+        }
+        _ => wrong(rt, b"start", "numbers of 32 bits are wanted"),
     }
-    if row.count != Settings::WORDS {
-        return refused(rt, station, b"start", 2);
-    }
-    after(rt, b"start", station.start(settings_of(words)))
 }
 
 // Whether A, B and C traffic waits.
-fn tick(rt: &impl Print, station: Station, row: Row) -> Station {
-    let n = row.values;
-    if !row.are(3) {
-        return wrong(rt, station, b"tick", b"3 numbers are wanted");
-    }
-    after(rt, b"tick", station.tick(n[0], n[1], n[2]))
+fn tick(rt: &impl Print, station: &mut Station, row: Option<&[u64]>) -> io::Result<()> {
+    let Some([a, b, c]) = row else {
+        return wrong(rt, b"tick", "3 numbers are wanted");
+    };
+    after(rt, station, "tick", station.tick(*a, *b, *c))
 }
 
 // Class, size and hops.
-fn client(rt: &impl Print, station: Station, row: Row) -> Station {
-    let n = row.values;
-    if !row.are(3) {
-        return wrong(rt, station, b"client", b"3 numbers are wanted");
+fn client(rt: &impl Print, station: &mut Station, row: Option<&[u64]>) -> io::Result<()> {
+    let Some([class, size, hops]) = row else {
+        return wrong(rt, b"client", "3 numbers are wanted");
+    };
+    match station.offer_client(*class, *size, *hops) {
+        Ok(taken) => {
+            *station = taken.station;
+            println!(rt; "client eligible {}", taken.mark)
+        }
+        Err(refused) => print::refused(rt, "client", refused),
     }
-    let out = station.offer_client(n[0], n[1], n[2]);
-    print::offered(rt, out.number, out.detail, out.mark);
-    out.station
 }
 
 // Class, size, hops, and whether the frame is eligible.
-fn transit(rt: &impl Print, station: Station, row: Row) -> Station {
-    let n = row.values;
-    if !row.are(4) {
-        return wrong(rt, station, b"transit", b"4 numbers are wanted");
-    }
+fn transit(rt: &impl Print, station: &mut Station, row: Option<&[u64]>) -> io::Result<()> {
+    let Some([class, size, hops, eligible]) = row else {
+        return wrong(rt, b"transit", "4 numbers are wanted");
+    };
     after(
         rt,
-        b"transit",
-        station.offer_transit(n[0], n[1], n[2], n[3]),
+        station,
+        "transit",
+        station.offer_transit(*class, *size, *hops, *eligible),
     )
 }
 
 // The size.
-fn control(rt: &impl Print, station: Station, row: Row) -> Station {
-    let n = row.values;
-    if !row.are(1) {
-        return wrong(rt, station, b"control", b"1 number is wanted");
-    }
-    after(rt, b"control", station.offer_control(n[0]))
+fn control(rt: &impl Print, station: &mut Station, row: Option<&[u64]>) -> io::Result<()> {
+    let Some([size]) = row else {
+        return wrong(rt, b"control", "1 number is wanted");
+    };
+    after(rt, station, "control", station.offer_control(*size))
 }
 
 // Nothing stands behind it.
-fn select(rt: &impl Print, station: Station, row: Row) -> Station {
-    if !row.are(0) {
-        return wrong(rt, station, b"select", b"nothing more is wanted");
+fn select(rt: &impl Print, station: &mut Station, row: Option<&[u64]>) -> io::Result<()> {
+    let Some([]) = row else {
+        return wrong(rt, b"select", "nothing more is wanted");
+    };
+    match station.select() {
+        Ok(next) => {
+            *station = next.station;
+            print::selected(rt, next.origin, next.frame)
+        }
+        Err(refused) => print::refused(rt, "select", refused),
     }
-    let out = station.select();
-    print::selected(rt, out.number, out.origin, out.frame);
-    out.station
 }
 
 // Nothing stands behind it.
-fn age(rt: &impl Print, station: Station, row: Row) -> Station {
-    if !row.are(0) {
-        return wrong(rt, station, b"age", b"nothing more is wanted");
-    }
-    after(rt, b"age", station.age())
+fn age(rt: &impl Print, station: &mut Station, row: Option<&[u64]>) -> io::Result<()> {
+    let Some([]) = row else {
+        return wrong(rt, b"age", "nothing more is wanted");
+    };
+    after(rt, station, "age", station.age())
 }
 
 // The bytes of a fairness frame, any number of them.
-fn hear(rt: &impl Print, station: Station, rest: &[u8]) -> Station {
-    let mut room = [0u8; 4096];
-    let spelt = script::bytes_of(rest, &mut room);
-    let count = spelt.count;
-    if spelt.wrong {
-        return wrong(rt, station, b"hear", b"hex in one word is wanted");
+fn hear(rt: &impl Print, station: &mut Station, words: Words<'_>) -> io::Result<()> {
+    match script::bytes_of(words.0) {
+        Ok(bytes) => after(rt, station, "hear", station.hear(bytes.as_slice())),
+        Err(_) => wrong(rt, b"hear", "hex in one word is wanted"),
     }
-    after(rt, b"hear", station.hear(&room[0..count]))
 }
 
 // Nothing, or the length of the room to write a frame in.
-fn tell(rt: &impl Print, station: Station, row: Row) -> Station {
-    let Value::Is(length) = row.only_or(FRAME) else {
-        return wrong(rt, station, b"tell", b"a length or nothing is wanted");
-    };
-    if length != FRAME {
-        return refused(rt, station, b"tell", 2);
+fn tell(rt: &impl Print, station: &Station, row: Option<&[u64]>) -> io::Result<()> {
+    match row {
+        Some([] | [FRAME]) => match station.tell() {
+            Ok(said) => print::told(rt, said),
+            Err(refused) => print::refused(rt, "tell", refused),
+        },
+        Some([_]) => print::refused(rt, "tell", Refusal::NotWhole.into()),
+        _ => wrong(rt, b"tell", "a length or nothing is wanted"),
     }
-    print::told(rt, station.tell());
-    station
 }
 
 // Nothing, or the length of the room to write a reading in.
-fn show(rt: &impl Print, station: Station, row: Row) -> Station {
-    let Value::Is(length) = row.only_or(READING) else {
-        return wrong(rt, station, b"show", b"a length or nothing is wanted");
-    };
-    if length != READING {
-        return refused(rt, station, b"show", 2);
+fn show(rt: &impl Print, station: &Station, row: Option<&[u64]>) -> io::Result<()> {
+    match row {
+        Some([] | [READING]) => match station.show() {
+            Ok(reading) => reading::shown(rt, reading),
+            Err(refused) => print::refused(rt, "show", refused),
+        },
+        Some([_]) => print::refused(rt, "show", Refusal::NotWhole.into()),
+        _ => wrong(rt, b"show", "a length or nothing is wanted"),
     }
-    reading::shown(rt, station.show());
-    station
 }
 
-// The station after a call that answers its number alone.
-fn after(rt: &impl Print, name: &[u8], done: Done) -> Station {
-    print::done(rt, name, done.number);
-    done.station
+// Keeps the station that a call answers alone; a refusal leaves the station as it was.
+fn after(
+    rt: &impl Print,
+    station: &mut Station,
+    name: &str,
+    done: Result<Station, Refused>,
+) -> io::Result<()> {
+    match done {
+        Ok(next) => {
+            *station = next;
+            println!(rt; "{name} done")
+        }
+        Err(refused) => print::refused(rt, name, refused),
+    }
 }
 
-// The station after a call that is refused by this number.
-fn refused(rt: &impl Print, station: Station, name: &[u8], number: u8) -> Station {
-    print::done(rt, name, number);
-    station
-}
-
-// The station after a line that is none.
-fn wrong(rt: &impl Print, station: Station, name: &[u8], what: &[u8]) -> Station {
-    script::print::wrong(rt, name, what);
-    station
-}
-
-// The settings of these words, as many of them as settings have.
-pub fn settings_of(words: [u64; Row::ROOM]) -> Settings {
+// The settings of these words; a word above 32 bits counts as their largest number.
+pub fn settings_of(words: &[u64; Settings::WORDS]) -> Settings {
     let mut bytes = [0u8; Settings::LENGTH];
-    let mut i = 0;
-    while i < Settings::WORDS {
-        wire::put32(&mut bytes, 4 * i, decide::lesser(words[i], MOST) as u32);
-        i += 1;
+    for i in 0..Settings::WORDS {
+        wire::put32(
+            &mut bytes,
+            4 * i,
+            u32::try_from(words[i]).unwrap_or(u32::MAX),
+        );
     }
     Settings::read(&bytes, 0)
 }

@@ -6,68 +6,31 @@ mod calls;
 mod print;
 mod reading;
 
-use script::{Input, Row, Value};
+use script::print::wrong;
+use settings::Settings;
 use station::Station;
+use std::io;
 
-// A station that was never started.
-fn unset() -> Station {
-    let zeros = [0u64; Row::ROOM];
-    Station::fresh(calls::settings_of(zeros))
-}
-
-// The station after what a line of this length asks for, which stands in the room.
-fn run(rt: &impl Print, station: Station, room: &[u8], length: usize) -> Station {
-    let line = script::held(rt, room, length);
-    let word = script::head(line);
-    let from = word.from;
-    let end = word.end;
-    if from == end {
-        return station;
-    }
-    called(rt, station, &line[from..end], &line[end..])
-}
-
-// The station after the calls that a word asks for, with the rest of the line behind it.
-fn called(rt: &impl Print, station: Station, word: &[u8], rest: &[u8]) -> Station {
+// Does what a line asks for, so often.
+fn run(rt: &impl Print, station: &mut Station, line: &[u8]) -> io::Result<()> {
+    let mut words = script::words_of(line);
+    let Some(word) = words.next() else {
+        return Ok(());
+    };
     let times = script::times_of(word);
-    let number = times.number;
-    let from = times.from;
-    match number {
-        Value::Is(n) => repeated(rt, station, &word[from..], rest, n),
-        Value::Wrong => {
-            script::print::wrong(rt, word, b"a number is wanted before the star");
-            station
+    match times.number {
+        Ok(n) => {
+            // What a call cannot print is lost, and the next is made all the same.
+            for _ in 0..n {
+                let _ = calls::call(rt, station, times.what, words);
+            }
+            Ok(())
         }
+        Err(fault) => wrong(rt, word, fault),
     }
 }
 
-// The station after so many calls.
-fn repeated(rt: &impl Print, station: Station, name: &[u8], rest: &[u8], times: u64) -> Station {
-    let mut next = station;
-    let mut left = times;
-    while 0 < left {
-        next = calls::call(rt, next, name, rest);
-        left -= 1;
-    }
-    next
-}
-
-// A proved loop has to end, and nothing says that an input does: the turns are counted down, from a number that no run uses up.
-fn main(rt: HostRuntime) {
-    let mut ahead = [0u8; 4096];
-    let buffer: &mut [u8] = &mut ahead;
-    let mut space = [0u8; 4096];
-    let room: &mut [u8] = &mut space;
-    let mut station = unset();
-    let mut input = Input::whole();
-    let mut turns = u64::MAX;
-    while 0 < turns {
-        let got = script::line(&rt, input, buffer, room);
-        station = run(&rt, station, room, got.length);
-        if got.last {
-            return;
-        }
-        input = got.input;
-        turns -= 1;
-    }
+fn main(rt: HostRuntime) -> io::Result<()> {
+    let mut station = Station::fresh(calls::settings_of(&[0; Settings::WORDS]));
+    script::each_line(&rt, |line| run(&rt, &mut station, line))
 }

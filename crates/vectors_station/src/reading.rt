@@ -1,74 +1,64 @@
 // What is printed of a reading: its 31 words, each behind its name.
-use crate::print;
-use crate::print::number;
 use credits::Credits;
 use fair::{Decided, Four};
 use heard::Received;
-use script::print::text;
-use station::{Reading, Shown};
+use station::{Held, Reading};
+use std::io;
 
-// `show` and the words of the reading, or `show refused N`.
-pub fn shown(rt: &impl Print, shown: Shown) {
-    let refusal = shown.number;
-    text(rt, b"show");
-    if refusal != 0 {
-        return print::refused(rt, refusal);
-    }
-    let reading = shown.reading;
-    credits(rt, reading.credits);
-    held(rt, reading);
-    counted(rt, reading.counters);
-    smoothed(rt, reading.smoothed);
-    decided(rt, reading.decided);
-    received(rt, reading.received);
-    text(rt, b"\n");
+// `show` and the words of the reading.
+pub fn shown(rt: &impl Print, reading: Reading) -> io::Result<()> {
+    rt.print("show")?;
+    credits(rt, reading.credits)?;
+    held(rt, "control", reading.control)?;
+    held(rt, "primary", reading.primary)?;
+    held(rt, "secondary", reading.secondary)?;
+    held(rt, "stage", reading.stage)?;
+    counted(rt, reading.counters)?;
+    smoothed(rt, reading.smoothed)?;
+    decided(rt, reading.decided)?;
+    received(rt, reading.received)
 }
 
-fn credits(rt: &impl Print, c: Credits) {
-    number(rt, b" creditM ", c.m);
-    number(rt, b" creditA ", c.a);
-    number(rt, b" creditB ", c.b);
-    number(rt, b" creditC ", c.c);
-    number(rt, b" creditD ", c.d);
+fn credits(rt: &impl Print, credits: Credits) -> io::Result<()> {
+    let Credits { m, a, b, c, d } = credits;
+    print!(rt; " creditM {m} creditA {a} creditB {b} creditC {c} creditD {d}")
 }
 
-fn held(rt: &impl Print, r: Reading) {
-    number(rt, b" controlFrames ", r.control.frames);
-    number(rt, b" controlBytes ", r.control.bytes);
-    number(rt, b" primaryFrames ", r.primary.frames);
-    number(rt, b" primaryBytes ", r.primary.bytes);
-    number(rt, b" secondaryFrames ", r.secondary.frames);
-    number(rt, b" secondaryBytes ", r.secondary.bytes);
-    number(rt, b" stageFrames ", r.stage.frames);
-    number(rt, b" stageBytes ", r.stage.bytes);
+fn held(rt: &impl Print, name: &str, held: Held) -> io::Result<()> {
+    let Held { frames, bytes } = held;
+    print!(rt; " {name}Frames {frames} {name}Bytes {bytes}")
 }
 
-fn counted(rt: &impl Print, f: Four) {
-    number(rt, b" addRate ", f.add);
-    number(rt, b" fwRate ", f.fw);
-    number(rt, b" addRateCongested ", f.addc);
-    number(rt, b" fwRateCongested ", f.fwc);
+fn counted(rt: &impl Print, four: Four) -> io::Result<()> {
+    let Four { add, fw, addc, fwc } = four;
+    print!(rt; " addRate {add} fwRate {fw} addRateCongested {addc} fwRateCongested {fwc}")
 }
 
-fn smoothed(rt: &impl Print, f: Four) {
-    number(rt, b" lpAddRate ", f.add);
-    number(rt, b" lpFwRate ", f.fw);
-    number(rt, b" lpAddRateCongested ", f.addc);
-    number(rt, b" lpFwRateCongested ", f.fwc);
+fn smoothed(rt: &impl Print, four: Four) -> io::Result<()> {
+    let Four { add, fw, addc, fwc } = four;
+    print!(rt; " lpAddRate {add} lpFwRate {fw} lpAddRateCongested {addc} lpFwRateCongested {fwc}")
 }
 
-fn decided(rt: &impl Print, d: Decided) {
-    number(rt, b" localFairRate ", d.local);
-    number(rt, b" allowedRate ", d.allowed);
-    number(rt, b" allowedRateCongested ", d.allowedc);
-    number(rt, b" ownRate ", d.own);
-    number(rt, b" locallyCongested ", d.congested);
+fn decided(rt: &impl Print, decided: Decided) -> io::Result<()> {
+    let Decided {
+        local,
+        allowed,
+        allowedc,
+        own,
+        congested,
+    } = decided;
+    print!(rt; " localFairRate {local} allowedRate {allowed} allowedRateCongested {allowedc}")?;
+    print!(rt; " ownRate {own} locallyCongested {congested}")
 }
 
-fn received(rt: &impl Print, r: Received) {
-    number(rt, b" downstreamCongested ", r.downstream);
-    number(rt, b" receivedTtl ", r.ttl);
-    number(rt, b" receivedAddressHigh ", r.high);
-    number(rt, b" receivedAddressLow ", r.low);
-    number(rt, b" receivedRate ", r.rate);
+fn received(rt: &impl Print, received: Received) -> io::Result<()> {
+    let Received {
+        downstream,
+        ttl,
+        high,
+        low,
+        rate,
+    } = received;
+    print!(rt; " downstreamCongested {downstream} receivedTtl {ttl}")?;
+    println!(rt; " receivedAddressHigh {high} receivedAddressLow {low} receivedRate {rate}")
 }

@@ -1,27 +1,35 @@
 -- Windows are alike exactly if their bytes are equal, and two summaries are the same exactly if they are equal. So what is summed once is what each
 -- record comes to.
 -- Assumes nothing.
-use Prim.Native.Nat.{ℕ, zero, suc, ◌-◌, ◌<◌}
-use mathlib.Core.Bool.{true, false≢true}
+use Rattle.std.specs.Prelude.{Ok, Err}
+use Rattle.std.specs.Ordering.{int_eq, int_cmp}
+use Rattle.std.specs.Prelude.{◌<ℤ◌}
+use Rattle.std.proofs.lemmas.Cmp.{int_ranked, int_eq_equiv, by_ranked}
+use Prim.Native.Nat.{ℕ, zero, suc, ◌<◌}
+use mathlib.Core.Bool.{Bool, true, false, false≢true}
 use mathlib.Core.List.{List}
 use mathlib.Core.Logic.{◌↔◌}
-use mathlib.Core.Path.{◌≡◌, refl, sym, ap, ◌∙◌}
+use mathlib.Core.Path.{◌≡◌, refl, sym, ap}
 use native.Mathlib.Omega.{arith}
-use borrow.Author.Tests.{eq-eqb, ne_eqb, eqb-true}
+use borrow.Author.Tests.{eq-eqb, eqb-true}
 use lib.Dec.{eqb}
 use lib.IntN.{ℤ, pos, negsuc}
-use lib.Signed.{mag}
 use lib.ListN.{length, get_or}
 use lib.Seq.{ext_get_or}
 use Rattle.decide.specs.Test.{test, both, and_i, facts, passes}
 use Rattle.decide.proofs.Cases.{by_cases, le_or}
-use Rattle.wire.specs.Signed.{unsigned_of}
 use Rattle.shaper.specs.Limits.{same_limits}
 use Rattle.shaper.proofs.Ranges.{same_exactly}
 use Rattle.summary.specs.declared.Summary.{Summary}
-use Rattle.summary.specs.declared.Answer.{Answer}
 use Rattle.summary.proofs.Paper.{signed_eq}
 use Rattle.window.specs.Both.{alike_to, alike_of, eq_ℤ, same_numbers, same_summary, same_answer_of}
+use Rattle.summary.specs.Answer.{Answer}
+
+-- two tests that hold of the same are one
+pub agree : (b c : Bool) → (b ≡ true → c ≡ true) → (c ≡ true → b ≡ true) → b ≡ c
+agree true c f g = sym (f refl)
+agree false true f g = g refl
+agree false false f g = refl
 
 -- ---- windows
 
@@ -61,19 +69,17 @@ signed_self : (x : ℤ) → eq_ℤ x x ≡ true
 signed_self (pos m) = eq-eqb m m refl
 signed_self (negsuc m) = eq-eqb m m refl
 
--- signed numbers of 8 bytes are equal where the unsigned ones are that stand for them
-pub unsigned_equal : (x y : ℤ) → mag x < 9223372036854775808 → mag y < 9223372036854775808 → eqb (unsigned_of x) (unsigned_of y) ≡ eq_ℤ x y
-unfolding unsigned_of
-unsigned_equal (pos m) (pos n) h g = refl
-unsigned_equal (pos m) (negsuc n) h g = ne_eqb m (18446744073709551615 - n) (λ e. omega arith)
-unsigned_equal (negsuc m) (pos n) h g = ne_eqb (18446744073709551615 - m) n (λ e. omega arith)
-unsigned_equal (negsuc m) (negsuc n) h g =
-    let x = 18446744073709551615 - m in
-    let y = 18446744073709551615 - n in
-    let apart : (m ≡ n → ⊥) → eqb x y ≡ eqb m n = λ other. ne_eqb x y (λ e. other (omega arith)) ∙ sym (ne_eqb m n other) in
-    by_cases (le_or m n)
-    (λ low. by_cases (le_or n m) (λ high. eq-eqb x y (omega arith) ∙ sym (eq-eqb m n (omega arith))) (λ less. apart (λ e. omega arith)))
-    (λ more. apart (λ e. omega arith))
+-- std's equality of signed numbers is that one
+equal_int : (x y : ℤ) → int_eq x y ≡ true → x ≡ y
+equal_int x y e =
+    by_ranked (x <ℤ y) (x ≡ y) (y <ℤ x) (int_cmp x y) (int_ranked x y (int_cmp x y) refl)
+    (λ o h. absurd (false≢true (rw o at e)))
+    (λ o h. h)
+    (λ o h. absurd (false≢true (rw o at e)))
+
+pub equal_ℤ : (x y : ℤ) → int_eq x y ≡ eq_ℤ x y
+equal_ℤ x y =
+    agree (int_eq x y) (eq_ℤ x y) (λ e. rw (← equal_int x y e) (signed_self x)) (λ e. rw (← equal_signed x y e) (int_eq_equiv.refl x))
 
 pub same_summary_lem : (s t : Summary) → (same_summary s t ≡ true) ↔ (s ≡ t)
 unfolding same_summary
@@ -88,6 +94,6 @@ same_summary_lem s t = (
 )
 
 pub same_answers : (a b : Answer) → same_answer_of a b ≡ true → a ≡ b
-same_answers (Answer.Summed s) (Answer.Summed t) e = ap Answer.Summed ((same_summary_lem s t).0 e)
-same_answers (Answer.Summed s) (Answer.Refused n) e = absurd (false≢true e)
-same_answers (Answer.Refused n) b e = absurd (false≢true e)
+same_answers (Ok s) (Ok t) e = ap Ok ((same_summary_lem s t).0 e)
+same_answers (Ok s) (Err r) e = absurd (false≢true e)
+same_answers (Err r) b e = absurd (false≢true e)

@@ -1,12 +1,12 @@
 -- Two records read window by window: both are fed, and whether their windows and sums are equal.
 -- Assumes nothing.
-use Rattle.std.specs.Prelude.{ℕ, zero, suc, Bool, true, false, ◌&&◌, cond, List, [], ◌∷◌, eqb, ℤ, pos, negsuc, length, get_or}
+use Rattle.std.specs.Prelude.{ℕ, zero, suc, Bool, true, false, ◌&&◌, cond, List, [], ◌∷◌, eqb, ℤ, pos, negsuc, length, get_or, Ok, Err}
 use Rattle.decide.specs.Test.{Test, ◌≡?◌, ◌∧?◌, test}
 use Rattle.shaper.specs.Limits.{same_limits}
 use Rattle.summary.specs.declared.Summary.{Summary}
-use Rattle.summary.specs.declared.Answer.{Answer}
 use Rattle.feed.specs.Feed.{start_of, fed_of}
 use Rattle.window.specs.declared.Pair.{Pair}
+use Rattle.summary.specs.Answer.{Answer}
 
 -- ---- equal windows and equal sums (`alike_exactly`, `same_summary_lem`, proofs/Equal.antt)
 
@@ -34,9 +34,9 @@ unfoldable pub same_summary : Summary → Summary → Bool
 same_summary s t = test (same_numbers s t) && eq_ℤ s.ceiling t.ceiling
 
 abbrev pub same_answer_of : Answer → Answer → Bool
-same_answer_of (Answer.Summed s) (Answer.Summed t) = same_summary s t
-same_answer_of (Answer.Summed s) (Answer.Refused n) = false
-same_answer_of (Answer.Refused n) b = false
+same_answer_of (Ok s) (Ok t) = same_summary s t
+same_answer_of (Ok s) (Err r) = false
+same_answer_of (Err r) b = false
 
 -- ---- both are fed
 

@@ -2,10 +2,11 @@
 #![tactic(auto)]
 
 ghost use Rattle.std.specs.Prelude.{◌≡◌};
-ghost use Rattle.window.specs.Both.{alike_of, same_summary, same_answer_of, both_start, both_fed};
+ghost use Rattle.window.specs.Both.{alike_of, same_answer_of, both_start, both_fed};
 
+use decide::Refusal;
 use feed::Feed;
-use summary::{Answer, Summary};
+use summary::Summary;
 
 // Two records so far, and whether all chunks so far were equal.
 #[derive(Clone, Copy)]
@@ -53,45 +54,18 @@ pub fn fed(before: Pair, first: &[u8], second: &[u8]) -> Pair
 }
 
 // Whether two answers are equal summaries.
-pub fn same_answer(a: Answer, b: Answer) -> bool
+pub fn same_answer(a: Result<Summary, Refusal>, b: Result<Summary, Refusal>) -> bool
     ensures { result ≡ same_answer_of a b }
 {
-    match a {
-        Answer::Summed(s) => match b {
-            Answer::Summed(t) => same(s, t),
-            Answer::Refused(_) => false,
-        },
-        Answer::Refused(_) => false,
+    match (a, b) {
+        (Ok(s), Ok(t)) => s == t,
+        _ => false,
     }
-}
-
-// Whether two summaries are equal.
-fn same(s: Summary, t: Summary) -> bool
-    ensures { result ≡ same_summary s t }
-{
-    let l = s.limits;
-    let m = t.limits;
-    let limits = l.same(m);
-    let ceiling = wire::unsigned64(s.ceiling);
-    let other = wire::unsigned64(t.ceiling);
-    limits
-        & ((s.events == t.events)
-            & ((s.accrued == t.accrued) & ((s.sent == t.sent) & (s.need == t.need))))
-        & (ceiling == other)
 }
 
 // Whether two windows have the same bytes.
 pub fn alike(first: &[u8], second: &[u8]) -> bool
     ensures { result ≡ alike_of first.now second.now }
 {
-    if first.len() != second.len() {
-        return false;
-    }
-    let mut same = true;
-    let mut i = 0;
-    while i < first.len() {
-        same = same & (first[i] == second[i]);
-        i += 1;
-    }
-    same
+    first == second
 }

@@ -4,3 +4,5 @@ pub mod Numbers
 pub mod Laid
 pub mod Placed
 pub mod Signs
+pub mod Standard
+pub mod Words

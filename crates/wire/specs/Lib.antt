@@ -1,3 +1,4 @@
 pub mod Wire
 pub mod Parts
 pub mod Signed
+pub mod Words

@@ -1,8 +1,10 @@
-// Numbers in slices of bytes, in both orders, and signed numbers as unsigned ones.
+// Numbers in slices of bytes, in both orders, and signed numbers as unsigned ones. A place stands beside the slice, and the slice is not cut there: what the public
+// clauses say of a write is how the whole slice is afterwards.
 #![tactic(auto)]
 
-ghost use Rattle.std.specs.Prelude.{◌≡◌, ◌+◌, ◌≤◌, length};
+ghost use Rattle.std.specs.Prelude.{◌≡◌, ◌+◌, ◌*◌, ◌≤◌, length, take, drop};
 ghost use Rattle.wire.specs.Wire.{le, be, digits, digits_be, put};
+ghost use Rattle.wire.specs.Words.{words_at, words_bytes};
 ghost use Rattle.wire.specs.Signed.{signed_of, unsigned_of};
 
 // ---- least byte first
@@ -12,18 +14,15 @@ pub fn get16(s: &[u8], at: usize) -> u16
     requires { at + 2 ≤ length s.now }
     ensures { result ≡ le 2 s.now at }
 {
-    wide16(s[at]) + wide16(s[at + 1]) * 256
+    u16::from_le_bytes(read(s, at))
 }
 
-// The number in the 4 bytes of `s` from `at` on, least byte first. Four bytes of one body are one load of the machine; two numbers of 2 bytes would not be.
+// The number in the 4 bytes of `s` from `at` on, least byte first.
 pub fn get32(s: &[u8], at: usize) -> u32
     requires { at + 4 ≤ length s.now }
     ensures { result ≡ le 4 s.now at }
 {
-    byte32(s[at])
-        + byte32(s[at + 1]) * 256
-        + byte32(s[at + 2]) * 65536
-        + byte32(s[at + 3]) * 16777216
+    u32::from_le_bytes(read(s, at))
 }
 
 // The number in the 8 bytes of `s` from `at` on, least byte first.
@@ -31,7 +30,7 @@ pub fn get64(s: &[u8], at: usize) -> u64
     requires { at + 8 ≤ length s.now }
     ensures { result ≡ le 8 s.now at }
 {
-    wide64(get32(s, at)) + wide64(get32(s, at + 4)) * 4294967296
+    u64::from_le_bytes(read(s, at))
 }
 
 // Writes `v` to the 2 bytes of `s` from `at` on, least byte first.
@@ -39,8 +38,7 @@ pub fn put16(s: &mut [u8], at: usize, v: u16)
     requires { at + 2 ≤ length s.old }
     ensures { s.new ≡ put s.old at (digits 2 v) }
 {
-    s[at] = (v % 256) as u8;
-    s[at + 1] = (v / 256 % 256) as u8;
+    write(s, at, v.to_le_bytes());
 }
 
 // Writes `v` to the 4 bytes of `s` from `at` on, least byte first.
@@ -48,8 +46,7 @@ pub fn put32(s: &mut [u8], at: usize, v: u32)
     requires { at + 4 ≤ length s.old }
     ensures { s.new ≡ put s.old at (digits 4 v) }
 {
-    put16(s, at, (v % 65536) as u16);
-    put16(s, at + 2, (v / 65536) as u16);
+    write(s, at, v.to_le_bytes());
 }
 
 // Writes `v` to the 8 bytes of `s` from `at` on, least byte first.
@@ -57,8 +54,7 @@ pub fn put64(s: &mut [u8], at: usize, v: u64)
     requires { at + 8 ≤ length s.old }
     ensures { s.new ≡ put s.old at (digits 8 v) }
 {
-    put32(s, at, (v % 4294967296) as u32);
-    put32(s, at + 4, (v / 4294967296) as u32);
+    write(s, at, v.to_le_bytes());
 }
 
 // ---- greatest byte first
@@ -68,7 +64,7 @@ pub fn get16be(s: &[u8], at: usize) -> u16
     requires { at + 2 ≤ length s.now }
     ensures { result ≡ be 2 s.now at }
 {
-    wide16(s[at]) * 256 + wide16(s[at + 1])
+    u16::from_be_bytes(read(s, at))
 }
 
 // The number in the 6 bytes of `s` from `at` on, greatest byte first.
@@ -76,9 +72,8 @@ pub fn get48be(s: &[u8], at: usize) -> u64
     requires { at + 6 ≤ length s.now }
     ensures { result ≡ be 6 s.now at }
 {
-    wide48(get16be(s, at)) * 4294967296
-        + wide48(get16be(s, at + 2)) * 65536
-        + wide48(get16be(s, at + 4))
+    let [a, b, c, d, e, f]: [u8; 6] = read(s, at);
+    u64::from_be_bytes([0, 0, a, b, c, d, e, f])
 }
 
 // Writes `v` to the 2 bytes of `s` from `at` on, greatest byte first.
@@ -86,8 +81,7 @@ pub fn put16be(s: &mut [u8], at: usize, v: u16)
     requires { at + 2 ≤ length s.old }
     ensures { s.new ≡ put s.old at (digits_be 2 v) }
 {
-    s[at] = (v / 256 % 256) as u8;
-    s[at + 1] = (v % 256) as u8;
+    write(s, at, v.to_be_bytes());
 }
 
 // Writes `v` to the 6 bytes of `s` from `at` on, greatest byte first; what is above 48 bits is left out.
@@ -95,9 +89,50 @@ pub fn put48be(s: &mut [u8], at: usize, v: u64)
     requires { at + 6 ≤ length s.old }
     ensures { s.new ≡ put s.old at (digits_be 6 v) }
 {
-    put16be(s, at, (v / 65536 / 65536 % 65536) as u16);
-    put16be(s, at + 2, (v / 65536 % 65536) as u16);
-    put16be(s, at + 4, (v % 65536) as u16);
+    let [_, _, a, b, c, d, e, f] = v.to_be_bytes();
+    write(s, at, [a, b, c, d, e, f]);
+}
+
+// ---- bytes
+
+// The N bytes of `s` from `at` on.
+fn read<const N: usize>(s: &[u8], at: usize) -> [u8; N]
+    requires { at + N ≤ length s.now }
+    ensures { result ≡ take N (drop at s.now) }
+{
+    <[u8; N]>::try_from(&s[at..at + N]).unwrap()
+}
+
+// Writes N bytes to `s` from `at` on.
+fn write<const N: usize>(s: &mut [u8], at: usize, bytes: [u8; N])
+    requires { at + N ≤ length s.old }
+    ensures { s.new ≡ put s.old at bytes.entry }
+{
+    s[at..at + N].copy_from_slice(&bytes);
+}
+
+// ---- words
+
+// The N words that stand in `s` from `at` on, whatever they are the words of.
+pub fn read_words<const N: usize>(s: &[u8], at: usize) -> [u32; N]
+    requires { at + 4 * N ≤ length s.now }
+    ensures { result ≡ words_at N s.now at }
+{
+    let mut words = [0; N];
+    for i in 0..N {
+        words[i] = get32(s, at + 4 * i);
+    }
+    words
+}
+
+// Writes N words to `s` from `at` on, and leaves all other bytes.
+pub fn write_words<const N: usize>(words: [u32; N], s: &mut [u8], at: usize)
+    requires { at + 4 * N ≤ length s.old }
+    ensures { (s.new ≡ put s.old at (words_bytes words.entry)) × (length words.entry ≡ N) }
+{
+    for i in 0..N {
+        put32(s, at + 4 * i, words[i]);
+    }
 }
 
 // ---- signed numbers
@@ -106,50 +141,12 @@ pub fn put48be(s: &mut [u8], at: usize, v: u64)
 pub fn signed64(x: u64) -> i64
     ensures { result ≡ signed_of x }
 {
-    if x < 9223372036854775808 {
-        x as i64
-    } else {
-        -1i64 - ((18446744073709551615 - x) as i64)
-    }
+    x.cast_signed()
 }
 
 // The number below 2 ^ 64 that stands for `x` as a signed number in 8 bytes.
 pub fn unsigned64(x: i64) -> u64
     ensures { result ≡ unsigned_of x }
 {
-    if x < 0i64 {
-        18446744073709551615 - ((-1i64 - x) as u64)
-    } else {
-        x as u64
-    }
-}
-
-// ---- the same number in a wider type
-
-// A byte as a 16-bit number.
-fn wide16(x: u8) -> u16
-    ensures { (result ≡ x) × (result ≤ 255) }
-{
-    x as u16
-}
-
-// A byte as a 32-bit number.
-fn byte32(x: u8) -> u32
-    ensures { (result ≡ x) × (result ≤ 255) }
-{
-    x as u32
-}
-
-// A 16-bit number as a 64-bit one, for a number of 6 bytes.
-fn wide48(x: u16) -> u64
-    ensures { (result ≡ x) × (result ≤ 65535) }
-{
-    x as u64
-}
-
-// A 32-bit number as a 64-bit one.
-fn wide64(x: u32) -> u64
-    ensures { (result ≡ x) × (result ≤ 4294967295) }
-{
-    x as u64
+    x.cast_unsigned()
 }

@@ -10,15 +10,13 @@ use borrow.Author.Tests.{leb-true, leb-false}
 use Rattle.decide.proofs.Cases.{by_cases, le_or}
 use Rattle.ring.specs.declared.Way.{Way}
 use Rattle.ring.specs.declared.Way.TheVariants.{Left, Right}
-use Rattle.ring.specs.declared.Choice.TheVariants as choice
 use Rattle.ring.specs.Links.{other_of, next_of, ahead_of, reach_of, station_after}
-use Rattle.ring.specs.Choosing.{distance_of, reaches_of, choose_of, Between, Placed}
+use Rattle.ring.specs.Choosing.{distance_of, reaches_of, choose_of, no_choice, Between, Placed}
 use Rattle.ring.proofs.Distances.{whole_ring}
 use Rattle.ring.proofs.Hops.{after_lt, after_suc, back, arrives, not_before_lem, run_on, run_ends}
 use Rattle.decide.proofs.Tests.{failing}
 use Rattle.ring.proofs.Faults.{placed_free, no_way_means}
-use Rattle.wrap.specs.declared.Outcome.TheVariants.{Moved}
-use Rattle.wrap.specs.Walking.{Course, at_home, course_of, side_of, whole_of, bad_home, path_of}
+use Rattle.wrap.specs.Walking.{Course, at_home, course_of, side_of, whole_of, bad_home, path_of, journey}
 use Rattle.wrap.proofs.Courses.{delivered_there, moves_home, of_course}
 use Rattle.wrap.proofs.Answers.{found, path_length}
 
@@ -137,7 +135,7 @@ module _ (stations own target links : ℕ) (p : Placed stations own target links
 
 -- Where the choice is 8, no wrap-marked frame is delivered, whatever its home side.
 pub no_way_no_path : (stations own target links side protection ring home : ℕ) (delivered : Bool) (hops : ℕ)
-    → choose_of stations own target links side protection ring ≡ choice.Refused 8 → path_of stations own target links home ≡ Moved delivered hops
+    → choose_of stations own target links side protection ring ≡ no_choice 8 → path_of stations own target links home ≡ journey delivered hops
     → delivered ≡ false
 no_way_no_path stations own target links side protection ring home delivered hops e m =
     let n = no_way_means stations own target links side protection ring e in
@@ -146,13 +144,13 @@ no_way_no_path stations own target links side protection ring home delivered hop
 -- Where the home side reaches, the frame is delivered after as many hops as the distance.
 pub home_run : (stations own target links home : ℕ) → Placed stations own target links → 1 ≤ home → home ≤ 2
     → reaches_of (side_of home) stations own target links ≡ true
-    → path_of stations own target links home ≡ Moved true (distance_of (side_of home) stations own target)
+    → path_of stations own target links home ≡ journey true (distance_of (side_of home) stations own target)
 home_run stations own target links home p l h r =
     let w = whole_ring stations own target (between stations own target links p) in
     sym
     (found stations own target links home (placed_free stations own target links p)
     (failing (bad_home home) (λ k. ⊎_elim (λ q. omega arith) (λ q. omega arith) k)))
-    ∙ ap (λ (p : Bool × ℕ). Moved p.0 p.1)
+    ∙ ap (λ (p : Bool × ℕ). journey p.0 p.1)
     (straight stations own target links p (side_of home) r (distance_of (side_of home) stations own target) 0 (2 * stations) (omega arith) (few (side_of home)))
   where
     few : (way : Way) → distance_of way stations own target ≤ 2 * stations

@@ -1,9 +1,10 @@
 -- An undelivered path takes all 2 × stations hops, or none. A frame that has moved came over a usable link, which lies behind it; so only at the start can both
 -- links of its station be unusable. Assumes nothing.
-use mathlib.Core.Path.{◌≡◌, sym, ap, ◌∙◌}
+use mathlib.Core.Path.{◌≡◌, sym, ap, ◌∙◌, subst}
 use mathlib.Core.Bool.{true, false, true≢false}
 use mathlib.Core.Logic.{◌⊎◌, inl, inr}
 use Prim.Native.Nat.{ℕ, zero, suc, ◌<◌}
+use native.Mathlib.Omega.{arith}
 use lib.ListN.{length}
 use Rattle.decide.proofs.Cases.{by_cases, true_or_false}
 use Rattle.ring.specs.declared.Way.{Way}
@@ -11,8 +12,8 @@ use Rattle.ring.specs.declared.Way.TheVariants.{Left, Right}
 use Rattle.ring.specs.Links.{usable, other_of, ahead_of}
 use Rattle.ring.proofs.Around.{next_of_lt}
 use Rattle.ring.proofs.Links.{both_ends}
-use Rattle.wrap.specs.Walking.{Course, Ringlet, at_home, course_of}
-use Rattle.wrap.proofs.Courses.{of_course, used_home, stuck}
+use Rattle.wrap.specs.Walking.{Course, Ringlet, at_home, across, course_of}
+use Rattle.wrap.proofs.Courses.{of_course, used_home, moves_home, turns_away, moves_opposite, stuck}
 
 module _ (stations links target : ℕ) (home : Way) where
   abbrev course : ℕ → Ringlet → ℕ → Course
@@ -45,7 +46,20 @@ module _ (stations links target : ℕ) (home : Way) where
       (λ left at d s t f e. by_cases (f e) (λ z. sym z) (λ c. absurd (never_caught home s.way at s.link c.0 c.1)))
       (λ left k on at s u r e. ap suc (r e))
 
-  -- From a station that is not the target, an undelivered course uses all its hops, or none.
+  -- From a station that is not the target, a delivered course uses a hop,
+  pub delivered_hops : (left own : ℕ) → (own ≡ target → ⊥) → (course left at_home own).delivered ≡ true → 0 < length (course left at_home own).links
+  delivered_hops zero own differ d = absurd (true≢false (sym d ∙ ap (λ (c : Course). c.delivered) (used_home stations links target home own differ)))
+  delivered_hops (suc left) own differ d =
+      by_cases (true_or_false (ahead_of home stations links own))
+      (λ u. some (moves_home stations links target home left own differ u))
+      (λ u. by_cases (true_or_false (ahead_of (other_of home) stations links own))
+      (λ v. some (turns_away stations links target home left own differ u ∙ moves_opposite stations links target home left own v))
+      (λ v. absurd (true≢false (sym d ∙ ap (λ (c : Course). c.delivered) (stuck stations links target home left own differ u v)))))
+    where
+      some : {c rest : Course} {k : ℕ} → c ≡ across k rest → 0 < length c.links
+      some e = subst (λ (c : Course). 0 < length c.links) (sym e) (omega arith)
+
+  -- and an undelivered one uses all its hops, or none.
   pub undelivered_hops : (left own : ℕ) → own < stations → (own ≡ target → ⊥) → (course left at_home own).delivered ≡ false
       → (length (course left at_home own).links ≡ 0) ⊎ (length (course left at_home own).links ≡ left)
   undelivered_hops zero own h differ e = inl (ap (λ (c : Course). length c.links) (used_home stations links target home own differ))

@@ -1,14 +1,15 @@
 -- The path of a wrap-marked frame, as the list of links that its hops use.
 -- Assumes nothing: these are definitions.
-use Rattle.std.specs.Prelude.{ℕ, zero, suc, ◌+◌, ◌*◌, ◌<◌, Bool, true, false, cond, List, [], ◌∷◌, ◌++◌, eqb, length}
+use Rattle.std.specs.Prelude.{ℕ, zero, suc, ◌*◌, ◌<◌, Bool, true, false, cond, List, [], ◌∷◌, ◌++◌, eqb, length, Result, Ok, Err}
 use Rattle.decide.specs.Test.{Test, test, ◌<?◌, ◌∨?◌}
+use Rattle.decide.specs.Number.{number_in, refusal_of}
+use Rattle.decide.specs.declared.refusal.Refusal.{Refusal}
 use Rattle.decide.specs.Refusal.{Fault, fault, first_of, refused_or}
 use Rattle.ring.specs.declared.Way.{Way}
 use Rattle.ring.specs.declared.Way.TheVariants.{Left, Right}
 use Rattle.ring.specs.Links.{other_of, next_of, link_of, ahead_of}
 use Rattle.ring.specs.Choosing.{place_faults}
-use Rattle.wrap.specs.declared.Outcome.{Outcome}
-use Rattle.wrap.specs.declared.Outcome.TheVariants.{Moved, Refused}
+use Rattle.wrap.specs.declared.Journey.{Journey}
 
 -- the links that a frame's hops use, in order, and whether it is delivered at the end
 pub record Course : Type 0 where
@@ -69,32 +70,33 @@ abbrev pub path_faults : ℕ → ℕ → ℕ → ℕ → ℕ → List Fault
 path_faults stations own target links home =
     place_faults stations own target links ++ (fault 3 (test (bad_home home)) ∷ [])
 
+-- What a path answers:
+abbrev pub PathAnswer : Type 0
+PathAnswer = Result Journey Refusal
+
+-- whether the frame is delivered, and the hops that it moves,
+abbrev pub journey : Bool → ℕ → PathAnswer
+journey delivered hops = Ok (record { delivered = delivered; hops = hops })
+
+-- or the refusal of a number.
+abbrev pub no_path : ℕ → PathAnswer
+no_path n = Err (refusal_of n)
+
 -- The answer holds whether the frame is delivered, and the hops moved, equal to the path's length.
-abbrev pub outcome_of : Course → Outcome
-outcome_of course = Moved course.delivered (length course.links)
+abbrev pub outcome_of : Course → PathAnswer
+outcome_of course = journey course.delivered (length course.links)
 
 -- The path, for any numbers at all.
-unfoldable pub path_of : ℕ → ℕ → ℕ → ℕ → ℕ → Outcome
+unfoldable pub path_of : ℕ → ℕ → ℕ → ℕ → ℕ → PathAnswer
 path_of stations own target links home =
-    refused_or Refused (first_of (path_faults stations own target links home)) (outcome_of (whole_of stations own target links home))
+    refused_or no_path (first_of (path_faults stations own target links home)) (outcome_of (whole_of stations own target links home))
 
 -- Document 01's number of an answer: 0 where the path was walked.
-abbrev pub path_number : Outcome → ℕ
-path_number (Moved delivered hops) = 0
-path_number (Refused n) = n
-
--- what a walk answers of the rest of a course, with so many hops behind it, packed into one number: twice the hops of both, and 1 more where the frame
--- is delivered
-abbrev pub packed_of : ℕ → Course → ℕ
-packed_of moved rest = 2 * (moved + length rest.links) + cond rest.delivered 1 0
+abbrev pub path_number : PathAnswer → ℕ
+path_number (Ok j) = 0
+path_number (Err r) = number_in r
 
 -- a station of a ring of at most 63
 pub record Stops (stations at : ℕ) : Type 0 where
   pub small : stations < 64
   pub station : at < stations
-
--- a station of a ring of at most 63, and at most twice as many hops, moved or left
-pub record Walks (stations hops at : ℕ) : Type 0 where
-  pub small : stations < 64
-  pub station : at < stations
-  pub few : hops < 127

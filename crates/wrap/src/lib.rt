@@ -1,142 +1,150 @@
 // The path of a wrap-marked frame round a ring with breaks.
 #![tactic(auto)]
 
-ghost use Rattle.std.specs.Prelude.{◌≡◌, false, ◌+◌};
+ghost use Rattle.std.specs.Prelude.{◌≡◌, true, false, ◌+◌, ◌<◌, length};
 ghost use Rattle.ring.specs.Links.{other_of, next_of, link_of, ahead_of};
-ghost use Rattle.wrap.specs.Walking.{Stops, Walks, at_home, opposite, course_of, packed_of, side_of, path_of};
+ghost use Rattle.wrap.specs.Walking.{Stops, at_home, opposite, course_of, path_of};
 
+use decide::Refusal;
 use ring::Way;
 
-// What becomes of a wrap-marked frame; or the number of the refusal.
-#[derive(Clone, Copy)]
-pub enum Outcome {
-    Moved { delivered: bool, hops: u64 },
-    Refused(u64),
+// What becomes of a wrap-marked frame: whether it is delivered, and the hops that it moves.
+#[derive(Clone, Copy, Debug, PartialEq, Eq)]
+pub struct Journey {
+    pub delivered: bool,
+    pub hops: u64,
 }
 
-// Whether a wrap-marked frame from `own` is delivered at `target`, and the hops that it moved. Any numbers may be given.
-pub fn path(stations: u64, own: u64, target: u64, links: u64, home: u64) -> Outcome
+// A station of a ring. Its word of links stands beside it: with a third number it would go through memory, and no walk would run as a loop.
+#[derive(Clone, Copy)]
+struct Stop {
+    stations: u64,
+    at: u64,
+    ghost stands: { Stops stations at },
+}
+
+// Whether a wrap-marked frame from `own` is delivered at `target`, and the hops that it moves. Any numbers may be given.
+pub fn path(stations: u64, own: u64, target: u64, links: u64, home: u64) -> Result<Journey, Refusal>
     ensures { result ≡ path_of stations own target links home }
 {
-    let number = ring::misplaced(stations, own, target, links);
-    if number != 0 {
-        return Outcome::Refused(number);
-    }
-    if (home < 1) | (2 < home) {
-        return Outcome::Refused(3);
-    }
-    let walk = home_walk(stations, links, target, side(home), 2 * stations, own, 1, 0);
-    Outcome::Moved {
-        delivered: walk % 2 == 1,
-        hops: walk / 2,
-    }
+    ring::misplaced(stations, own, target, links)?;
+    let home = match home {
+        1 => Way::Left,
+        2 => Way::Right,
+        _ => return Err(Refusal::OutOfRange),
+    };
+    let start = Stop { stations, at: own };
+    let most = 2 * stations;
+    let hops = home_walk(start, links, target, home, most, false, 0);
+    // A frame that is not delivered takes all the hops that it may, or none; one that is delivered takes some, and fewer.
+    Ok(Journey {
+        delivered: (hops != 0) & (hops != most),
+        hops,
+    })
 }
 
-// The rest of a walk on the home side, after `moved` hops. The answer is one number: twice all the hops moved, and 1 more where the frame is delivered.
-// No call of a walk is followed by anything, so that a walk runs as a loop. `turn` is 0 just after a turn, where the link behind is known to be unusable,
-// and else 1.
+// The rest of a walk on the home side, after `moved` hops: all the hops of the walk. Just after a turn the link behind is known to be unusable.
+// No call of a walk is followed by anything, and one number is answered, so that it runs as a loop: with a `Journey` to hand on it took fifteen times as long.
 #[cycle(home_walk_opposite_walk)]
 fn home_walk(
-    stations: u64,
+    stop: Stop,
     links: u64,
     target: u64,
     home: Way,
     left: u64,
-    at: u64,
-    turn: u64,
+    turned: bool,
     moved: u64,
 ) -> u64
-    requires { Walks stations (moved + left) at × (turn ≡ 0 → ahead_of (other_of home) stations links at ≡ false) }
-    ensures { result ≡ packed_of moved (course_of stations links target home left at_home at) }
+    requires { (moved + left < 127) × (turned ≡ true → ahead_of (other_of home) stop.stations links stop.at ≡ false) }
+    ensures { result ≡ moved + length (course_of stop.stations links target home left at_home stop.at).links }
 {
-    if at == target {
-        return 2 * moved + 1;
+    if stop.at == target {
+        moved
+    } else if left == 0 {
+        moved
+    } else if stop.ahead(home, links) {
+        let on = stop.next(home);
+        home_walk(on, links, target, home, left - 1, false, moved + 1)
+    } else if turned {
+        moved
+    } else {
+        opposite_walk(stop, links, target, home, left, true, moved)
     }
-    if left == 0 {
-        return 2 * moved;
-    }
-    if ahead(home, stations, links, at) {
-        let on = next(home, stations, at);
-        return home_walk(stations, links, target, home, left - 1, on, 1, moved + 1);
-    }
-    if turn == 0 {
-        return 2 * moved;
-    }
-    opposite_walk(stations, links, target, home, left, at, 0, moved)
 }
 
-// The rest of a walk on the opposite ringlet, and back again at the next break. `turn` is 0 just after a turn, short of the target and with the link
-// behind unusable, and else 1.
+// The rest of a walk on the opposite ringlet, and back again at the next break. Just after a turn it is short of the target, and the link behind is known to
+// be unusable.
 #[cycle(home_walk_opposite_walk)]
 fn opposite_walk(
-    stations: u64,
+    stop: Stop,
     links: u64,
     target: u64,
     home: Way,
     left: u64,
-    at: u64,
-    turn: u64,
+    turned: bool,
     moved: u64,
 ) -> u64
-    requires { Walks stations (moved + left) at × (turn ≡ 0 → (ahead_of home stations links at ≡ false) × (at ≡ target → ⊥)) }
-    ensures { result ≡ packed_of moved (course_of stations links target home left opposite at) }
+    requires { (moved + left < 127) × (turned ≡ true → (ahead_of home stop.stations links stop.at ≡ false) × (stop.at ≡ target → ⊥)) }
+    ensures { result ≡ moved + length (course_of stop.stations links target home left opposite stop.at).links }
 {
+    let away = home.other();
     if left == 0 {
-        return 2 * moved;
-    }
-    let away = ring::other(home);
-    if moves_on(away, stations, links, target, at) {
-        let on = next(away, stations, at);
-        return opposite_walk(stations, links, target, home, left - 1, on, 1, moved + 1);
-    }
-    if turn == 0 {
-        return 2 * moved;
-    }
-    home_walk(stations, links, target, home, left, at, 0, moved)
-}
-
-// Whether a frame on the opposite ringlet moves on from a station: where the link ahead is usable, at its target too.
-fn moves_on(away: Way, stations: u64, links: u64, target: u64, at: u64) -> bool
-    requires { Stops stations at }
-    ensures { result ≡ ahead_of away stations links at }
-{
-    ahead(away, stations, links, at)
-}
-
-// Whether the link ahead of a station is usable.
-fn ahead(way: Way, stations: u64, links: u64, at: u64) -> bool
-    requires { Stops stations at }
-    ensures { result ≡ ahead_of way stations links at }
-{
-    let k = link(way, stations, at);
-    (links >> k) % 2 == 1
-}
-
-// The link ahead of a station.
-fn link(way: Way, stations: u64, at: u64) -> u64
-    requires { Stops stations at }
-    ensures { result ≡ link_of way stations at }
-{
-    match way {
-        Way::Left => next(way, stations, at),
-        Way::Right => at,
+        moved
+    } else if stop.moves_on(away, links) {
+        let on = stop.next(away);
+        opposite_walk(on, links, target, home, left - 1, false, moved + 1)
+    } else if turned {
+        moved
+    } else {
+        home_walk(stop, links, target, home, left, true, moved)
     }
 }
 
-// The station next to another.
-fn next(way: Way, stations: u64, at: u64) -> u64
-    requires { Stops stations at }
-    ensures { result ≡ next_of way stations at }
-{
-    match way {
-        Way::Left => if at == 0 { stations - 1 } else { at - 1 },
-        Way::Right => if at + 1 == stations { 0 } else { at + 1 },
+impl Stop {
+    // Whether a frame on the opposite ringlet moves on: where the link ahead is usable, at its target too.
+    fn moves_on(self, away: Way, links: u64) -> bool
+        ensures { result ≡ ahead_of away self.stations links self.at }
+    {
+        self.ahead(away, links)
     }
-}
 
-// The home side that the host codes.
-fn side(home: u64) -> Way
-    ensures { result ≡ side_of home }
-{
-    if home == 1 { Way::Left } else { Way::Right }
+    // Whether the link ahead is usable.
+    fn ahead(self, way: Way, links: u64) -> bool
+        ensures { result ≡ ahead_of way self.stations links self.at }
+    {
+        (links >> self.link(way)) % 2 == 1
+    }
+
+    // The link ahead.
+    fn link(self, way: Way) -> u64
+        ensures { result ≡ link_of way self.stations self.at }
+    {
+        match way {
+            Way::Left => self.next(way).at,
+            Way::Right => self.at,
+        }
+    }
+
+    // The station ahead.
+    fn next(self, way: Way) -> Stop
+        ensures ring { result.stations ≡ self.stations }
+        ensures station { result.at ≡ next_of way self.stations self.at }
+    {
+        let at = match way {
+            Way::Left => if self.at == 0 {
+                self.stations - 1
+            } else {
+                self.at - 1
+            },
+            Way::Right => if self.at + 1 == self.stations {
+                0
+            } else {
+                self.at + 1
+            },
+        };
+        Stop {
+            stations: self.stations,
+            at,
+        }
+    }
 }

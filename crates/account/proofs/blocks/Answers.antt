@@ -26,8 +26,8 @@ blocked : (s : List ℕ) (from : ℕ) (l : Limits) (done : ℕ) (start : Tally) 
 blocked s from l done start most count b at n t h room long a m steady p =
     record { count = 64 * b; counts = m; few = omega arith; within = omega arith; further = omega arith; steady = steady; passed = p }
 
-pub loop-b-init : goal.loop-b-init
-loop-b-init c =
+pub loop-init : goal.loop-init
+loop-init c =
     let p = c.requires in
     let few = least c.lesser-count.ensures in
     let fits = room_for (length c.args.s.now) c.args.from c.args.most c.args.done c.lesser-count.result p.0 p.3 few.0 few.1 in
@@ -35,30 +35,27 @@ loop-b-init c =
 
 pub block-next-requires : goal.block-next-requires
 block-next-requires c =
-    let L = c.loop-b in
-    let h = c.loop-b-test.true in
+    let L = c.loop in
+    let h = c.loop-test.true in
     (omega arith, rw L.invariant.5 (L.invariant.7 true).ready, omega arith, L.invariant.6)
 
 pub returns-then-not-good : goal.returns-then-not-good
 returns-then-not-good c =
-    let L = c.loop-b in
+    let L = c.loop in
     let i = L.invariant in
-    blocked _ _ _ _ _ _ _ L.b L.at L.n L.t i.0 i.1 i.3 i.4 i.5 i.6 i.7
+    blocked _ _ _ _ _ _ _ L.counter L.at L.n L.t i.0 i.1 i.3 i.4 i.5 i.6 i.7
 
-pub loop-b-smaller : goal.loop-b-smaller
-loop-b-smaller c = let L = c.loop-b in let h = c.loop-b-test.true in omega arith
-
-pub loop-b-preserved : goal.loop-b-preserved
-loop-b-preserved c =
-    let L = c.loop-b in
+pub loop-preserved : goal.loop-preserved
+loop-preserved c =
+    let L = c.loop in
     let i = L.invariant in
-    let h = c.loop-b-test.true in
+    let h = c.loop-test.true in
     let passed = c.block-next.ensures.steady c.if-not-good.false in
-    let more : 64 * L.b + 64 ≡ 64 * (L.b + 1) = omega arith in
-    (omega arith, i.1, i.2, i.3, omega (arith, i.4), one_more _ _ L.b i.5, passed.1, λ runs. rw more at (passed_then runs _ _ _ _ _ (64 * L.b) _ _ 64 _ _ (i.7 runs) (rw i.5 at (passed.0 runs))))
+    let more : 64 * L.counter + 64 ≡ 64 * (L.counter + 1) = omega arith in
+    (omega arith, i.1, i.2, i.3, omega (arith, i.4), one_more _ _ L.counter i.5, passed.1, λ runs. rw more at (passed_then runs _ _ _ _ _ (64 * L.counter) _ _ 64 _ _ (i.7 runs) (rw i.5 at (passed.0 runs))))
 
 pub returns : goal.returns
 returns c =
-    let L = c.loop-b in
+    let L = c.loop in
     let i = L.invariant in
-    blocked _ _ _ _ _ _ _ L.b L.at L.n L.t i.0 i.1 i.3 i.4 i.5 i.6 i.7
+    blocked _ _ _ _ _ _ _ L.counter L.at L.n L.t i.0 i.1 i.3 i.4 i.5 i.6 i.7

@@ -1,16 +1,18 @@
 -- Blocks go over to the tally as far as they have no fault, then items one by one; what is left keeps its answer.
 -- Assumes nothing.
-use Rattle.std.proofs.Common.{◌≡◌, ℕ, ◌+◌, ◌-◌, ◌≤◌, Bool, List, drop, sym, ◌∙◌, arith}
+use Rattle.std.specs.Prelude.{Ok, Err}
+use Rattle.std.proofs.Common.{◌≡◌, ℕ, ◌+◌, ◌-◌, ◌≤◌, Bool, List, drop, sym, ap, ◌∙◌, arith}
+use borrow.Author.Rules.{rules}
 use native.Mathlib.Nat.{sub-zero}
 use Rattle.shaper.specs.declared.Limits.{Limits}
 use Rattle.tally.specs.declared.Tally.{Tally}
 use Rattle.tally.specs.Tally.{Ready}
 use Rattle.tally.proofs.Laws.{start_ready}
 use Rattle.tally.proofs.Applied.{start_steady}
-use Rattle.summary.specs.declared.Answer.{Answer}
 use Rattle.account.specs.declared.Reach.{Reach}
-use Rattle.account.specs.Rest.{rest_of, Blocked, Onward}
+use Rattle.account.specs.Rest.{rest_of, Blocked, Onward, Goes}
 use Rattle.account.proofs.Rest.{rest_events, rest_end}
+use Rattle.summary.specs.Answer.{Answer}
 use Rattle.account.proofs.events.Goals as goal
 
 -- behind the blocks stands a tally to go on with, and what is left keeps its answer
@@ -49,7 +51,7 @@ returns-then-s-far c =
     let i = L.invariant in
     let b = c.blocks-far.ensures in
     let far = c.blocks-far.result in
-    c.summed.ensures
+    ap Ok c.summed.ensures
     ∙ sym (rest_end a.limits far.n far.tally (ready_far _ a.limits a.most a.runs L.at L.n L.t far b) a.runs 9 (a.most - far.n) a.s.now far.at c.if-s-far.true)
     ∙ rest_far _ a.limits a.most a.runs L.at L.n L.t far b i.1 _ i.5
 
@@ -63,16 +65,18 @@ walk-requires c =
     let i = L.invariant in
     let b = c.blocks-far.ensures in
     let far = c.blocks-far.result in
-    (b.within, ready_far _ a.limits a.most a.runs L.at L.n L.t far b, b.steady, omega (arith, b.few, i.2))
+    (c.if-s-far.false, ready_far _ a.limits a.most a.runs L.at L.n L.t far b, b.steady, omega (arith, b.few, i.2))
 
-pub returns-in-Ended : goal.returns-in-Ended
-returns-in-Ended c =
+pub returns-in_err-next : goal.returns-in_err-next
+returns-in_err-next c =
     let L = c.loop-limits in
     let a = c.args in
     let i = L.invariant in
     let b = c.blocks-far.ensures in
     let far = c.blocks-far.result in
-    c.in-Ended.ensures ∙ rest_far _ a.limits a.most a.runs L.at L.n L.t far b i.1 _ i.5
+    let e : c.from_residual.result ≡ Err c.in_err-next.field-0.0 = search rules in
+    let g : Goes a.runs 9 a.limits a.s.now far.at far.n far.tally (a.most - far.n) (Err c.in_err-next.field-0.0) = rw c.in_err-next.was at c.walk.ensures in
+    rw e (g ∙ rest_far _ a.limits a.most a.runs L.at L.n L.t far b i.1 _ i.5)
 
 pub loop-limits-smaller : goal.loop-limits-smaller
 loop-limits-smaller c =
@@ -81,7 +85,7 @@ loop-limits-smaller c =
     let i = L.invariant in
     let b = c.blocks-far.ensures in
     let far = c.blocks-far.result in
-    let w : Onward a.runs 9 a.limits a.s.now far.at far.n far.tally (a.most - far.n) c.in-On.next = c.in-On.ensures in
+    let w : Onward a.runs 9 a.limits a.s.now far.at far.n far.tally (a.most - far.n) c.in_ok-next.next = rw c.in_ok-next.was at c.walk.ensures in
     omega (arith, w.further, w.within, b.further)
 
 pub loop-limits-preserved : goal.loop-limits-preserved
@@ -91,6 +95,6 @@ loop-limits-preserved c =
     let i = L.invariant in
     let b = c.blocks-far.ensures in
     let far = c.blocks-far.result in
-    let w : Onward a.runs 9 a.limits a.s.now far.at far.n far.tally (a.most - far.n) c.in-On.next = c.in-On.ensures in
+    let w : Onward a.runs 9 a.limits a.s.now far.at far.n far.tally (a.most - far.n) c.in_ok-next.next = rw c.in_ok-next.was at c.walk.ensures in
     let all : far.n + (a.most - far.n) ≡ a.most = omega (arith, b.few) in
     (w.within, omega (arith, w.few), i.2, w.ready, w.steady, (rw all at w.same) ∙ rest_far _ a.limits a.most a.runs L.at L.n L.t far b i.1 _ i.5)

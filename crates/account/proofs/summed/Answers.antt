@@ -3,7 +3,6 @@
 use Rattle.std.proofs.Common.{ap, ◌∙◌, arith}
 use Rattle.shaper.specs.Limits.{most_events}
 use Rattle.tally.proofs.Laws.{within_more}
-use Rattle.summary.specs.declared.Answer.TheVariants.{Summed}
 use Rattle.summary.specs.Plain.{signed_from}
 use Rattle.account.proofs.Passed.{depth_max}
 use Rattle.account.proofs.summed.Goals as goal
@@ -20,4 +19,4 @@ signed-requires c =
     rw c.finish.ensures (omega arith, omega arith)
 
 pub returns : goal.returns
-returns c = ap Summed (c.signed.ensures ∙ ap signed_from c.finish.ensures)
+returns c = c.signed.ensures ∙ ap signed_from c.finish.ensures

@@ -1,7 +1,7 @@
 -- `advert::parse` meets its contract: a parse goes by whether the bytes are a whole frame, and such a frame has 12 bytes.
 -- Assumes nothing.
 use Rattle.decide.specs.Test.{facts}
-use Rattle.advert.specs.declared.Parsed.TheVariants.{Frame}
+use Rattle.std.specs.Prelude.{Ok}
 use Rattle.advert.specs.Frame.{whole}
 use Rattle.advert.proofs.Parsing.{parsed_whole, parsed_not}
 use mathlib.Core.Path.{sym, ap, ◌∙◌}
@@ -20,4 +20,4 @@ read-requires c =
 pub returns : goal.returns
 returns c =
     let xs : _ = c.args.frame.now in
-    ap Frame c.read.ensures ∙ sym (parsed_whole xs (sym c.is_whole.ensures ∙ c.if-not-is_whole.false))
+    ap Ok c.read.ensures ∙ sym (parsed_whole xs (sym c.is_whole.ensures ∙ c.if-not-is_whole.false))

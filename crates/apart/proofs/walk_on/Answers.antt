@@ -20,16 +20,16 @@ loop-k-init c =
     let none = walk_none a.a a.b a.first.now a.second.now a.walk in
     (omega arith, refl, omega arith, omega arith, sym none.0, rw none.1 (omega arith, sym (put_nil _ _)))
 
-pub returns-then-stops : goal.returns-then-stops
-returns-then-stops c =
+pub returns-then-turn : goal.returns-then-turn
+returns-then-turn c =
     let a = c.args in
     let l = c.loop-k in
-    let turned : c.turn-turn.result ≡ turn_of a.a a.b a.first.now a.second.now (walk_of l.k a.a a.b a.first.now a.second.now a.walk)
+    let turned : c.turn-turn.result ≡ turn_of a.a a.b a.first.now a.second.now (walk_of l._k a.a a.b a.first.now a.second.now a.walk)
     = rw (← l.invariant.4) c.turn-turn.ensures in
-    let all : l.k + (a.most - l.k) ≡ a.most = omega arith in
-    let stops = ap (λ t. t.stops) (sym turned) ∙ c.if-stops.true in
-    let same = ap (λ m. walk_of m a.a a.b a.first.now a.second.now a.walk) (sym all) ∙ stays a.a a.b a.first.now a.second.now l.k a.walk stops (a.most - l.k) ∙ sym l.invariant.4 in
-    let text = ap (λ m. walk_text m a.a a.b a.first.now a.second.now a.walk) (sym all) ∙ silent a.a a.b a.first.now a.second.now l.k a.walk stops (a.most - l.k) in
+    let all : l._k + (a.most - l._k) ≡ a.most = omega arith in
+    let stops = ap (λ t. t.stops) (sym turned) ∙ c.if-turn.true in
+    let same = ap (λ m. walk_of m a.a a.b a.first.now a.second.now a.walk) (sym all) ∙ stays a.a a.b a.first.now a.second.now l._k a.walk stops (a.most - l._k) ∙ sym l.invariant.4 in
+    let text = ap (λ m. walk_text m a.a a.b a.first.now a.second.now a.walk) (sym all) ∙ silent a.a a.b a.first.now a.second.now l._k a.walk stops (a.most - l._k) in
     record {
       value = rw (same, text, ← l.invariant.5.0) refl;
       end_bound = omega arith;
@@ -56,15 +56,15 @@ loop-k-preserved c =
     = rw c.turn-turn.ensures (turn_short a.a a.b a.first.now a.second.now l.now bytes others (omega arith)) in
     let near : c.turn-turn.result.walk.position ≤ l.now.position + most_of_run
     = rw c.turn-turn.ensures (turn_near a.a a.b a.first.now a.second.now l.now bytes others) in
-    let turned : c.turn-turn.result ≡ turn_of a.a a.b a.first.now a.second.now (walk_of l.k a.a a.b a.first.now a.second.now a.walk)
+    let turned : c.turn-turn.result ≡ turn_of a.a a.b a.first.now a.second.now (walk_of l._k a.a a.b a.first.now a.second.now a.walk)
     = rw (← l.invariant.4) c.turn-turn.ensures in
     let call = c.put_line-end.ensures in
-    let more = text_more a.a a.b a.first.now a.second.now l.k a.walk in
-    let line = ap (λ x. line_text x.position c.turn-turn.result.line) l.invariant.4 ∙ ap (λ x. line_text (walk_of l.k a.a a.b a.first.now a.second.now a.walk).position x.line) turned in (
+    let more = text_more a.a a.b a.first.now a.second.now l._k a.walk in
+    let line = ap (λ x. line_text x.position c.turn-turn.result.line) l.invariant.4 ∙ ap (λ x. line_text (walk_of l._k a.a a.b a.first.now a.second.now a.walk).position x.line) turned in (
       omega arith,
       omega arith,
       omega (arith, near),
       omega (arith, short, call.value),
-      ap (λ x. x.walk) turned ∙ sym (walk_more a.a a.b a.first.now a.second.now l.k a.walk),
+      ap (λ x. x.walk) turned ∙ sym (walk_more a.a a.b a.first.now a.second.now l._k a.walk),
       rw (more, ← line) (filled_more _ _ _ _ _ _ _ _ l.invariant.5 (call.value, call.s_after) (omega (arith, short, call.value))),
     )

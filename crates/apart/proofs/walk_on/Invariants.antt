@@ -6,8 +6,5 @@ use Rattle.apart.proofs.walk_on.Given as goal
 
 abbrev pub invariant-loop-k : goal.invariant-loop-k
 invariant-loop-k l =
-    (l.k ≤ l.most) × (length l.room ≡ length l.initial.room) × (l.now.position ≤ l.fn.walk.position + most_of_run * l.k) × (l.end ≤ l.at + 88 * l.k)
-    × (l.now ≡ walk_of l.k l.a l.b l.first l.second l.fn.walk) × Filled l.initial.room l.at (walk_text l.k l.a l.b l.first l.second l.fn.walk) l.end l.room
-
-abbrev pub decreases-loop-k : goal.decreases-loop-k
-decreases-loop-k l = l.most - l.k
+    (l._k ≤ l.most) × (length l.room ≡ length l.initial.room) × (l.now.position ≤ l.fn.walk.position + most_of_run * l._k) × (l.end ≤ l.at + 88 * l._k)
+    × (l.now ≡ walk_of l._k l.a l.b l.first l.second l.fn.walk) × Filled l.initial.room l.at (walk_text l._k l.a l.b l.first l.second l.fn.walk) l.end l.room

@@ -6,7 +6,7 @@ use Rattle.shaper.specs.Limits.{most_events}
 use Rattle.tally.proofs.Laws.{within_more}
 use Rattle.summary.specs.Plain.{signed_from}
 use Rattle.account.proofs.Passed.{depth_max}
-use Rattle.excerpt.specs.declared.Excerpt.TheVariants.{Summed}
+use Rattle.excerpt.specs.Excerpt.{with_place}
 use Rattle.excerpt.proofs.ended.Goals as goal
 
 pub finish-requires : goal.finish-requires
@@ -21,4 +21,4 @@ signed-sum-requires c =
     rw c.finish.ensures (omega arith, omega arith)
 
 pub returns : goal.returns
-returns c = ap (λ s. Summed s c.args.next) (c.signed-sum.ensures ∙ ap signed_from c.finish.ensures)
+returns c = ap (λ s. with_place s c.args.next) (c.signed-sum.ensures ∙ ap signed_from c.finish.ensures)

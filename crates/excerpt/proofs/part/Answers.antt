@@ -2,11 +2,11 @@
 -- Assumes nothing.
 use Prim.Native.Nat.{ℕ, ◌+◌, ◌-◌, ◌*◌, ◌≤◌}
 use mathlib.Core.Bool.{false}
-use mathlib.Core.Path.{◌≡◌, sym, ◌∙◌}
+use mathlib.Core.Path.{◌≡◌, sym, ap, ◌∙◌}
 use native.Mathlib.Omega.{arith}
 use lib.ListN.{length, take, drop}
+use Rattle.std.specs.Prelude.{Ok}
 use Rattle.tally.proofs.Laws.{start_ready}
-use Rattle.summary.specs.declared.Answer.{Answer}
 use Rattle.account.specs.Account.{events_of}
 use Rattle.excerpt.proofs.Faults.{fault_early, fault_there, item_none}
 use Rattle.excerpt.proofs.Walk.{part_start, part_end, excerpt_stops}
@@ -21,7 +21,7 @@ returns-then-count-eq0 c =
     let a = c.args in
     let bytes = λ (j : ℕ). c.type_inv.s j in
     let ready = start_ready a.limits c.requires.0 in
-    c.ended.ensures ∙ rw (c.start.ensures, c.if-count-eq0.true)
+    ap Ok c.ended.ensures ∙ rw (c.start.ensures, c.if-count-eq0.true)
     (sym (part_start a.limits c.requires.0 a.s.now (λ j. (bytes j).fits) 0 a.place ∙ part_end a.limits 0 _ ready a.s.now a.place))
 
 pub returns-then-at-lt-HEADER : goal.returns-then-at-lt-HEADER
@@ -36,11 +36,11 @@ returns-then-s-at c =
     let there = fault_there a.limits.mtu a.s.now a.place.at a.place.gone 2 c.if-at-lt-HEADER.false none (omega arith) in
     sym (excerpt_stops a.limits a.count a.s.now a.place 2 (omega (arith, c.if-count-eq0.false)) (omega arith) (there ∙ rw c.if-gone-ne0.false))
 
-pub returns-in-Summed : goal.returns-in-Summed
-returns-in-Summed c =
+pub returns-in-Ok : goal.returns-in-Ok
+returns-in-Ok c =
     let a = c.args in
-    let sum = c.in-Summed.sum in
+    let sum = c.in-Ok.sum in
     let six : a.place.at + 6 * a.count - a.place.at ≡ 6 * a.count = omega arith in
-    let e : events_of false a.limits a.count (take (a.place.at + 6 * a.count - a.place.at) (drop a.place.at a.s.now)) ≡ Answer.Summed sum = cc in
+    let e : events_of false a.limits a.count (take (a.place.at + 6 * a.count - a.place.at) (drop a.place.at a.s.now)) ≡ Ok sum = cc in
     let room : a.place.at + 6 * a.count ≤ length a.s.now = omega (arith, c.if-s-at-2.false, c.if-s-at.false) in
     sym (rw c.if-gone-ne0.false (plain_excerpt a.limits a.s.now a.count a.place.at sum room c.if-at-lt-HEADER.false (rw six at e)))

@@ -6,5 +6,5 @@ use Rattle.excerpt.proofs.refused.Goals as goal
 pub returns-then-gone-eq0 : goal.returns-then-gone-eq0
 returns-then-gone-eq0 c = rw (eq-eqb _ _ c.if-gone-eq0.true)
 
-pub returns : goal.returns
-returns c = rw (ne_eqb _ _ c.if-gone-eq0.false)
+pub returns-else-gone-eq0 : goal.returns-else-gone-eq0
+returns-else-gone-eq0 c = rw (ne_eqb _ _ c.if-gone-eq0.false)

@@ -8,8 +8,8 @@ use Rattle.feed.proofs.at_once.Goals as goal
 pub slice_bounds-with_items-end : goal.slice_bounds-with_items-end
 slice_bounds-with_items-end c = sym (length-take-le _ _ (omega arith))
 
-pub slice_bounds-with_items-end-in-Refused : goal.slice_bounds-with_items-end-in-Refused
-slice_bounds-with_items-end-in-Refused c = sym (length-take-le _ _ c.items_end-end.ensures.1)
+pub slice_bounds-with_items-end-in-Err : goal.slice_bounds-with_items-end-in-Err
+slice_bounds-with_items-end-in-Err c = sym (length-take-le _ _ c.items_end-end.ensures.1)
 
-pub returns-in-Summed : goal.returns-in-Summed
-returns-in-Summed c = record { some = omega arith; within = omega arith; same = sym c.in-Summed.is ∙ c.with_items.ensures }
+pub returns-in-Ok : goal.returns-in-Ok
+returns-in-Ok c = record { some = omega arith; within = omega arith; same = sym c.in-Ok.is ∙ c.with_items.ensures }

@@ -1,4 +1,4 @@
--- `heard::is_own_address` meets its contract: the comparisons are the definition's.
+-- The code is the test, comparison for comparison.
 -- Assumes nothing.
 use mathlib.Core.Path.{refl}
 use Rattle.decide.specs.Test.{test}

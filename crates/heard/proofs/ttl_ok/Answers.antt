@@ -1,9 +1,9 @@
--- `heard::ttl_ok` meets its contract: the comparisons are the definition's.
+-- The range that the code asks for is the test.
 -- Assumes nothing.
-use mathlib.Core.Path.{refl}
+use borrow.Author.Rules.{rules}
 use Rattle.decide.specs.Test.{test}
 use Rattle.heard.proofs.ttl_ok.Goals as goal
 
 pub returns : goal.returns
 unfolding test
-returns c = refl
+returns c = search rules

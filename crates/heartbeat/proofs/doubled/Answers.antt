@@ -16,31 +16,31 @@ overflow_cast-digits c = omega (arith, leading_le 64 c.args.repeats)
 pub overflow_sub-digits : goal.overflow_sub-digits
 overflow_sub-digits c = leading_le 64 c.args.repeats
 
-pub loop-digits-init : goal.loop-digits-init
+pub loop-digit-init : goal.loop-digit-init
 unfolding digits_in doubling
-loop-digits-init c =
+loop-digit-init c =
     let e : digits_in c.args.repeats - (64 - count_leading_zeros 64 c.args.repeats) ≡ 0 = omega arith in
     (omega arith, rw (e, c.none-all.ensures))
 
 pub overflow_shr-repeats : goal.overflow_shr-repeats
 unfolding digits_in
-overflow_shr-repeats c = omega (arith, c.loop-digits.invariant.0)
+overflow_shr-repeats c = omega (arith, c.loop-digit.invariant.0)
 
 pub twice-all-requires : goal.twice-all-requires
 unfolding digits_in
 twice-all-requires c =
-    let L = c.loop-digits in
+    let L = c.loop-digit in
     let a = c.args in
-    let k = digits_in a.repeats - L.digits in
-    rw L.invariant.1 (omega (arith, doubling_joins k a.one (a.repeats / 2 ^ L.digits)))
+    let k = digits_in a.repeats - L.digit in
+    rw L.invariant.1 (omega (arith, doubling_joins k a.one (a.repeats / 2 ^ L.digit)))
 
-pub loop-digits-preserved : goal.loop-digits-preserved
-loop-digits-preserved c =
-    let L = c.loop-digits in
+pub loop-digit-preserved : goal.loop-digit-preserved
+loop-digit-preserved c =
+    let L = c.loop-digit in
     let a = c.args in
     let k = digits_in a.repeats in
-    let d : ℕ = L.digits - 1 in
-    let e : L.digits ≡ suc d = omega arith in (
+    let d : ℕ = L.digit - 1 in
+    let e : L.digit ≡ suc d = omega arith in (
       omega (arith, L.invariant.0),
       c.twice-all.ensures
           ∙ ap (twice_of (eqb (a.repeats / 2 ^ d % 2) 1) a.one) (L.invariant.1 ∙ ap (λ (n : ℕ). doubling (k - n) a.one (a.repeats / 2 ^ n)) e)
@@ -51,7 +51,7 @@ pub returns : goal.returns
 unfolding doubling_of
 returns c =
     let a = c.args in
-    let z : c.loop-digits.digits ≡ 0 = omega arith in
-    c.loop-digits.invariant.1
+    let z : c.loop-digit.digit ≡ 0 = omega arith in
+    c.loop-digit.invariant.1
     ∙ ap (λ (n : ℕ). doubling (digits_in a.repeats - n) a.one (a.repeats / 2 ^ n)) z
     ∙ rw (sub-zero (digits_in a.repeats), div-one a.repeats)

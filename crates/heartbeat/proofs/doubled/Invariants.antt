@@ -5,8 +5,5 @@ use mathlib.Core.Path.{◌≡◌}
 use Rattle.heartbeat.specs.Doubling.{doubling, digits_in}
 use Rattle.heartbeat.proofs.doubled.Given as goal
 
-abbrev pub invariant-loop-digits : goal.invariant-loop-digits
-invariant-loop-digits l = (l.digits ≤ digits_in l.repeats) × (l.all ≡ doubling (digits_in l.repeats - l.digits) l.one (l.repeats / 2 ^ l.digits))
-
-abbrev pub decreases-loop-digits : goal.decreases-loop-digits
-decreases-loop-digits l = l.digits
+abbrev pub invariant-loop-digit : goal.invariant-loop-digit
+invariant-loop-digit l = (l.digit ≤ digits_in l.repeats) × (l.all ≡ doubling (digits_in l.repeats - l.digit) l.one (l.repeats / 2 ^ l.digit))

@@ -1,7 +1,7 @@
 -- The empty summary, and no join.
 -- Assumes nothing.
 use mathlib.Core.Path.{ap}
-use Rattle.summary.specs.declared.Answer.{Answer}
+use Rattle.summary.specs.Answer.{Answer}
 use Rattle.heartbeat.specs.declared.Repeats.{Repeats}
 use Rattle.heartbeat.proofs.none.Goals as goal
 
@@ -10,4 +10,4 @@ abbrev unjoined : Answer → Repeats
 unjoined a = record { sum = a; joins = 0 }
 
 pub returns : goal.returns
-returns c = ap unjoined c.empty-empty.ensures
+returns c = ap unjoined c.empty.ensures

@@ -12,5 +12,5 @@ returns-then-not-in_range c = sym (repeated_3 _ _ (sym c.in_range.ensures ∙ c.
 
 pub returns : goal.returns
 returns c =
-    ap (λ (d : Repeats). d.sum) c.doubled-all.ensures
+    ap (λ (d : Repeats). d.sum) c.doubled.ensures
     ∙ doubles _ (sym c.in_range.ensures ∙ c.if-not-in_range.false) _ (omega arith)

@@ -1,21 +1,19 @@
 -- By the join's answer.
 -- Assumes nothing.
-use mathlib.Core.Path.{◌≡◌, sym, ◌∙◌}
-use Rattle.summary.specs.declared.Answer.{Answer}
-use Rattle.summary.specs.Answer.{join_of}
-use Rattle.index.specs.Fill.{both_of}
+use Rattle.std.specs.Prelude.{Ok, Err}
+use Rattle.std.specs.Result.{result_unwrap_or}
+use mathlib.Core.Path.{◌≡◌, refl, ap, ◌∙◌}
+use Rattle.summary.specs.declared.Summary.{Summary}
+use Rattle.summary.specs.Answer.{Answer, join_of}
+use Rattle.index.specs.Fill.{both_by, both_of}
 use Rattle.index.proofs.both.Goals as goal
 
-pub returns-in-Summed : goal.returns-in-Summed
-unfolding both_of
-returns-in-Summed c =
-    let a = c.args in
-    let e : join_of a.first a.second ≡ Answer.Summed c.in-Summed.sum = sym c.join.ensures ∙ c.in-Summed.is in
-    rw e
+same : (a : Summary) (r : Answer) → result_unwrap_or r a ≡ both_by a r
+same a (Ok s) = refl
+same a (Err f) = refl
 
-pub returns-in-Refused : goal.returns-in-Refused
+pub returns : goal.returns
 unfolding both_of
-returns-in-Refused c =
+returns c =
     let a = c.args in
-    let e = sym c.join.ensures ∙ c.in-Refused.is in
-    rw e
+    c.unwrap_or.ensures ∙ ap (λ (r : Answer). result_unwrap_or r a.first) c.join.ensures ∙ same a.first (join_of a.first a.second)

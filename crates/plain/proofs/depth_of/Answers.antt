@@ -1,18 +1,30 @@
--- The number that stands for the ceiling tells its sign; in each case the depth is a sum of natural numbers.
+-- By the sign of the ceiling, whose absolute value is what is added or taken off.
 -- Assumes nothing.
-use mathlib.Core.Path.{ap, ◌∙◌}
+use Prim.Native.Nat.{ℕ, ◌+◌, ◌-◌}
+use mathlib.Core.Bool.{true, false, false≢true}
+use mathlib.Core.Path.{◌≡◌, sym, ◌∙◌}
 use native.Mathlib.Omega.{arith}
+use borrow.Author.Tests.{ltb-true}
+use lib.IntN.{ℤ, pos, negsuc, nat_abs}
+use lib.Signed.{lt_z}
 use mir.Facts.{to_z-of_z}
-use Rattle.wire.specs.Signed.{unsigned_of}
-use Rattle.plain.proofs.Ceiling.{depth_low, depth_high}
+use Rattle.plain.specs.Ceiling.{depth_below}
 use Rattle.plain.proofs.depth_of.Goals as goal
 
-pub returns-then-bits-lt9223372036854775808 : goal.returns-then-bits-lt9223372036854775808
-returns-then-bits-lt9223372036854775808 c =
-    let e = c.unsigned64-bits.ensures ∙ ap unsigned_of (to_z-of_z c.ranges.ceiling) in
-    omega (arith, depth_low c.args.hi c.args.ceiling c.ranges.ceiling.sfits (omega arith))
+below_zero : (hi : ℕ) (y z : ℤ) → y ≡ z → lt_z y (pos 0) ≡ true → hi + nat_abs y ≡ depth_below hi z
+unfolding depth_below
+below_zero hi (pos n) z e h = let l = ltb-true n 0 h in absurd (omega arith)
+below_zero hi (negsuc n) z e h = rw (sym e) (omega arith)
 
-pub returns : goal.returns
-returns c =
-    let e = c.unsigned64-bits.ensures ∙ ap unsigned_of (to_z-of_z c.ranges.ceiling) in
-    omega (arith, depth_high c.args.hi c.args.ceiling c.ranges.ceiling.sfits (omega arith))
+from_zero : (hi : ℕ) (y z : ℤ) → y ≡ z → lt_z y (pos 0) ≡ false → hi - nat_abs y ≡ depth_below hi z
+unfolding depth_below
+from_zero hi (pos n) z e h = rw (sym e) (omega arith)
+from_zero hi (negsuc n) z e h = absurd (false≢true (sym h))
+
+pub returns-then-ceiling-lt0 : goal.returns-then-ceiling-lt0
+returns-then-ceiling-lt0 c =
+    rw c.unsigned_abs.ensures.value (below_zero c.args.hi _ c.args.ceiling (to_z-of_z c.ranges.ceiling) c.if-ceiling-lt0.true)
+
+pub returns-else-ceiling-lt0 : goal.returns-else-ceiling-lt0
+returns-else-ceiling-lt0 c =
+    c.saturating_sub.ensures ∙ from_zero c.args.hi _ c.args.ceiling (to_z-of_z c.ranges.ceiling) c.if-ceiling-lt0.false

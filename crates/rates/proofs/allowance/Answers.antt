@@ -18,19 +18,12 @@ cut u (suc n) k h =
     let e : min k 4294967295 ≡ 4294967295 = omega arith in
     ap (λ (m : ℕ). min u (suc n * m)) e ∙ omega (arith, mul-le-mul_right {m = 1} {n = suc n} k (omega arith)))
 
-pub overflow_mul-weight : goal.overflow_mul-weight
-overflow_mul-weight c = omega (arith, mul-le-mul_right {m = c.args.weight} {n = 4294967295} c.args.unit (omega arith))
-
-pub overflow_mul-received : goal.overflow_mul-received
-overflow_mul-received c =
-    omega (arith, mul-le-mul_right {m = c.args.received} {n = 4294967295} c.lesser-factor.result (omega arith))
-
 pub returns : goal.returns
 unfolding allowance_of
 returns c =
     let a : _ = c.args in
     let u : ℕ = a.unreserved in
-    c.lesser.ensures
-    ∙ ap (λ (k : ℕ). min u (a.received * k)) c.lesser-factor.ensures
+    c.min.ensures
+    ∙ ap (λ (k : ℕ). min u (a.received * k)) c.min-factor.ensures
     ∙ cut u a.received (a.weight * a.unit) (omega arith)
     ∙ ap (λ (p : ℕ). min u p) (sym (mul_assoc a.received a.weight a.unit))

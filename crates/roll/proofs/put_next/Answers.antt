@@ -1,19 +1,10 @@
 -- A run's ticks are put one by one, and an event alone.
 -- Assumes nothing.
-use Prim.Native.Nat.{ℕ, ◌+◌, ◌*◌, ◌/◌, ◌%◌}
-use mathlib.Core.List.{List}
-use mathlib.Core.Path.{◌≡◌, sym, ap, ◌∙◌}
+use Prim.Native.Nat.{◌+◌, ◌*◌}
+use mathlib.Core.Path.{sym, ap, ◌∙◌}
 use native.Mathlib.Omega.{arith}
-use Rattle.wire.specs.Wire.{le, Bytes}
-use Rattle.wire.proofs.Numbers.{le_halves}
-use Rattle.roll.proofs.Laying.{RunFields, run_fields_lem, EventFields, event_fields_lem, item_least, repeated_one}
+use Rattle.roll.proofs.Laying.{word_read, RunFields, run_fields_lem, EventFields, event_fields_lem, item_least, repeated_one}
 use Rattle.roll.proofs.put_next.Goals as goal
-
--- a word that is read is the two numbers that it stands for, by `le_halves`
-halves : (xs : List ℕ) (at next w k v : ℕ) → Bytes xs → next ≡ at + 2 → w ≡ le 4 xs at → k ≡ le 2 xs at → v ≡ le 2 xs next → (w % 65536 ≡ k) × (w / 65536 ≡ v)
-halves xs at next w k v b n e ek ev =
-    let h = le_halves xs at b in
-    (ap (λ (x : ℕ). x % 65536) e ∙ h.0 ∙ sym ek, ap (λ (x : ℕ). x / 65536) e ∙ h.1 ∙ sym (rw n at ev))
 
 pub get16-kind-requires : goal.get16-kind-requires
 get16-kind-requires c = omega (arith, c.requires.0, item_least c.args.s.now c.args.at)
@@ -41,14 +32,14 @@ returns-then-kind-eq-RUN c =
     let f = runs in
     let put = c.put_ticks-after.ensures in
     let count = c.get16-count.ensures ∙ sym f.count in
-    let tick = halves a.s.now (a.at + 4) (a.at + 6) _ _ _ (λ j. (bytes j).fits) (omega arith) c.get32-tick.ensures f.kind f.number in
+    let tick = word_read a.s.now (a.at + 4) (a.at + 6) _ _ _ (λ j. (bytes j).fits) (omega arith) c.get32-tick.ensures f.kind f.number in
     record { at_value = (omega (arith, f.size), put.value ∙ ap (λ n. a.end + 6 * n) count); room_after = rw (count, tick.1, tick.0) at put.s_after }
 
 pub get32-event-requires : goal.get32-event-requires
 get32-event-requires c = omega (arith, c.requires.0, item_least c.args.s.now c.args.at)
 
-pub put_word-requires : goal.put_word-requires
-put_word-requires c =
+pub put_event-requires : goal.put_event-requires
+put_event-requires c =
     let event : EventFields c.args.s.now c.args.at = event_fields_lem _ _ (λ e. c.if-kind-eq-RUN.false (c.get16-kind.ensures ∙ e)) in
     omega (arith, c.requires.1, event.count)
 
@@ -58,6 +49,6 @@ returns c =
     let a = c.args in
     let bytes = c.type_inv.s in
     let f = event in
-    let word = halves a.s.now (a.at + 2) (a.at + 4) _ _ _ (λ j. (bytes j).fits) (omega arith) c.get32-event.ensures f.kind f.number in
-    let put = rw (word.0, word.1) at c.put_word.ensures in
+    let word = word_read a.s.now (a.at + 2) (a.at + 4) _ _ _ (λ j. (bytes j).fits) (omega arith) c.get32-event.ensures f.kind f.number in
+    let put = rw (word.0, word.1) at c.put_event.ensures in
     record { at_value = (omega (arith, f.size), omega (arith, f.count)); room_after = rw (f.count, repeated_one) put }

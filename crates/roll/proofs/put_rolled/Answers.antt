@@ -1,8 +1,10 @@
 -- What is put from there on leaves what the whole leaves: the header first, then each turn an item.
 -- Assumes nothing.
-use mathlib.Core.Path.{◌≡◌, ◌∙◌}
+use Prim.Native.Nat.{◌+◌}
+use mathlib.Core.Path.{sym, ◌∙◌}
 use native.Mathlib.Omega.{arith}
 use Rattle.shaper.specs.Kind.{kind_of, number_of}
+use Rattle.roll.proofs.Laying.{word_read}
 use Rattle.roll.proofs.Moving.{rolling, rolling_long, left_some, Taken, left_next, laid_start, laid_next, laid_end, laid_length, laid_whole, room_for_header, header_kept}
 use Rattle.roll.proofs.put_rolled.Goals as goal
 
@@ -27,22 +29,8 @@ overflow_add-at c =
     let taken : Taken a.s.now L.at L.end c.same_ahead-n.result L.invariant.1.ahead.rest = left_next _ L.at L.end _ L.invariant.1.ahead c.loop-at-test.true c.same_ahead-n.ensures in
     omega (arith, taken.some, taken.within)
 
-pub get16-kind-requires : goal.get16-kind-requires
-get16-kind-requires c =
-    let L = c.loop-at in
-    let a = c.args in
-    let taken : Taken a.s.now L.at L.end c.same_ahead-n.result L.invariant.1.ahead.rest = left_next _ L.at L.end _ L.invariant.1.ahead c.loop-at-test.true c.same_ahead-n.ensures in
-    omega (arith, taken.some, taken.within)
-
-pub overflow_add-at-in-loop-at : goal.overflow_add-at-in-loop-at
-overflow_add-at-in-loop-at c =
-    let L = c.loop-at in
-    let a = c.args in
-    let taken : Taken a.s.now L.at L.end c.same_ahead-n.result L.invariant.1.ahead.rest = left_next _ L.at L.end _ L.invariant.1.ahead c.loop-at-test.true c.same_ahead-n.ensures in
-    omega (arith, taken.some, taken.within)
-
-pub get16-number-requires : goal.get16-number-requires
-get16-number-requires c =
+pub get32-event-requires : goal.get32-event-requires
+get32-event-requires c =
     let L = c.loop-at in
     let a = c.args in
     let taken : Taken a.s.now L.at L.end c.same_ahead-n.result L.invariant.1.ahead.rest = left_next _ L.at L.end _ L.invariant.1.ahead c.loop-at-test.true c.same_ahead-n.ensures in
@@ -64,8 +52,8 @@ overflow_mul-at c =
     let taken : Taken a.s.now L.at L.end c.same_ahead-n.result L.invariant.1.ahead.rest = left_next _ L.at L.end _ L.invariant.1.ahead c.loop-at-test.true c.same_ahead-n.ensures in
     omega (arith, taken.few)
 
-pub overflow_add-at-in-loop-at-2 : goal.overflow_add-at-in-loop-at-2
-overflow_add-at-in-loop-at-2 c =
+pub overflow_add-at-in-loop-at : goal.overflow_add-at-in-loop-at
+overflow_add-at-in-loop-at c =
     let L = c.loop-at in
     let a = c.args in
     let taken : Taken a.s.now L.at L.end c.same_ahead-n.result L.invariant.1.ahead.rest = left_next _ L.at L.end _ L.invariant.1.ahead c.loop-at-test.true c.same_ahead-n.ensures in
@@ -85,10 +73,9 @@ loop-at-preserved c =
     let taken : Taken a.s.now L.at L.end c.same_ahead-n.result L.invariant.1.ahead.rest = left_next _ L.at L.end _ L.invariant.1.ahead c.loop-at-test.true c.same_ahead-n.ensures in
     let L = c.loop-at in
     let k = taken in
-    let kind : c.get16-kind.result ≡ kind_of k.first = c.get16-kind.ensures ∙ k.fields.kind in
-    let number : c.get16-number.result ≡ number_of k.first = c.get16-number.ensures ∙ k.fields.number in
+    let event = word_read a.s.now (L.at + 2) (L.at + 4) _ (kind_of k.first) (number_of k.first) (λ j. (c.type_inv.s j).fits) (omega arith) c.get32-event.ensures (sym k.fields.kind) (sym k.fields.number) in
     let put = c.put_item-end.ensures in
-    (k.within, rw put.value (laid_next _ _ L.room _ L.at L.end _ L.invariant.1 k (rw (kind, number) at put.s_after)))
+    (k.within, rw put.value (laid_next _ _ L.room _ L.at L.end _ L.invariant.1 k (rw (event.0, event.1) at put.s_after)))
 
 pub shape_of-room : goal.shape_of-room
 shape_of-room c =

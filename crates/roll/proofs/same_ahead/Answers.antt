@@ -70,4 +70,5 @@ pub returns : goal.returns
 returns c e es same fit =
     let L = c.loop-n in
     let a = c.args in
-    found_full a.s.now a.from L.n L.at e es (L.invariant.5 e es same fit) (omega arith)
+    let all : 65535 ≡ L.n = omega (arith, L.auto.n-end) in
+    all ∙ found_full a.s.now a.from L.n L.at e es (L.invariant.5 e es same fit) (omega arith)

@@ -1,56 +1,45 @@
 -- The summary tells that the record is read whole, or refuses; 14 bytes and 6 for each event is that of the output.
 -- Assumes nothing.
-use Prim.Native.Nat.{◌+◌, ◌*◌}
+use Rattle.std.specs.Prelude.{Ok}
+use Prim.Native.Nat.{ℕ, ◌+◌, ◌*◌}
 use mathlib.Core.Bool.{true}
+use mathlib.Core.List.{List}
 use mathlib.Core.Path.{◌≡◌, sym, ap, ◌∙◌}
 use native.Mathlib.Omega.{arith}
+use borrow.Author.Rules.{rules}
 use lib.ListN.{length}
-use Rattle.summary.specs.declared.Answer.TheVariants.{Summed, Refused}
-use Rattle.account.specs.Account.{summarize_in}
-use Rattle.roll.specs.declared.Moved.TheVariants.{Written}
+use Rattle.summary.specs.declared.Summary.{Summary}
 use Rattle.roll.specs.Moved.{unrolled_bytes}
 use Rattle.roll.specs.Steps.{output_of}
-use Rattle.roll.proofs.Told as T
-use Rattle.roll.proofs.Told.{summed, told_short, told_written, unroll_refused, unroll_output}
+use Rattle.roll.proofs.Told.{Summed, summed, told_short, told_written, unroll_refused, unroll_output}
 use Rattle.roll.proofs.Unrolling.{length_read}
 use Rattle.roll.proofs.unroll.Goals as goal
 
+needed : (xs : List ℕ) (s : Summary) → Summed true xs s → length (output_of (unrolled_bytes xs)) ≡ 14 + 6 * s.events
+needed xs s k = length_read _ _ k.reads ∙ ap (λ (n : ℕ). 14 + 6 * n) (sym k.counts)
+
 pub returns-then-room-need : goal.returns-then-room-need
 returns-then-room-need c =
-    let known : T.Summed true c.args.s.now c.in-Summed.sum = let a = c.args in
-    let e : summarize_in true a.s.now ≡ Summed c.in-Summed.sum = cc in
-    summed true a.s.now _ (λ j. (c.type_inv.s j).fits) e in
-    let needed : length (output_of (unrolled_bytes c.args.s.now)) ≡ 14 + 6 * c.in-Summed.sum.events = let k = known in
-    length_read _ _ k.reads ∙ ap (λ n. 14 + 6 * n) (sym k.counts) in
     let a = c.args in
-    let k = known in
-    let r = told_short _ a.room.now _ (unroll_output a.s.now _ k.reads) (omega (arith, needed)) in
+    let known = summed true a.s.now _ (λ j. (c.type_inv.s j).fits) (sym c.summarize.ensures ∙ c.in_ok-sum.was) in
+    let r = told_short _ a.room.now _ (unroll_output a.s.now _ known.reads) (omega (arith, needed a.s.now _ known)) in
     record { value = sym r.0; room_after = sym r.1 }
 
 pub put_unrolled-requires : goal.put_unrolled-requires
 put_unrolled-requires c =
-    let known : T.Summed true c.args.s.now c.in-Summed.sum = let a = c.args in
-    let e : summarize_in true a.s.now ≡ Summed c.in-Summed.sum = cc in
-    summed true a.s.now _ (λ j. (c.type_inv.s j).fits) e in
-    let needed : length (output_of (unrolled_bytes c.args.s.now)) ≡ 14 + 6 * c.in-Summed.sum.events = let k = known in
-    length_read _ _ k.reads ∙ ap (λ n. 14 + 6 * n) (sym k.counts) in
-    (known.reads, omega (arith, needed))
+    let known = summed true c.args.s.now _ (λ j. (c.type_inv.s j).fits) (sym c.summarize.ensures ∙ c.in_ok-sum.was) in
+    (known.reads, omega (arith, needed c.args.s.now _ known))
 
-pub returns-else-room-need : goal.returns-else-room-need
-returns-else-room-need c =
-    let known : T.Summed true c.args.s.now c.in-Summed.sum = let a = c.args in
-    let e : summarize_in true a.s.now ≡ Summed c.in-Summed.sum = cc in
-    summed true a.s.now _ (λ j. (c.type_inv.s j).fits) e in
-    let needed : length (output_of (unrolled_bytes c.args.s.now)) ≡ 14 + 6 * c.in-Summed.sum.events = let k = known in
-    length_read _ _ k.reads ∙ ap (λ n. 14 + 6 * n) (sym k.counts) in
+pub returns : goal.returns
+returns c =
     let a = c.args in
-    let k = known in
-    let r = told_written _ a.room.now _ (unroll_output a.s.now _ k.reads) (omega (arith, needed)) in
-    record { value = ap Written (sym needed) ∙ sym r.0; room_after = c.put_unrolled.ensures ∙ sym r.1 }
+    let known = summed true a.s.now _ (λ j. (c.type_inv.s j).fits) (sym c.summarize.ensures ∙ c.in_ok-sum.was) in
+    let long = needed a.s.now _ known in
+    let r = told_written _ a.room.now _ (unroll_output a.s.now _ known.reads) (omega (arith, long)) in
+    record { value = ap Ok (sym long) ∙ sym r.0; room_after = c.put_unrolled.ensures ∙ sym r.1 }
 
-pub returns-in-Refused : goal.returns-in-Refused
-returns-in-Refused c =
+pub returns-in_err-sum : goal.returns-in_err-sum
+returns-in_err-sum c =
     let a = c.args in
-    let e : summarize_in true a.s.now ≡ Refused c.in-Refused.n = cc in
-    let r = unroll_refused a.s.now _ a.room.now e in
-    record { value = sym r.0; room_after = sym r.1 }
+    let r = unroll_refused a.s.now _ a.room.now (sym c.summarize.ensures ∙ c.in_err-sum.was) in
+    record { value = rw r.0 (search rules); room_after = sym r.1 }

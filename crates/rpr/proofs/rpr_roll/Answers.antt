@@ -6,16 +6,16 @@ use Rattle.rpr.specs.Movers.{roll_answer, roll_after}
 use Rattle.rpr.proofs.Movers.{told_of, roll_numbered, mover_gives}
 use Rattle.rpr.proofs.rpr_roll.Goals as goal
 
-pub returns-in-Written : goal.returns-in-Written
+pub returns-in-Ok : goal.returns-in-Ok
 unfolding roll_answer roll_after
-returns-in-Written c =
+returns-in-Ok c =
     let a = c.args in
     let m = c.roll-moved.ensures in
-    let g = mover_gives a.room.now (rolled_bytes a.«record».now) (roll_numbered a.«record».now) in record { value = c.written.ensures ∙ ap told_of (sym c.in-Written.is ∙ m.value) ∙ g.0; room_after = m.room_after ∙ g.1 }
+    let g = mover_gives a.room.now (rolled_bytes a.«record».now) (roll_numbered a.«record».now) in record { value = c.written.ensures ∙ ap told_of (sym c.in-Ok.is ∙ m.value) ∙ g.0; room_after = m.room_after ∙ g.1 }
 
-pub returns-in-Refused : goal.returns-in-Refused
+pub returns-in-Err : goal.returns-in-Err
 unfolding roll_answer roll_after
-returns-in-Refused c =
+returns-in-Err c =
     let a = c.args in
     let m = c.roll-moved.ensures in
-    let g = mover_gives a.room.now (rolled_bytes a.«record».now) (roll_numbered a.«record».now) in record { value = ap told_of (sym c.in-Refused.is ∙ m.value) ∙ g.0; room_after = m.room_after ∙ g.1 }
+    let g = mover_gives a.room.now (rolled_bytes a.«record».now) (roll_numbered a.«record».now) in record { value = c.number.ensures ∙ ap told_of (sym c.in-Err.is ∙ m.value) ∙ g.0; room_after = m.room_after ∙ g.1 }

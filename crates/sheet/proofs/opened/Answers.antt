@@ -1,10 +1,10 @@
 -- Each return is a row of opening a file.
 -- Assumes nothing.
+use Rattle.std.specs.Prelude.{Ok}
 use mathlib.Core.Path.{sym, ap, ◌∙◌}
 use lib.ListN.{length}
 use borrow.Author.Rules.{rules}
 use borrow.Author.Tests.{eq-eqb, ne_eqb}
-use Rattle.summary.specs.declared.Answer.{Answer}
 use Rattle.summary.specs.Range.{in_range}
 use Rattle.sheet.proofs.Files.{open_2, open_3, opens}
 use Rattle.sheet.proofs.opened.Goals as goal
@@ -19,4 +19,4 @@ pub returns : goal.returns
 returns c =
     let read = c.read-held.ensures in
     let within = ap in_range (sym read) ∙ sym c.in_range.ensures ∙ c.if-not-in_range.false in
-    ap Answer.Summed read ∙ sym (opens _ (eq-eqb (length c.args.s.now) 48 (search rules)) within)
+    ap Ok read ∙ sym (opens _ (eq-eqb (length c.args.s.now) 48 (search rules)) within)

@@ -3,12 +3,10 @@
 use Prim.Native.Nat.{◌+◌, ◌-◌, ◌≤◌}
 use mathlib.Core.Path.{◌≡◌}
 use Rattle.queue.specs.Range.{weighed, used_of, used_in}
-use Rattle.slots.specs.Slots.{words_at}
+use Rattle.wire.specs.Words.{words_at}
 use Rattle.slots.proofs.used.Given as goal
 
 abbrev pub invariant-loop-i : goal.invariant-loop-i
 invariant-loop-i l =
-    (l.i ≤ 128) × (l.n ≤ l.i) × (l.n + weighed used_of (words_at 128 l.s l.at) l.i (128 - l.i) ≡ used_in (words_at 128 l.s l.at))
-
-abbrev pub decreases-loop-i : goal.decreases-loop-i
-decreases-loop-i l = 128 - l.i
+    let words = words_at 128 l.s l.at in
+    record { most : l.n ≤ l.i; all : l.n + weighed used_of words l.i (128 - l.i) ≡ used_in words }

@@ -8,7 +8,7 @@ use Rattle.wire.specs.Wire.{Bytes, le}
 use Rattle.excerpt.specs.declared.Place.{Place}
 use Rattle.excerpt.specs.Last.{events_left}
 use Rattle.index.specs.Entry.{place_in}
-use Rattle.stretch.specs.declared.Counted.TheVariants.{Events}
+use Rattle.std.specs.Prelude.{Some, Ok}
 use native.Mathlib.Omega.{arith}
 use Rattle.stretch.specs.Stretch.{last_place, last_events}
 use Rattle.stretch.proofs.Counts.{length_some, place_bound, counted_longer, counted_none, counted_few, counted_past, counted_far, counted_many, counted_events}
@@ -70,6 +70,6 @@ returns c =
     let a = c.args in
     let h : c.place_at-place.result.at + 6 * c.place_at-place.result.gone ≤ 14 + 6 * (256 * (length a.index.now / 80)) = omega (arith, c.lesser-before.ensures, c.if-before-place.false) in
     let all : 256 * c.lesser-before.result + c.events_left-left.result ≡ 256 * (length a.index.now / 80) + last_events a.s.now a.index.now = omega (arith, left_is c.args.s.now c.args.index.now _ c.place_at-place.ensures _ _ c.get16.ensures c.events_left-left.ensures, c.lesser-before.ensures, c.if-before-left.false) in
-    ap Events all
+    ap (λ (n : ℕ). Ok (Some n)) all
     ∙ sym (counted_events a.s.now a.index.now c.if-index-eq0.false (omega (arith, left_is c.args.s.now c.args.index.now _ c.place_at-place.ensures _ _ c.get16.ensures c.events_left-left.ensures, c.if-left-eq0.false)) (omega (arith, left_is c.args.s.now c.args.index.now _ c.place_at-place.ensures _ _ c.get16.ensures c.events_left-left.ensures, c.if-left-gt-BLOCK.false)) (rw (place_is c.args.index.now _ c.place_at-place.ensures) at h)
     (omega (arith, all, c.if-before-left.false)))

@@ -1,10 +1,8 @@
--- `wire::get32` meets its contract. The number that four bytes hold is `le 4`, written out.
+-- `wire::get32` meets its contract. The number that std reads from the bytes is theirs: `le_sum`. Taken by themselves they are the same: `le_taken`.
 -- Assumes nothing.
-use Rattle.wire.specs.Wire.{le}
-use native.Mathlib.Omega.{arith}
-use native.Mathlib.Numerals.{towards_numerals}
+use mathlib.Core.Path.{◌∙◌}
+use Rattle.wire.proofs.Standard.{le_sum, le_taken}
 use Rattle.wire.proofs.get32.Goals as goal
 
 pub returns : goal.returns
-unfolding le
-returns c = simp towards_numerals (omega arith)
+returns c = c.from_le_bytes.ensures ∙ rw c.read.ensures (le_sum 3 _ ∙ le_taken 4 c.args.s.now c.args.at)

@@ -1,14 +1,11 @@
--- `wire::get48be` meets its contract. Three numbers of 2 bytes, each above the next, are one of 6: `be_add`, twice.
+-- `wire::get48be` meets its contract. The number that six bytes hold, greatest first, is `be 6`, written out.
 -- Assumes nothing.
-use Rattle.wire.proofs.Numbers.{be_add}
 use native.Mathlib.Omega.{arith}
-use native.Mathlib.Nat.{add_assoc}
-use mathlib.Core.List.{List}
-use Prim.Native.Nat.{ℕ, ◌+◌}
+use native.Mathlib.Numerals.{towards_numerals}
+use Rattle.wire.specs.Wire.{be}
+use Rattle.wire.proofs.Standard.{be_taken}
 use Rattle.wire.proofs.get48be.Goals as goal
 
 pub returns : goal.returns
-returns c =
-    let xs : List ℕ = c.args.s.now in
-    let at : ℕ = c.args.at in
-    omega (arith, be_add 2 4 xs at, simp add_assoc at (be_add 2 2 xs (at + 2)))
+unfolding be
+returns c = rw (← be_taken 6 c.args.s.now c.args.at, ← c.read.ensures) (simp towards_numerals (omega arith))

@@ -1,8 +1,8 @@
--- `wire::get64` meets its contract. Two numbers of 4 bytes, the second above the first, are one of 8: `le_add`.
+-- `wire::get64` meets its contract. The number that std reads from the bytes is theirs: `le_sum`. Taken by themselves they are the same: `le_taken`.
 -- Assumes nothing.
-use Rattle.wire.proofs.Numbers.{le_add}
-use native.Mathlib.Omega.{arith}
+use mathlib.Core.Path.{◌∙◌}
+use Rattle.wire.proofs.Standard.{le_sum, le_taken}
 use Rattle.wire.proofs.get64.Goals as goal
 
 pub returns : goal.returns
-returns c = omega (arith, le_add 4 4 c.args.s.now c.args.at)
+returns c = c.from_le_bytes.ensures ∙ rw c.read.ensures (le_sum 7 _ ∙ le_taken 8 c.args.s.now c.args.at)

@@ -1,17 +1,7 @@
--- `wire::put16be` meets its contract. Two stores are the put of two bytes: `put_sets`.
+-- `wire::put16be` meets its contract. The bytes that std writes are the number's, greatest first: `written_be`.
 -- Assumes nothing.
-use Rattle.wire.specs.Wire.{digits, digits_be}
-use Rattle.wire.proofs.Puts.{put_sets}
-use native.Mathlib.Omega.{arith}
-use native.Mathlib.Numerals.{towards_suc}
-use lib.ListN.{length-set}
-use mathlib.Core.Path.{sym}
+use Rattle.wire.proofs.Standard.{written_be}
 use Rattle.wire.proofs.put16be.Goals as goal
 
-pub bounds-s-at-2 : goal.bounds-s-at-2
-bounds-s-at-2 c = simp length-set (omega arith)
-
 pub returns : goal.returns
-unfolding digits digits_be
-returns c =
-    simp towards_suc (sym (put_sets c.args.s.now (digits_be 2 c.args.v) c.args.at (omega arith)))
+returns c = cc (written_be 2 c.args.v)

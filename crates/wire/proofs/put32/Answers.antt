@@ -1,10 +1,7 @@
--- `wire::put32` meets its contract. A number written in two halves is written whole: `put_digits`. The low half loses nothing: `digits_mod`.
+-- `wire::put32` meets its contract. The bytes that std writes are the number's: `written`.
 -- Assumes nothing.
-use Rattle.wire.proofs.Numbers.{put_digits, digits_mod}
-use native.Mathlib.Omega.{arith}
+use Rattle.wire.proofs.Standard.{written}
 use Rattle.wire.proofs.put32.Goals as goal
 
 pub returns : goal.returns
-returns c =
-    let a : _ = c.args in
-    cc (put_digits 2 2 a.s.now a.at a.v (omega arith), digits_mod 2 a.v)
+returns c = cc (written 4 c.args.v)

@@ -1,9 +1,9 @@
--- `fair::Four::in_range` meets its contract: the comparisons stand in the order of the definition.
+-- Each of the four is held to its range, and all of them together.
 -- Assumes nothing.
-use mathlib.Core.Bool.{and_assoc}
+use borrow.Author.Rules.{rules}
 use Rattle.decide.specs.Test.{test}
 use Rattle.fair.proofs.Four.in_range.Goals as goal
 
 pub returns : goal.returns
 unfolding test
-returns c = simp and_assoc
+returns c = search rules

@@ -8,25 +8,16 @@ use Rattle.feed.specs.Feed.{fed_of}
 use Rattle.feed.proofs.Rows.{fed_next, fed_end}
 use Rattle.feed.proofs.Feed.bytes.Goals as goal
 
-pub loop-i-init : goal.loop-i-init
-loop-i-init c = (omega arith, refl)
+pub loop-b-init : goal.loop-b-init
+loop-b-init c = refl
 
-pub bounds-chunk-i : goal.bounds-chunk-i
-bounds-chunk-i c = omega arith
-
-pub overflow_add-i : goal.overflow_add-i
-overflow_add-i c = omega arith
-
-pub loop-i-smaller : goal.loop-i-smaller
-loop-i-smaller c = omega arith
-
-pub loop-i-preserved : goal.loop-i-preserved
-loop-i-preserved c =
+pub loop-b-preserved : goal.loop-b-preserved
+loop-b-preserved c =
     let xs = c.args.chunk.now in
-    let at = c.loop-i in
-    (omega arith, ap (λ f. fed_of f (drop (at.i + 1) xs)) c.byte-next.ensures ∙ sym (fed_next at.next xs at.i (omega arith)) ∙ at.invariant.1)
+    let at = c.loop-b in
+    ap (λ f. fed_of f (drop (at.b-index + 1) xs)) c.byte-next.ensures ∙ sym (fed_next at.next xs at.b-index (omega arith)) ∙ at.invariant
 
 pub returns : goal.returns
 returns c =
-    let at = c.loop-i in
-    sym (fed_end at.next c.args.chunk.now at.i (omega arith)) ∙ at.invariant.1
+    let at = c.loop-b in
+    sym (fed_end at.next c.args.chunk.now at.b-index (omega arith)) ∙ at.invariant

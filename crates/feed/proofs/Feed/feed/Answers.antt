@@ -10,39 +10,21 @@ use Rattle.feed.proofs.Rows.{fed_next, fed_end}
 use Rattle.feed.proofs.Feed.feed.Goals as goal
 
 pub loop-i-init : goal.loop-i-init
-loop-i-init c = (omega arith, refl)
-
-pub slice_bounds-items-count : goal.slice_bounds-items-count
-slice_bounds-items-count c = omega arith
-
-pub slice_bounds-items-start : goal.slice_bounds-items-start
-slice_bounds-items-start c = omega arith
-
-pub slice_bounds-items-end : goal.slice_bounds-items-end
-slice_bounds-items-end c = omega arith
+loop-i-init c = refl
 
 pub returns-then-is_between : goal.returns-then-is_between
 returns-then-is_between c =
     let at = c.loop-i in
     let xs = c.args.chunk.now in
-    c.items.ensures ∙ ap (fed_of at.next) (take_all (length xs - at.i) (drop at.i xs) (omega (arith, length-drop at.i xs))) ∙ at.invariant.1
-
-pub bounds-chunk-i : goal.bounds-chunk-i
-bounds-chunk-i c = omega arith
-
-pub overflow_add-i : goal.overflow_add-i
-overflow_add-i c = omega arith
-
-pub loop-i-smaller : goal.loop-i-smaller
-loop-i-smaller c = omega arith
+    c.items.ensures ∙ ap (fed_of at.next) (take_all (length xs - at.i) (drop at.i xs) (omega (arith, length-drop at.i xs))) ∙ at.invariant
 
 pub loop-i-preserved : goal.loop-i-preserved
 loop-i-preserved c =
     let xs = c.args.chunk.now in
     let at = c.loop-i in
-    (omega arith, ap (λ f. fed_of f (drop (at.i + 1) xs)) c.byte-next.ensures ∙ sym (fed_next at.next xs at.i (omega arith)) ∙ at.invariant.1)
+    ap (λ f. fed_of f (drop (at.i + 1) xs)) c.byte-next.ensures ∙ sym (fed_next at.next xs at.i (omega arith)) ∙ at.invariant
 
 pub returns : goal.returns
 returns c =
     let at = c.loop-i in
-    sym (fed_end at.next c.args.chunk.now at.i (omega arith)) ∙ at.invariant.1
+    sym (fed_end at.next c.args.chunk.now at.i (omega arith)) ∙ at.invariant

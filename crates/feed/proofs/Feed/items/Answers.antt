@@ -32,16 +32,16 @@ at_once-front-requires c =
     let ahead : (c.args.self.held ≡ 0) × (10 ≤ length c.args.chunk.now) × (in_range c.in-Summing.sum ≡ true) = may_sum_means _ _ _ (sym c.may_sum.ensures ∙ c.if-not-may_sum.false) in
     let a = ahead in (a.2, a.1)
 
-pub returns-in-Summed : goal.returns-in-Summed
-returns-in-Summed c =
+pub returns-in-Ok : goal.returns-in-Ok
+returns-in-Ok c =
     let ahead : (c.args.self.held ≡ 0) × (10 ≤ length c.args.chunk.now) × (in_range c.in-Summing.sum ≡ true) = may_sum_means _ _ _ (sym c.may_sum.ensures ∙ c.if-not-may_sum.false) in
     let f = c.args.self in
     let xs = c.args.chunk.now in
     let a = ahead in
     let n = c.at_once-front.result.end in
-    c.bytes-in-Summed.ensures
-    ∙ ap (fed_of (beginning (Summing c.in-Summed.all) none_held)) (take_all (length xs - n) (drop n xs) (omega (arith, length-drop n xs)))
-    ∙ at_once_fed c.in-Summing.sum f.pending xs c.at_once-front.result c.in-Summed.all c.at_once-front.ensures c.in-Summed.is a.2 (pending_full f c.well_formed.0) (λ j. (c.type_inv.chunk j).fits)
+    c.bytes-in-Ok.ensures
+    ∙ ap (fed_of (beginning (Summing c.in-Ok.all) none_held)) (take_all (length xs - n) (drop n xs) (omega (arith, length-drop n xs)))
+    ∙ at_once_fed c.in-Summing.sum f.pending xs c.at_once-front.result c.in-Ok.all c.at_once-front.ensures c.in-Ok.is a.2 (pending_full f c.well_formed.0) (λ j. (c.type_inv.chunk j).fits)
     ∙ ap (λ (g : Stage). fed_of (record { stage = g; pending = f.pending; held = 0 }) xs) (sym c.in-Summing.is)
     ∙ ap (λ (k : ℕ). fed_of (record { stage = f.stage; pending = f.pending; held = k }) xs) (sym a.0)
 

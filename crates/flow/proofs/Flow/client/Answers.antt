@@ -12,7 +12,7 @@ returns-then-stage_holds c =
     let x = c.args in
     let s = x.settings in
     let f = x.self in
-    c.refused.ensures ∙ sym (client_full (way_of s f.credits x.class) s f x.class x.size x.hops x.over (sym c.stage_holds.ensures ∙ c.if-stage_holds.true))
+    rw c.into.ensures (sym (client_full (way_of s f.credits x.class) s f x.class x.size x.hops x.over (sym c.stage_holds.ensures ∙ c.if-stage_holds.true)))
 
 pub returns-then-short-gt0 : goal.returns-then-short-gt0
 returns-then-short-gt0 c =
@@ -22,8 +22,7 @@ returns-then-short-gt0 c =
     let empty = sym c.stage_holds.ensures ∙ c.if-stage_holds.false in
     let short = rw c.way-way.ensures at c.short_all-short.ensures in
     let barred = denied_short s f.credits (needs_of (way_of s f.credits x.class)) (omega (arith, c.if-short-gt0.true, short)) in
-    c.refused-then-short-gt0.ensures
-    ∙ rw short (sym (client_barred (way_of s f.credits x.class) s f x.class x.size x.hops x.over empty barred))
+    rw short (sym (client_barred (way_of s f.credits x.class) s f x.class x.size x.hops x.over empty barred))
 
 pub returns-then-mark-over : goal.returns-then-mark-over
 returns-then-mark-over c =
@@ -32,8 +31,8 @@ returns-then-mark-over c =
     let f = x.self in
     let empty = sym c.stage_holds.ensures ∙ c.if-stage_holds.false in
     let permitted = (permits_short s f.credits (needs_of c.way-way.result)).1 (omega (arith, c.if-short-gt0.false, c.short_all-short.ensures)) in
-    c.refused-then-mark-over.ensures
-    ∙ sym (client_over (way_of s f.credits x.class) s f x.class x.size x.hops x.over empty (rw c.way-way.ensures at permitted) (rw (c.mark-mark.ensures, c.way-way.ensures) at c.if-mark-over.true))
+    rw c.into-then-mark-over.ensures
+    (sym (client_over (way_of s f.credits x.class) s f x.class x.size x.hops x.over empty (rw c.way-way.ensures at permitted) (rw (c.mark-mark.ensures, c.way-way.ensures) at c.if-mark-over.true)))
 
 pub pay-paid-requires : goal.pay-paid-requires
 pay-paid-requires c =

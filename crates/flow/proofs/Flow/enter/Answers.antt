@@ -12,7 +12,7 @@ use Rattle.flow.proofs.Flow.enter.Goals as goal
 pub returns-then-space-frame : goal.returns-then-space-frame
 returns-then-space-frame c =
     let x = c.args in
-    sym (enter_refused x.settings x.self x.line x.frame (rw c.space.ensures at c.if-space-frame.true))
+    rw c.into.ensures (sym (enter_refused x.settings x.self x.line x.frame (rw c.space.ensures at c.if-space-frame.true)))
 
 pub push-longer-requires : goal.push-longer-requires
 push-longer-requires c =
@@ -26,5 +26,5 @@ push-longer-requires c =
 pub returns : goal.returns
 returns c =
     let x = c.args in
-    rw (c.with_queue-next.ensures, c.push-longer.ensures, c.queue-queue.ensures)
+    rw (c.with_queue.ensures, c.push-longer.ensures, c.queue-queue.ensures)
     (sym (enter_taken x.settings x.self x.line x.frame (rw c.space.ensures at c.if-space-frame.false)))

@@ -28,7 +28,7 @@ pub loop-i-preserved : goal.loop-i-preserved
 loop-i-preserved c =
     let at = c.loop-i in
     let part = c.decode-part.ensures in
-    (part.within, (rw c.feed-fed.ensures (part.same at.next.feed ∙ at.invariant.1.0), part.size ∙ at.invariant.1.1))
+    (part.within, (rw c.feed-feed.ensures (part.same at.next.feed ∙ at.invariant.1.0), part.size ∙ at.invariant.1.1))
 
 pub returns : goal.returns
 returns c =

@@ -1,18 +1,17 @@
--- Each early return decides the test, by the comparison that led there; the test is an either-or, so a denial denies both sides.
+-- Each way through the code decides the test.
 -- Assumes nothing.
-use mathlib.Core.Logic.{inl, inr, ⊎_elim}
-use native.Mathlib.Omega.{arith}
-use Rattle.decide.specs.Test.{decided}
+use borrow.Author.Rules.{rules}
+use Rattle.decide.specs.Test.{test}
 use Rattle.plain.proofs.Plain.is_usable.Goals as goal
 
 pub returns-then-hi-self : goal.returns-then-hi-self
-returns-then-hi-self c = decided _ _ (inl (omega arith))
+unfolding test
+returns-then-hi-self c = search rules
 
-pub returns-then-hi-self-2 : goal.returns-then-hi-self-2
-returns-then-hi-self-2 c = decided _ _ (⊎_elim (λ h. omega arith) (λ h. omega arith))
+pub returns-then-self-hi : goal.returns-then-self-hi
+unfolding test
+returns-then-self-hi c = search rules
 
-pub returns-then-self : goal.returns-then-self
-returns-then-self c = decided _ _ (⊎_elim (λ h. omega arith) (λ h. omega arith))
-
-pub returns : goal.returns
-returns c = decided _ _ (inr (omega arith))
+pub returns-else-self-hi : goal.returns-else-self-hi
+unfolding test
+returns-else-self-hi c = search rules

@@ -9,11 +9,13 @@ use Rattle.queue.specs.Queue.{frames_from, sizes}
 use Rattle.queue.specs.Range.{slots_ok, bytes_in}
 use Rattle.queue.proofs.Queue.scan.Given as goal
 
-abbrev pub invariant-loop-i : goal.invariant-loop-i
-invariant-loop-i l =
-    (l.i ≤ 128) × (l.turn ≡ (128 - l.head) % 128 + l.i) × (l.sum ≤ l.i * 16384)
-    × ((l.good && test (slots_ok l.bounds l.head l.count l.self.slots l.i (128 - l.i))) ≡ test (slots_ok l.bounds l.head l.count l.self.slots 0 128))
-    × (l.sum + sizes (frames_from l.self.slots l.i (128 - l.i)) ≡ bytes_in l.self.slots)
-
-abbrev pub decreases-loop-i : goal.decreases-loop-i
-decreases-loop-i l = 128 - l.i
+abbrev pub invariant-loop-word : goal.invariant-loop-word
+invariant-loop-word l =
+    let i = l.word-index in
+    let s = l.fn.self.slots in
+    record {
+      turn : l.turn ≡ (128 - l.head) % 128 + i;
+      sum : l.sum ≤ i * 16384;
+      good : (l.good && test (slots_ok l.bounds l.head l.count s i (128 - i))) ≡ test (slots_ok l.bounds l.head l.count s 0 128);
+      bytes : l.sum + sizes (frames_from s i (128 - i)) ≡ bytes_in s;
+    }

@@ -1,5 +1,6 @@
 -- One event alone is put as an event, more as a run.
 -- Assumes nothing.
+use Prim.Native.Nat.{◌/◌, ◌%◌}
 use mathlib.Core.Path.{sym, ap, ◌∙◌}
 use native.Mathlib.Omega.{arith}
 use Rattle.wire.specs.Wire.{put}
@@ -13,7 +14,7 @@ put_event-requires c =
 pub returns-then-count-eq1 : goal.returns-then-count-eq1
 returns-then-count-eq1 c =
     let a = c.args in
-    let f = item_one a.kind a.number a.count c.if-count-eq1.true in
+    let f = item_one (a.event % 65536) (a.event / 65536) a.count c.if-count-eq1.true in
     record { value = omega (arith, f.0); s_after = c.put_event.ensures ∙ ap (put a.s.now a.at) (sym f.1) }
 
 pub put_run-requires : goal.put_run-requires
@@ -23,5 +24,5 @@ put_run-requires c =
 pub returns : goal.returns
 returns c =
     let a = c.args in
-    let f = item_more a.kind a.number a.count c.if-count-eq1.false in
+    let f = item_more (a.event % 65536) (a.event / 65536) a.count c.if-count-eq1.false in
     record { value = omega (arith, f.0); s_after = c.put_run.ensures ∙ ap (put a.s.now a.at) (sym f.1) }

@@ -1,5 +1,6 @@
 -- A slice of another length is 2; else what the station said is handed back: a refusal alone, or the control queue written.
 -- Assumes nothing.
+use mathlib.Core.Path.{◌∙◌}
 use Rattle.flow.specs.declared.Line.TheVariants.{Control}
 use Rattle.flow.specs.Offer.{control_frame}
 use Rattle.station.specs.declared.Station.{Station}
@@ -16,22 +17,22 @@ returns-then-station-ne-LENGTH c = let xs = c.args.station.now in
     let gives = not_whole _ xs _ _ _ _ c.if-station-ne-LENGTH.true in
     record { value = gives.0; station_after = gives.1 }
 
-pub offer_control_known-out-requires : goal.offer_control_known-out-requires
-offer_control_known-out-requires c = range_known _ _ c.in_range-good.ensures c.read.ensures
+pub offer_control_known-requires : goal.offer_control_known-requires
+offer_control_known-requires c = range_known _ _ c.in_range-good.ensures c.read.ensures
 
-pub returns-then-out-ne0 : goal.returns-then-out-ne0
+pub returns-in-Err : goal.returns-in-Err
 unfolding offer_control_answer offer_control_after
-returns-then-out-ne0 c =
-    let said = rw c.read.ensures at c.offer_control_known-out.ensures in
-    let gives = done_refused c.args.station.now _ c.if-station-ne-LENGTH.false _ _ said c.if-out-ne0.true in
-    record { value = gives.0; station_after = gives.1 }
+returns-in-Err c =
+    let said = rw c.read.ensures at c.offer_control_known.ensures in
+    let gives = done_refused c.args.station.now _ c.if-station-ne-LENGTH.false _ _ said _ c.in-Err.is in
+    record { value = c.number.ensures ∙ gives.0; station_after = gives.1 }
 
-pub returns : goal.returns
+pub returns-in-Ok : goal.returns-in-Ok
 unfolding offer_control_answer offer_control_after
-returns c =
+returns-in-Ok c =
     let a : _ = c.args in
     let xs : _ = a.station.now in
-    let said = rw c.read.ensures at c.offer_control_known-out.ensures in
-    let gives = done_carried xs _ c.if-station-ne-LENGTH.false _ _ said c.if-out-ne0.false (λ (st : Station). pushed_at xs Control (control_frame a.size))
+    let said = rw c.read.ensures at c.offer_control_known.ensures in
+    let gives = done_carried xs _ c.if-station-ne-LENGTH.false _ _ said _ c.in-Ok.is (λ (st : Station). pushed_at xs Control (control_frame a.size))
     (offer_written xs (λ j. search rules) c.if-station-ne-LENGTH.false Control (control_frame a.size)) c.push_frame.ensures in
     record { value = gives.0; station_after = gives.1 }

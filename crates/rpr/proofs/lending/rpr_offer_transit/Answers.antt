@@ -18,25 +18,25 @@ returns-then-station-ne-LENGTH c = let xs = c.args.station.now in
     let gives = not_whole _ xs _ _ _ _ c.if-station-ne-LENGTH.true in
     record { value = gives.0; station_after = gives.1 }
 
-pub offer_transit_known-out-requires : goal.offer_transit_known-out-requires
-offer_transit_known-out-requires c = range_known _ _ c.in_range-good.ensures c.read-held.ensures
+pub offer_transit_known-requires : goal.offer_transit_known-requires
+offer_transit_known-requires c = range_known _ _ c.in_range-good.ensures c.read-held.ensures
 
-pub returns-then-out-ne0 : goal.returns-then-out-ne0
+pub returns-in-Err : goal.returns-in-Err
 unfolding offer_transit_answer offer_transit_after
-returns-then-out-ne0 c =
-    let said = rw c.read-held.ensures at c.offer_transit_known-out.ensures in
-    let gives = done_refused c.args.station.now _ c.if-station-ne-LENGTH.false _ _ said c.if-out-ne0.true in
-    record { value = gives.0; station_after = gives.1 }
+returns-in-Err c =
+    let said = rw c.read-held.ensures at c.offer_transit_known.ensures in
+    let gives = done_refused c.args.station.now _ c.if-station-ne-LENGTH.false _ _ said _ c.in-Err.is in
+    record { value = c.number.ensures ∙ gives.0; station_after = gives.1 }
 
-pub returns : goal.returns
+pub returns-in-Ok : goal.returns-in-Ok
 unfolding offer_transit_answer offer_transit_after
-returns c =
+returns-in-Ok c =
     let a : _ = c.args in
     let xs : _ = a.station.now in
     let l : _ = queue_for (station_at xs).settings a.class in
     let x : _ = given_frame a.class a.size a.hops a.eligible in
-    let said = rw c.read-held.ensures at c.offer_transit_known-out.ensures in
+    let said = rw c.read-held.ensures at c.offer_transit_known.ensures in
     let there = c.push_frame.ensures ∙ ap (λ (m : Line). pushed_at xs m x) (rw c.read-held.ensures at c.queue_for-line.ensures) in
-    let gives = done_carried xs _ c.if-station-ne-LENGTH.false _ _ said c.if-out-ne0.false (λ (st : Station). pushed_at xs l x)
+    let gives = done_carried xs _ c.if-station-ne-LENGTH.false _ _ said _ c.in-Ok.is (λ (st : Station). pushed_at xs l x)
     (offer_written xs (λ j. search rules) c.if-station-ne-LENGTH.false l x) there in
     record { value = gives.0; station_after = gives.1 }

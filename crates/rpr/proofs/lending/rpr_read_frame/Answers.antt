@@ -1,5 +1,6 @@
 -- A slice of another length is 2; else what the station said is handed back: a refusal alone, or the fairness state written.
 -- Assumes nothing.
+use mathlib.Core.Path.{◌∙◌}
 use Rattle.station.specs.declared.Station.{Station}
 use Rattle.rpr.specs.Station.{read_frame_answer, read_frame_after}
 use Rattle.rpr.proofs.Given.{not_whole, range_known}
@@ -13,21 +14,21 @@ returns-then-station-ne-LENGTH c = let xs = c.args.station.now in
     let gives = not_whole _ xs _ _ _ _ c.if-station-ne-LENGTH.true in
     record { value = gives.0; station_after = gives.1 }
 
-pub hear_known-out-requires : goal.hear_known-out-requires
-hear_known-out-requires c = range_known _ _ c.in_range-good.ensures c.read.ensures
+pub hear_known-requires : goal.hear_known-requires
+hear_known-requires c = range_known _ _ c.in_range-good.ensures c.read.ensures
 
-pub returns-then-out-ne0 : goal.returns-then-out-ne0
+pub returns-in-Err : goal.returns-in-Err
 unfolding read_frame_answer read_frame_after
-returns-then-out-ne0 c =
-    let said = rw c.read.ensures at c.hear_known-out.ensures in
-    let gives = done_refused c.args.station.now _ c.if-station-ne-LENGTH.false _ _ said c.if-out-ne0.true in
-    record { value = gives.0; station_after = gives.1 }
+returns-in-Err c =
+    let said = rw c.read.ensures at c.hear_known.ensures in
+    let gives = done_refused c.args.station.now _ c.if-station-ne-LENGTH.false _ _ said _ c.in-Err.is in
+    record { value = c.number.ensures ∙ gives.0; station_after = gives.1 }
 
-pub returns : goal.returns
+pub returns-in-Ok : goal.returns-in-Ok
 unfolding read_frame_answer read_frame_after
-returns c =
+returns-in-Ok c =
     let xs : _ = c.args.station.now in
-    let said = rw c.read.ensures at c.hear_known-out.ensures in
-    let gives = done_carried xs _ c.if-station-ne-LENGTH.false _ _ said c.if-out-ne0.false (λ (st : Station). fair_in xs st.fair)
+    let said = rw c.read.ensures at c.hear_known.ensures in
+    let gives = done_carried xs _ c.if-station-ne-LENGTH.false _ _ said _ c.in-Ok.is (λ (st : Station). fair_in xs st.fair)
     (λ z. fair_written xs (λ j. search rules) c.if-station-ne-LENGTH.false _) c.write_fair.ensures in
     record { value = gives.0; station_after = gives.1 }

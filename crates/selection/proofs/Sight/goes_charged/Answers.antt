@@ -18,5 +18,5 @@ returns c =
     let e : c.goes-next.result ≡ of_front f f.credits x.line = c.goes-next.ensures ∙ front_picked f f.credits x.line in
     let w = x.settings in
     let k : Queue → Credits = λ (q : Queue). fed w f.credits (sends (x.which ∷ []) (first_frame q).size) in
-    rw (c.charge-paid.ensures, e)
+    rw (c.charge-credits.ensures, e)
     (ap (λ (q : Queue). of_front f (k q) x.line) (sym (front_seen f x.line)) ∙ sym (front_picked f (k (queue_of (seen_in f) x.line)) x.line))

@@ -1,10 +1,8 @@
--- `settings::Address::write` meets its contract. Puts one behind the other are one put of the parts: `laid_put`.
+-- `settings::Address::write` meets its contract. The words are the parts, one for one.
 -- Assumes nothing.
-use native.Mathlib.Omega.{arith}
-use Rattle.wire.proofs.Laid.{laid_put}
-use Rattle.settings.specs.Words.{address_parts}
+use Rattle.wire.specs.Words.{words_bytes}
 use Rattle.settings.proofs.Address.write.Goals as goal
 
 pub returns : goal.returns
-returns c =
-    cc (laid_put (address_parts c.args.self) c.args.s.now c.args.at (omega (arith, c.requires)))
+unfolding words_bytes
+returns c = c.write_words.ensures.0

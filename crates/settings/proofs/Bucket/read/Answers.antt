@@ -1,6 +1,9 @@
 -- `settings::Bucket::read` meets its contract. Each word is what stands at its place.
 -- Assumes nothing.
+use native.Mathlib.Nat.{add_assoc}
+use Rattle.wire.specs.Words.{words_at}
 use Rattle.settings.proofs.Bucket.read.Goals as goal
 
 pub returns : goal.returns
-returns c = cc
+unfolding words_at
+returns c = rw c.read_words.ensures (simp add_assoc)

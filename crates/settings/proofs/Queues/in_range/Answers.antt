@@ -9,5 +9,5 @@ pub returns : goal.returns
 unfolding test
 returns c =
     simp
-    (c.capacity_ok-3.ensures, c.capacity_ok-2.ensures, c.capacity_ok.ensures, c.wide-least.ensures.0, and_assoc)
+    (c.capacity_ok-3.ensures, c.capacity_ok-2.ensures, c.capacity_ok.ensures, and_assoc)
     refl

@@ -1,11 +1,8 @@
--- `settings::Site::write` meets its contract. Puts one behind the other are one put of the parts: `laid_put`.
+-- `settings::Site::write` meets its contract. The words are the parts, one for one.
 -- Assumes nothing.
-use native.Mathlib.Nat.{add_assoc}
-use native.Mathlib.Omega.{arith}
-use Rattle.wire.proofs.Laid.{laid_put}
-use Rattle.settings.specs.Words.{site_parts}
+use Rattle.wire.specs.Words.{words_bytes}
 use Rattle.settings.proofs.Site.write.Goals as goal
 
 pub returns : goal.returns
-returns c =
-    cc (simp add_assoc at (laid_put (site_parts c.args.self) c.args.s.now c.args.at (omega (arith, c.requires))))
+unfolding words_bytes
+returns c = c.write_words.ensures.0

@@ -1,6 +1,6 @@
 -- The rows are tried in their order: each return is one of them. A station in range may age.
 -- Assumes nothing.
-use mathlib.Core.Path.{sym, ◌∙◌}
+use mathlib.Core.Path.{sym}
 use Rattle.decide.specs.Test.{left, taken}
 use Rattle.station.specs.Range.{station_ok}
 use Rattle.station.proofs.Range.{in_range_facts}
@@ -10,12 +10,13 @@ use Rattle.station.proofs.Station.age_known.Goals as goal
 
 pub returns-then-not-good : goal.returns-then-not-good
 returns-then-not-good c = let st = c.args.self in
-    c.refused.ensures ∙ sym (age_lost st (taken (station_ok st) c.requires (not_from_false c.args.good c.if-not-good.true)))
+    rw c.into.ensures
+    (sym (age_lost st (taken (station_ok st) c.requires (not_from_false c.args.good c.if-not-good.true))))
 
-pub aged-next-requires : goal.aged-next-requires
-aged-next-requires c = let st = c.args.self in
+pub aged-requires : goal.aged-requires
+aged-requires c = let st = c.args.self in
     in_range_facts st (left (station_ok st) c.requires (not_from_true c.args.good c.if-not-good.false))
 
 pub returns : goal.returns
 returns c = let st = c.args.self in
-    c.done.ensures ∙ rw c.aged-next.ensures (sym (age_done st (left (station_ok st) c.requires (not_from_true c.args.good c.if-not-good.false))))
+    rw c.aged.ensures (sym (age_done st (left (station_ok st) c.requires (not_from_true c.args.good c.if-not-good.false))))

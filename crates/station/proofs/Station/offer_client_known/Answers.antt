@@ -16,8 +16,8 @@ pub returns-then-not-good : goal.returns-then-not-good
 returns-then-not-good c =
     let x = c.args in
     let st = x.self in
-    c.turned_down.ensures
-    ∙ sym (client_lost st x.class x.size x.hops (taken (station_ok st) c.requires (not_from_false x.good c.if-not-good.true)))
+    rw c.into.ensures
+    (sym (client_lost st x.class x.size x.hops (taken (station_ok st) c.requires (not_from_false x.good c.if-not-good.true))))
 
 pub returns-then-not-frame_ok : goal.returns-then-not-frame_ok
 returns-then-not-frame_ok c =
@@ -27,8 +27,8 @@ returns-then-not-frame_ok c =
     -- the station is in range
     let in_range = left (station_ok st) c.requires (not_from_true x.good c.if-not-good.false) in
     let out = taken (frame_ok (bounds_of st.settings) q.result) c.frame_ok.ensures (not_from_false c.frame_ok.result c.if-not-frame_ok.true) in
-    c.turned_down-then-not-frame_ok.ensures
-    ∙ sym (client_coded st x.class x.size x.hops in_range (cut_tested st in_range x.class x.size x.hops 0 q.result q.ensures false out))
+    rw c.into-then-not-frame_ok.ensures
+    (sym (client_coded st x.class x.size x.hops in_range (cut_tested st in_range x.class x.size x.hops 0 q.result q.ensures false out)))
 
 pub returns-then-not-in_ring : goal.returns-then-not-in_ring
 returns-then-not-in_ring c =
@@ -42,10 +42,10 @@ returns-then-not-in_ring c =
     -- as it was given
     let given_in_range = cut_tested st in_range x.class x.size x.hops 0 q.result q.ensures true frame_in_range in
     let out = taken (in_ring st.settings.site.stations q.result.hops) c.in_ring.ensures (not_from_false c.in_ring.result c.if-not-in_ring.true) in
-    c.turned_down-then-not-in_ring.ensures
-    ∙ sym
+    rw c.into-then-not-in_ring.ensures
+    (sym
     (client_beyond st x.class x.size x.hops in_range given_in_range
-    (cut_ringed st in_range x.class x.size x.hops 0 q.result q.ensures frame_in_range false out))
+    (cut_ringed st in_range x.class x.size x.hops 0 q.result q.ensures frame_in_range false out)))
 
 pub returns : goal.returns
 returns c =

@@ -10,12 +10,12 @@ use Rattle.station.proofs.Station.show_known.Goals as goal
 
 pub returns-then-not-good : goal.returns-then-not-good
 returns-then-not-good c = let st = c.args.self in
-    rw c.blank-blank.ensures (sym (show_lost st (taken (station_ok st) c.requires (not_from_false c.args.good c.if-not-good.true))))
+    rw c.into.ensures (sym (show_lost st (taken (station_ok st) c.requires (not_from_false c.args.good c.if-not-good.true))))
 
-pub reading-reading-requires : goal.reading-reading-requires
-reading-reading-requires c = let st = c.args.self in
+pub reading-requires : goal.reading-requires
+reading-requires c = let st = c.args.self in
     in_range_facts st (left (station_ok st) c.requires (not_from_true c.args.good c.if-not-good.false))
 
 pub returns : goal.returns
 returns c = let st = c.args.self in
-    rw c.reading-reading.ensures (sym (show_done st (left (station_ok st) c.requires (not_from_true c.args.good c.if-not-good.false))))
+    rw c.reading.ensures (sym (show_done st (left (station_ok st) c.requires (not_from_true c.args.good c.if-not-good.false))))

@@ -16,10 +16,10 @@ pub returns-in-Outside : goal.returns-in-Outside
 unfolding and_found
 returns-in-Outside c = rw c.in-Outside.is
 
-pub returns-in-Summed : goal.returns-in-Summed
+pub returns-in-Ok : goal.returns-in-Ok
 unfolding and_found
-returns-in-Summed c = rw (c.in-Sum.is, sym c.join.ensures ∙ c.in-Summed.is)
+returns-in-Ok c = rw (c.in-Sum.is, sym c.join.ensures ∙ c.in-Ok.is)
 
-pub returns-in-Refused : goal.returns-in-Refused
+pub returns-in-Err : goal.returns-in-Err
 unfolding and_found
-returns-in-Refused c = rw (c.in-Sum.is, sym c.join.ensures ∙ c.in-Refused.is)
+returns-in-Err c = rw (c.in-Sum.is, sym c.join.ensures ∙ c.in-Err.is)

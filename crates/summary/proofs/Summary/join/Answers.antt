@@ -1,9 +1,9 @@
 -- Each refusal by its row, with what the tests before it told; the join by way of the natural numbers, whose sums fit.
 -- Assumes nothing.
+use Rattle.std.specs.Prelude.{Ok}
 use mathlib.Core.Path.{sym, ap, ◌∙◌}
 use native.Mathlib.Omega.{arith}
 use Rattle.plain.proofs.Laws.{in_range_small}
-use Rattle.summary.specs.declared.Answer.{Answer}
 use Rattle.summary.proofs.Paper.{in_range_plain, joined_fits, joined_plain}
 use Rattle.summary.proofs.Rows.{join_3_first, join_3_second, join_10, join_9, joins}
 use Rattle.summary.proofs.Summary.join.Goals as goal
@@ -47,4 +47,4 @@ returns c =
     let k = (sym c.in_range-2.ensures ∙ c.if-not-in_range-2.false) in
     let s = (sym c.same.ensures ∙ c.if-not-same.false) in
     rw (c.signed.ensures, c.joined-whole.ensures, c.plain.ensures, c.plain-2.ensures)
-    (sym (joins _ _ h k s c.if-self-other-gt-MAX_EVENTS.false ∙ ap Answer.Summed (joined_plain _ _ h k s)))
+    (sym (joins _ _ h k s c.if-self-other-gt-MAX_EVENTS.false ∙ ap Ok (joined_plain _ _ h k s)))

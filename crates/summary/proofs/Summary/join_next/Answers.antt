@@ -2,5 +2,5 @@
 -- Assumes nothing.
 use Rattle.summary.proofs.Summary.join_next.Goals as goal
 
-pub returns-in-Summed : goal.returns-in-Summed
-returns-in-Summed c = rw c.in-Summed.is c.join.ensures
+pub returns : goal.returns
+returns c = rw c.in_ok-next.was c.join.ensures

@@ -1,5 +1,6 @@
 -- Each refusal by its row; the ceiling at the depth of the size.
 -- Assumes nothing.
+use Rattle.std.specs.Prelude.{Ok}
 use Prim.Native.Nat.{◌+◌}
 use mathlib.Core.Bool.{false}
 use mathlib.Core.Path.{sym, ap, ◌∙◌}
@@ -12,7 +13,6 @@ use Rattle.decide.specs.Test.{passes, decided}
 use Rattle.shaper.specs.declared.Event.TheVariants.{Send}
 use Rattle.shaper.specs.Credit.{event_ok}
 use Rattle.plain.proofs.Ceiling.{ceiling_fits}
-use Rattle.summary.specs.declared.Answer.{Answer}
 use Rattle.summary.proofs.Integers.{pos_less}
 use Rattle.summary.proofs.Rows.{single_1, single_3, single_made}
 use Rattle.summary.proofs.Summary.send.Goals as goal
@@ -30,7 +30,7 @@ pub returns : goal.returns
 returns c =
     let l = c.args.limits in
     let z = c.args.size in
-    ap (λ (x : ℤ). Answer.Summed (record { limits = l; events = 1; accrued = 0; sent = z; ceiling = x; need = l.lo + 1 }))
+    ap (λ (x : ℤ). Ok (record { limits = l; events = 1; accrued = 0; sent = z; ceiling = x; need = l.lo + 1 }))
     (ap (λ (x : ℤ). to_z w64 (of_z w64 x)) c.ceiling_of-ceiling.ensures
     ∙ to_z-of_z {w = w64} (record { sfits = ceiling_fits l.hi z (omega arith) (omega arith) })
     ∙ sym (pos_less l.hi z))

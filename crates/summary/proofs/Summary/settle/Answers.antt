@@ -1,8 +1,8 @@
 -- Each refusal by its row; the end credit by way of the natural numbers.
 -- Assumes nothing.
+use Rattle.std.specs.Prelude.{Ok, Some}
 use mathlib.Core.Path.{sym, ap, ◌∙◌}
 use Rattle.plain.proofs.Laws.{in_range_small}
-use Rattle.summary.specs.declared.Outcome.{Outcome}
 use Rattle.summary.proofs.Paper.{in_range_plain, settled_plain}
 use Rattle.summary.proofs.Rows.{settle_3_summary, settle_3_credit, settles, settles_not}
 use Rattle.summary.proofs.Summary.settle.Goals as goal
@@ -25,4 +25,4 @@ returns c =
     let h = (sym c.in_range.ensures ∙ c.if-not-in_range.false) in
     rw (c.end.ensures, c.plain.ensures)
     (sym (settles _ _ h c.if-self-start.false c.if-start-self.false
-    ∙ ap Outcome.Permitted (settled_plain _ _ h c.if-self-start.false c.if-start-self.false)))
+    ∙ ap (λ x. Ok (Some x)) (settled_plain _ _ h c.if-self-start.false c.if-start-self.false)))

@@ -10,6 +10,3 @@ invariant-loop-i l =
     (l.i ≤ 8) × (l.self.level ≤ l.base + 2097152 + 2097152 * l.i) × (l.base ≤ l.self.level + 8388608 * l.i) × (l.peak ≤ l.self.peak + l.self.level + 8388608 + 8388608 * l.i)
     × (l.late ≤ l.i)
     × Gone l.rise l.self (lane_of l.parts) l.i l.base l.peak l.low l.late
-
-abbrev pub decreases-loop-i : goal.decreases-loop-i
-decreases-loop-i l = 8 - l.i

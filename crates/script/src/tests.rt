@@ -1,0 +1,125 @@
+// What no clause says: which lines are run, and what is a number and what are bytes.
+use crate::{bytes_of, each_line, number};
+use arrayvec::ArrayVec;
+use std::alloc::{Allocator, Global};
+use std::fmt::Display;
+use std::io;
+use std::io::{BufRead, Lines};
+use std::test::Fail;
+
+static LONG: [u8; 4097] = [b'x'; 4097];
+
+// A runtime whose input is this text, and whose output goes nowhere.
+#[derive(Drop)]
+struct Page {
+    text: &'static [u8],
+    alloc: Global,
+}
+
+impl io::Input for Page {
+    type Reader = &'static [u8];
+
+    fn read_line<A: Allocator + Clone>(&self, buf: &mut String<A>) -> io::Result<usize> {
+        self.reader().read_line(buf)
+    }
+
+    fn lines<A: Allocator>(&self, alloc: A) -> Lines<&'static [u8], A> {
+        self.reader().lines(alloc)
+    }
+
+    fn reader(&self) -> &'static [u8] {
+        self.text
+    }
+}
+
+impl Print for Page {
+    fn print<D: Display + Drop>(&self, _value: D) -> io::Result<()> {
+        Ok(())
+    }
+
+    fn println<D: Display + Drop>(&self, _value: D) -> io::Result<()> {
+        Ok(())
+    }
+
+    fn write_all(&self, _bytes: &[u8]) -> io::Result<()> {
+        Ok(())
+    }
+}
+
+impl Alloc for Page {
+    type A = Global;
+
+    fn alloc(&self) -> Global {
+        self.alloc
+    }
+}
+
+// The lengths of the lines that are run of a text.
+fn run_lengths(alloc: Global, text: &'static [u8]) -> io::Result<ArrayVec<usize, 8>> {
+    let page = Page { text, alloc };
+    let mut lengths = ArrayVec::<usize, 8>::new();
+    each_line(&page, |line| {
+        let _ = lengths.try_push(line.len());
+        Ok(())
+    })?;
+    Ok(lengths)
+}
+
+#[test]
+fn lines_are_run(rt: HostRuntime) -> Result<(), Fail> {
+    let lines = run_lengths(rt.alloc(), b"ab\n\nc\r\nlast")?;
+    assert!(rt; lines.as_slice() == [2, 0, 2, 4].as_slice());
+    let ended = run_lengths(rt.alloc(), b"ab\n")?;
+    assert!(rt; ended.as_slice() == [2, 0].as_slice());
+    let longest = run_lengths(rt.alloc(), &LONG[1..])?;
+    assert!(rt; longest.as_slice() == [4096].as_slice());
+    assert!(rt; run_lengths(rt.alloc(), &LONG)?.is_empty());
+    Ok(())
+}
+
+#[test]
+fn numbers_are_read(rt: HostRuntime) {
+    let most: &[u8] = b"18446744073709551615";
+    let most_hex: &[u8] = b"0xfFfFfFfFfFfFfFfF";
+    for (word, want) in [
+        (b"0".as_slice(), 0),
+        (b"0007", 7),
+        (b"0x0a", 10),
+        (most, u64::MAX),
+        (most_hex, u64::MAX),
+    ] {
+        assert!(rt; number(word) == Ok(want));
+    }
+    let over: &[u8] = b"18446744073709551616";
+    let over_hex: &[u8] = b"0x10000000000000000";
+    for word in [
+        b"".as_slice(),
+        b"0x",
+        b"0X1",
+        b"+1",
+        b"0x+1",
+        b"-1",
+        b"a",
+        b"1 ",
+        b"\xff",
+        over,
+        over_hex,
+    ] {
+        assert!(rt; number(word).is_err());
+    }
+}
+
+#[test]
+fn bytes_are_read(rt: HostRuntime) {
+    for (text, want) in [
+        (b"".as_slice(), b"".as_slice()),
+        (b" \t", b""),
+        (b" 0aFf\r", b"\x0a\xff"),
+    ] {
+        assert!(rt; bytes_of(text).is_ok_and(|bytes| bytes.as_slice() == want));
+    }
+    for text in [b"0".as_slice(), b"0g", b"+a", b"00 00", b"0x00"] {
+        assert!(rt; bytes_of(text).is_err());
+    }
+    assert!(rt; bytes_of(&[b'0'; 8194]).is_err());
+}

@@ -1,6 +1,0 @@
--- `settings::in_range_at` meets its contract: what is read is tested.
--- Assumes nothing.
-use Rattle.settings.proofs.in_range_at.Goals as goal
-
-pub returns : goal.returns
-returns c = rw c.read.ensures at c.in_range.ensures

@@ -1,4 +1,0 @@
-use Rattle.vectors_record.proofs.main.Given as goal
-
-abbrev pub decreases-loop-turns : goal.decreases-loop-turns
-decreases-loop-turns l = l.turns
