@@ -124,10 +124,11 @@ module _ (xs : List ℕ) (n : ℕ) (p : 0 < n) where
   told (Err f) e = (f, e, refl)
 
 -- A record has the number of its earliest fault.
-pub record_faults : (xs : List ℕ) → Bytes xs → (n : ℕ) → 0 < n → (summarize_of xs ≡ Err (refusal_of n)) ↔ RecordRefused xs n
+pub record_faults : (xs : List ℕ) → Bytes xs → (n : ℕ) → 0 < n
+    → ((f : Refusal) → number_in f ≡ n → summarize_of xs ≡ Err f → RecordRefused xs n) × (RecordRefused xs n → summarize_of xs ≡ Err (refusal_of n))
 record_faults xs bytes n p =
     let exactly = summarize_refused_exactly true xs n bytes p in
-    (λ e. named xs n p (exactly.0 (refusal_of n) (number_told n) e), λ c. exactly.1 (caused xs n p c))
+    (λ f k e. named xs n p (exactly.0 f k e), λ c. exactly.1 (caused xs n p c))
 
 -- ---- in the old form
 
@@ -158,10 +159,11 @@ module _ (xs : List ℕ) (n : ℕ) (p : 0 < n) where
   old_causes = (old_named, old_caused)
 
   -- A record in the old form has the number of its earliest fault.
-  pub old_record_faults : Bytes xs → (summarize_in false xs ≡ Err (refusal_of n)) ↔ OldRecordRefused xs n
+  pub old_record_faults : Bytes xs
+      → ((f : Refusal) → number_in f ≡ n → summarize_in false xs ≡ Err f → OldRecordRefused xs n) × (OldRecordRefused xs n → summarize_in false xs ≡ Err (refusal_of n))
   old_record_faults b =
       let exactly = summarize_refused_exactly false xs n b p in
-      (λ e. old_named (exactly.0 (refusal_of n) (number_told n) e), λ c. exactly.1 (old_caused c))
+      (λ f k e. old_named (exactly.0 f k e), λ c. exactly.1 (old_caused c))
 
 -- ---- rpr_summarize
 

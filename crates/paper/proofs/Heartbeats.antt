@@ -337,7 +337,7 @@ by_value =
       repeated_3 = λ s r h. repeated_3 s r (not_in s h);
       by_doubling = promises.by_doubling;
       written_out = promises.written_out;
-      faults = λ xs r b n p. let exact = heartbeats_refused_exactly xs r n b p in (λ e. named xs r n p (exact.0 (refusal_of n) (number_told n) e), λ c. exact.1 (caused xs r n p c));
+      faults = λ xs r b n p. let exact = heartbeats_refused_exactly xs r n b p in (λ f k e. named xs r n p (exact.0 f k e), λ c. exact.1 (caused xs r n p c));
       once = promises.pattern_once;
       from_low = λ s. refl;
       refused = λ n. refl;

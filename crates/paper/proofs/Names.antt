@@ -36,7 +36,7 @@ use Rattle.ring.specs.Links.{next_of}
 use Rattle.ring.proofs.Rows.{tie_lower, tie_otherwise}
 use Rattle.station.specs.declared.Station.{Station}
 use Rattle.station.specs.Show.{held_on}
-use Rattle.paper.specs.Names.{ShaperNames, QueueNames, GoingNames, ReadingNames, RateNames, PartNames, EntryNames, HistoryNames, RingNames, ByteNames, Names}
+use Rattle.paper.specs.Names.{ShaperNames, QueueNames, GoingNames, ReadingNames, RateNames, PartNames, EntryNames, HistoryNames, RingNames, ByteNames, RefusalNames, Names}
 
 -- ---- shapers
 
@@ -168,8 +168,25 @@ chosen : (r : Result Selected Refused) → (number_said (chosen_of r) ≡ number
 chosen (Ok r) = (refl, refl, refl)
 chosen (Err e) = (refl, refl, refl)
 
+refusals : RefusalNames
+refusals =
+    record {
+      each = (refl, refl, refl, refl, refl, refl, refl, refl, refl, refl, refl, refl, refl);
+      number = number_told;
+      beside = λ n detail. refl;
+      station = λ n detail. (refl, refl, refl, refl, refl);
+    }
+
 entries : EntryNames
-entries = record { brief = brief; charge = charge; marked = marked; chosen = chosen }
+entries =
+    record {
+      brief = brief;
+      charge = charge;
+      marked = marked;
+      chosen = chosen;
+      answered = λ st s r t. (refl, refl, refl, refl);
+      passed = λ e. (refl, refl, refl, refl);
+    }
 
 histories : (st : Station) (w : Which) → HistoryNames st w
 histories st w =
@@ -245,4 +262,17 @@ numbers =
     }
 
 pub names : Names
-names = record { shapers = shapers; lines = lines; going = going; readings = readings; rates = rates; anew = anew; entries = entries; histories = histories; sides = sides; numbers = numbers }
+names =
+    record {
+      refusals = refusals;
+      shapers = shapers;
+      lines = lines;
+      going = going;
+      readings = readings;
+      rates = rates;
+      anew = anew;
+      entries = entries;
+      histories = histories;
+      sides = sides;
+      numbers = numbers;
+    }

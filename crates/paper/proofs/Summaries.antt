@@ -2,7 +2,7 @@
 -- Assumes nothing.
 use Rattle.std.specs.Prelude.{Err}
 use Rattle.decide.specs.Number.{refusal_of}
-use Prim.Native.Nat.{◌%◌, ℕ, ◌+◌, ◌≤◌}
+use Prim.Native.Nat.{◌%◌, ℕ, ◌+◌, ◌-◌, ◌≤◌}
 use mathlib.Core.Bool.{true, false}
 use mathlib.Core.List.{List, [], ◌∷◌, ◌++◌, map, append_assoc, append-nil}
 use mathlib.Core.Path.{◌≡◌, refl, sym, ap, ◌∙◌}
@@ -22,7 +22,8 @@ use Rattle.shaper.specs.declared.Event.{Event}
 use Rattle.shaper.specs.declared.Shaper.{Shaper}
 use Rattle.shaper.specs.Limits.{limits_ok, LimitsOk, same_limits}
 use Rattle.shaper.specs.Credit.{event_ok, Valid}
-use Rattle.shaper.specs.Shaper.{charge_faults}
+use Rattle.shaper.specs.Refused.{refused}
+use Rattle.shaper.specs.Shaper.{charge_faults, charge_of}
 use Rattle.shaper.proofs.Ranges.{limits_exactly, same_exactly, valid_exactly}
 use Rattle.plain.specs.Plain.{plain_need, plain_end_of}
 use Rattle.plain.specs.Range.{count_ok}
@@ -216,6 +217,10 @@ constructs l =
       counted_many = λ e count ok v c n. rows.counted_9 l e count (exactly.1 ok) ((valid_exactly l e).1 v) (passes (count_ok e count) c) n;
     }
 
+not_permitted : (s : Shaper) (z : ℕ) → s.credit ≤ s.limits.lo → charge_of s z ≡ Err (refused 6 (s.limits.lo + 1 - s.credit))
+unfolding refused_or
+not_permitted s z h = rw (in_order_lem (charge_faults s) refl, le-ltb s.limits.lo s.credit h)
+
 one_shaper : (s : Shaper) → OneShaper s
 unfolding refused_or
 one_shaper s =
@@ -224,7 +229,8 @@ one_shaper s =
       waiting = λ x. refl;
       idle = λ x. refl;
       charged = λ z h. rw (in_order_lem (charge_faults s) refl, lt-ltb s.limits.lo s.credit h);
-      refused = λ z h. rw (in_order_lem (charge_faults s) refl, le-ltb s.limits.lo s.credit h);
+      refused = not_permitted s;
+      told = λ z h. rw (not_permitted s z h) (refl, refl, refl);
     }
 
 join_out : (a b : Summary) → (InRange a × InRange b → ⊥) → join_of a b ≡ Err (refusal_of 3)

@@ -202,7 +202,7 @@ walks_faults s n bytes h m p =
     let same = ap summarized (walk_reads s n h) in
     let ends = ends_refused (limits_at s.now) m p (walk_of (suc n) (new_of s)) in
     let exactly = record_faults s.now bytes m p in
-    (λ e. exactly.0 (sym same ∙ ends.1 e), λ c. ends.0 (same ∙ exactly.1 c))
+    (λ e. exactly.0 (refusal_of m) (number_told m) (sym same ∙ ends.1 e), λ c. ends.0 (same ∙ exactly.1 c))
 
 pub third_condition : Condition3
 third_condition =

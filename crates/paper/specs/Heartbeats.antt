@@ -2,7 +2,7 @@
 -- Assumes nothing.
 use Rattle.decide.specs.declared.refusal.Refusal.{Refusal}
 use Rattle.std.specs.Prelude.{Ok, Err}
-use Rattle.decide.specs.Number.{refusal_of}
+use Rattle.decide.specs.Number.{number_in, refusal_of}
 use Rattle.std.specs.Prelude.{ℕ, suc, ◌+◌, ◌*◌, ◌/◌, ◌%◌, ◌^◌, ◌≤◌, ◌<◌, List, [], ◌++◌, ◌↔◌, ◌≡◌, length}
 use Rattle.wire.specs.Wire.{Bytes}
 use Rattle.shaper.specs.declared.Limits.{Limits}
@@ -85,7 +85,8 @@ pub record ByValue : Type 0 where
   pub written_out : (l : Limits) (is : List Item) → PatternOk l is → (r : ℕ)
       → heartbeats_of (written_items l is) r ≡ summarize_of (written l (times_over r (unrolled is)))
   -- or the number of its refusal;
-  pub faults : (xs : List ℕ) (r : ℕ) → Bytes xs → (n : ℕ) → 0 < n → (heartbeats_of xs r ≡ Err (refusal_of n)) ↔ HeartbeatRefused xs r n
+  pub faults : (xs : List ℕ) (r : ℕ) → Bytes xs → (n : ℕ) → 0 < n
+      → ((f : Refusal) → number_in f ≡ n → heartbeats_of xs r ≡ Err f → HeartbeatRefused xs r n) × (HeartbeatRefused xs r n → heartbeats_of xs r ≡ Err (refusal_of n))
   -- once alone is the pattern, and
   pub once : (xs : List ℕ) → Bytes xs → pattern_of xs ≡ heartbeats_of xs 1
   -- what it does from loLimit is what the host is told.

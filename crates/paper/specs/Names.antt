@@ -1,6 +1,8 @@
 -- The small definitions that the conditions speak through, said outright: a statement that names one of these says no more than stands here.
 -- Assumes nothing.
-use Rattle.std.specs.Prelude.{ℕ, suc, ◌+◌, ◌*◌, ◌-◌, ◌/◌, ◌%◌, ◌^◌, ◌≤◌, ◌<◌, min, Bool, true, false, List, [], ◌∷◌, ◌++◌, ◌↔◌, ◌≡◌, get_or, set, length, take, drop, Result, Ok}
+use Rattle.std.specs.Prelude.{ℕ, suc, ◌+◌, ◌*◌, ◌-◌, ◌/◌, ◌%◌, ◌^◌, ◌≤◌, ◌<◌, min, Bool, true, false, List, [], ◌∷◌, ◌++◌, ◌↔◌, ◌≡◌, get_or, set, length, take, drop, Result, Ok, Err}
+use Rattle.decide.specs.declared.refusal.Refusal.{Refusal}
+use Rattle.decide.specs.Number.{number_in, refusal_of}
 use Rattle.wire.specs.Wire.{le, be, digits, put, Bytes}
 use Rattle.wire.specs.Words.{words_at}
 use Rattle.rpr.specs.Reading.{words_from, frames_held}
@@ -54,7 +56,8 @@ use Rattle.station.specs.Hear.{changed_of, hear_of, not_told_of, advert_said, te
 use Rattle.station.specs.Hops.{HopsBelow}
 use Rattle.station.specs.Show.{held_in, held_on, reading_of, blank_of, not_shown_of, reading_said, show_of}
 use Rattle.shaper.specs.declared.Refused.{Refused}
-use Rattle.shaper.specs.Refused.{number_said, detail_said, afterwards}
+use Rattle.shaper.specs.declared.Shaper.{Shaper}
+use Rattle.shaper.specs.Refused.{refused, number_said, detail_said, afterwards}
 use Rattle.shaper.specs.Shaper.{Charged}
 use Rattle.station.specs.declared.Reading.{Reading}
 use Rattle.station.specs.declared.Client.{Client}
@@ -63,6 +66,21 @@ use Rattle.station.specs.Calls.{tick_of, select_of, age_of}
 use Rattle.station.specs.History.{Call, tick, offer_client, offer_transit, offer_control, select, age, hear, tell, show}
 use Rattle.station.specs.History.{of_done, of_client, of_selected, step, trace, after, record_of}
 use Rattle.entry.specs.Brief.{brief_of, charge_brief_of, marked_of, chosen_of}
+
+-- ---- refusals
+
+pub record RefusalNames : Type 0 where
+  -- Each number of document 01's table has its refusal, and a host is told the number of a refusal, of these and of any other.
+  pub each : (refusal_of 1 ≡ Refusal.Setting) × (refusal_of 2 ≡ Refusal.NotWhole) × (refusal_of 3 ≡ Refusal.OutOfRange) × (refusal_of 4 ≡ Refusal.NoSpace)
+      × (refusal_of 5 ≡ Refusal.StageHolds) × (refusal_of 6 ≡ Refusal.NoCredit) × (refusal_of 7 ≡ Refusal.OverRate) × (refusal_of 8 ≡ Refusal.NoWay)
+      × (refusal_of 9 ≡ Refusal.TooMany) × (refusal_of 10 ≡ Refusal.Unlike) × (refusal_of 11 ≡ Refusal.OwnAddress) × (refusal_of 12 ≡ Refusal.ShortRoom)
+      × (refusal_of 13 ≡ Refusal.BeyondRing)
+  pub number : (n : ℕ) → number_in (refusal_of n) ≡ n
+  -- What is said beside it.
+  pub beside : (n detail : ℕ) → refused n detail ≡ record { refusal = refusal_of n; detail = detail }
+  -- A call of the station that is not carried out answers that alone.
+  pub station : (n detail : ℕ) → (refused_of n ≡ Err (refused n 0)) × (turned_of n detail ≡ Err (refused n detail)) × (not_chosen_of n ≡ Err (refused n 0))
+      × (not_told_of n ≡ Err (refused n 0)) × (not_shown_of n ≡ Err (refused n 0))
 
 -- ---- shapers and queues
 
@@ -252,6 +270,10 @@ pub record EntryNames : Type 0 where
       × (afterwards 0 (marked_of r) ≡ mark_told r)
   pub chosen : (r : Result station.Selected Refused) → (number_said (chosen_of r) ≡ number_said r) × (detail_said (chosen_of r) ≡ detail_said r)
       × (afterwards (record { origin = 0; frame = frame_of 0 }) (chosen_of r) ≡ record { origin = origin_said r; frame = frame_said r })
+  -- each whole: what is answered, and a refusal as it is
+  pub answered : (st : Station) (s : Shaper) (r : Client) (t : station.Selected) → (brief_of (Ok st) ≡ Ok tt) × (charge_brief_of (Ok s) ≡ Ok tt)
+      × (marked_of (Ok r) ≡ Ok r.mark) × (chosen_of (Ok t) ≡ Ok (record { origin = t.origin; frame = t.frame }))
+  pub passed : (e : Refused) → (brief_of (Err e) ≡ Err e) × (charge_brief_of (Err e) ≡ Err e) × (marked_of (Err e) ≡ Err e) × (chosen_of (Err e) ≡ Err e)
 
 -- ---- histories: each call is lent what the one before left
 
@@ -333,6 +355,7 @@ pub record ByteNames : Type 0 where
       → usual_of weight unit ticks rate ≡ record { weight = weight; unit = unit; ticks = ticks; unreserved = rate; age = 4; lp = 64; ramp = 64 }
 
 pub record Names : Type 0 where
+  pub refusals : RefusalNames
   pub shapers : ShaperNames
   pub lines : QueueNames
   pub going : GoingNames

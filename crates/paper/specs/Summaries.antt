@@ -13,7 +13,7 @@ use Rattle.shaper.specs.declared.Event.TheVariants.{Waiting, Idle, Send}
 use Rattle.shaper.specs.declared.Shaper.{Shaper}
 use Rattle.shaper.specs.Limits.{LimitsOk}
 use Rattle.shaper.specs.Kind.{kind_of}
-use Rattle.shaper.specs.Refused.{refused}
+use Rattle.shaper.specs.Refused.{refused, number_said, detail_said, afterwards}
 use Rattle.shaper.specs.Shaper.{fresh_of, ticked_of, charge_of}
 use Rattle.shaper.specs.Credit.{Valid, AllValid, Permitted, end_credit, accrued_of, sent_of}
 use Rattle.summary.specs.declared.Summary.{Summary}
@@ -53,6 +53,9 @@ pub record OneShaper (s : Shaper) : Type 0 where
   -- A send is permitted exactly when credit > loLimit, then the size is taken off; else 6, and the bytes missing.
   pub charged : (z : ℕ) → s.limits.lo < s.credit → charge_of s z ≡ Ok (record { limits = s.limits; credit = s.credit - z })
   pub refused : (z : ℕ) → s.credit ≤ s.limits.lo → charge_of s z ≡ Err (refused 6 (s.limits.lo + 1 - s.credit))
+  -- A host is told that number and that detail, and the shaper stays as it was.
+  pub told : (z : ℕ) → s.credit ≤ s.limits.lo
+      → (number_said (charge_of s z) ≡ 6) × (detail_said (charge_of s z) ≡ s.limits.lo + 1 - s.credit) × (afterwards s (charge_of s z) ≡ s)
 
 -- The bytes that ticks brought, and the bytes that were sent.
 pub record Sums (es : List Event) : Type 0 where

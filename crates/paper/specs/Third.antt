@@ -194,11 +194,13 @@ pub record Condition3 : Type 0 where
   pub records : (l : Limits) (is : List Item) → Formed true l is → Account (written_items l is) l (unrolled is)
   -- and nothing else has a summary.
   pub no_others : (xs : List ℕ) (s : Summary) → Bytes xs → summarize_of xs ≡ Ok s → Accounted true xs s
-  -- Any other has the number of its earliest fault.
-  pub faults : (xs : List ℕ) → Bytes xs → (n : ℕ) → 0 < n → (summarize_of xs ≡ Err (refusal_of n)) ↔ RecordRefused xs n
+  -- Any other has the number of its earliest fault: a refusal of that number, whatever its name, is answered where that fault is alone.
+  pub faults : (xs : List ℕ) → Bytes xs → (n : ℕ) → 0 < n
+      → ((f : Refusal) → number_in f ≡ n → summarize_of xs ≡ Err f → RecordRefused xs n) × (RecordRefused xs n → summarize_of xs ≡ Err (refusal_of n))
   -- Where the old form alone is read, a record that was written so has the same summary, and any other the number of its earliest fault: kind 4 is none there.
   pub old_records : (l : Limits) (es : List Event) → WellFormed l es → summarize_in false (written l es) ≡ Ok (summary_of l es)
-  pub old_faults : (xs : List ℕ) → Bytes xs → (n : ℕ) → 0 < n → (summarize_in false xs ≡ Err (refusal_of n)) ↔ OldRecordRefused xs n
+  pub old_faults : (xs : List ℕ) → Bytes xs → (n : ℕ) → 0 < n
+      → ((f : Refusal) → number_in f ≡ n → summarize_in false xs ≡ Err f → OldRecordRefused xs n) × (OldRecordRefused xs n → summarize_in false xs ≡ Err (refusal_of n))
   -- The cut may be inside a run.
   pub cut_in_run : (l : Limits) (is : List Item) (e : Event) (m n : ℕ) (js : List Item) → 1 ≤ m → 1 ≤ n → Formed true l (is ++ (run e (m + n) ∷ js))
       → CutInRun l is e m n js
