@@ -240,6 +240,9 @@ sides =
       byte_told = λ r k. refl;
       ends = λ delivered. refl;
       over = λ link rest. refl;
+      chosen = λ code distance ttl mark. refl;
+      moved = λ delivered hops. refl;
+      refused = λ n. (refl, refl);
     }
 
 numbers : ByteNames

@@ -161,6 +161,7 @@ unfolding walk_of event_of
 walking =
     record {
       first = λ s. refl;
+      item = λ kind number count next. refl;
       moves = moved_on;
       moves_event = moved_event;
       moves_run = moved_run;

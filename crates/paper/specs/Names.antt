@@ -46,9 +46,9 @@ use Rattle.answer.specs.Bytes.{bit_of}
 use Rattle.ring.specs.declared.Way.{Way}
 use Rattle.ring.specs.declared.Way.TheVariants.{Left, Right}
 use Rattle.ring.specs.Links.{other_of, next_of, link_of, station_after}
-use Rattle.ring.specs.Choosing.{code_of, tie_of, Placed}
+use Rattle.ring.specs.Choosing.{code_of, chosen_as, no_choice, tie_of, Placed}
 use Rattle.ring.specs.Pairs.{links_of}
-use Rattle.wrap.specs.Walking.{Course, ended, across, side_of}
+use Rattle.wrap.specs.Walking.{Course, ended, across, side_of, journey, no_path}
 use Rattle.station.specs.declared.Station.{Station}
 use Rattle.station.specs.Answers.{with_flow, with_fair, Done, refused_of, done_of, not_chosen_of, origin_said, frame_said, rest_after}
 use Rattle.station.specs.Offers.{turned_of, mark_told, station_left, offer_client_of, offer_transit_of, offer_control_of}
@@ -328,6 +328,11 @@ pub record RingNames : Type 0 where
   -- a course that ends, and one that goes over a link and then on
   pub ends : (delivered : Bool) → ended delivered ≡ record { links = []; delivered = delivered }
   pub over : (link : ℕ) (rest : Course) → across link rest ≡ record { links = link ∷ rest.links; delivered = rest.delivered }
+  -- what a choice and a path answer where they are carried out, and where they are refused
+  pub chosen : (code distance ttl : ℕ) (mark : Bool)
+      → chosen_as code distance ttl mark ≡ Ok (record { side = code; distance = distance; ttl = ttl; mark = mark })
+  pub moved : (delivered : Bool) (hops : ℕ) → journey delivered hops ≡ Ok (record { delivered = delivered; hops = hops })
+  pub refused : (n : ℕ) → (no_choice n ≡ Err (refusal_of n)) × (no_path n ≡ Err (refusal_of n))
 
 -- ---- numbers in bytes, and defaults
 

@@ -142,6 +142,8 @@ Behind l is r = r.place ≡ record { at = length (written_items l is); done = le
 -- A walk: what the reader tells, then the walk of the reader that moved on, over the same bytes.
 pub record Walking : Type 0 where
   pub first : (s : Bor (List ℕ)) → new_of s ≡ record { bytes = s; place = record { at = 14; done = 0 } }
+  -- what is told of an item: its kind, its number, its count, and the place behind it
+  pub item : (kind number count next : ℕ) → placed kind number count next ≡ record { kind = kind; number = number; count = count; next = next }
   -- It moves behind an item, its events then being passed: 6 bytes on behind an event, 10 behind a run. At the end and at a fault it stays.
   pub moves : (r : Reader) (kind number count next : ℕ) → next_of r ≡ Ok (Some (placed kind number count next))
       → moved_of r ≡ record { bytes = r.bytes; place = record { at = next; done = r.place.done + count } }
