@@ -3,17 +3,18 @@
 use Rattle.std.specs.Prelude.{Ok, Err}
 use Rattle.decide.specs.declared.refusal.Refusal.{Refusal}
 use Rattle.decide.specs.Number.{number_in, refusal_of}
+use Rattle.decide.proofs.Number.{number_told}
 use Prim.Native.Nat.{ℕ, zero, suc, ◌≤◌, ◌<◌}
-use mathlib.Core.Bool.{Bool, true, cond, ◌&&◌}
+use mathlib.Core.Bool.{Bool, true, false, cond, ◌&&◌}
 use mathlib.Core.List.{List, [], ◌∷◌}
 use mathlib.Core.Path.{◌≡◌, refl, sym, ap, ◌∙◌}
 use native.Mathlib.Omega.{arith}
 use borrow.Author.Tests.{leb-true, ne_eqb}
 use lib.Dec.{leb, eqb}
 use lib.ListN.{drop}
-use Rattle.decide.specs.Test.{◌≡?◌, both, split}
+use Rattle.decide.specs.Test.{both}
 use Rattle.decide.specs.Refusal.{Fault, first_of, in_order, chained}
-use Rattle.decide.proofs.Cases.{by_cases, of_each}
+use Rattle.decide.proofs.Cases.{of_each}
 use Rattle.decide.proofs.Given.{in_order_lem, first_exact}
 use Rattle.shaper.specs.declared.Limits.{Limits}
 use Rattle.shaper.specs.declared.Event.{Event}
@@ -24,6 +25,7 @@ use Rattle.record.specs.Read.{header_faults, event_faults, is_run, run_faults, i
 use Rattle.record.specs.Step.{header_of_of}
 use Rattle.record.proofs.Steps.{header_faulty}
 use Rattle.record.proofs.Refused.{header_refused_exactly}
+use Rattle.summary.specs.Answer.{Answer}
 use Rattle.account.specs.Account.{summarized, events_of}
 use Rattle.heartbeat.specs.Heartbeat.{most_of_pattern, read_pattern, pattern_by, pattern_of, many_told}
 
@@ -67,29 +69,12 @@ read_late mtu (suc left) gone (x ∷ xs) =
     ∙ ap (onward (first_of (item_faults true mtu (x ∷ xs))) (event_of (item_kind (x ∷ xs)) (item_number (x ∷ xs))))
     (read_late mtu left (gone_behind gone (x ∷ xs)) (bytes_behind gone (x ∷ xs)))
 
--- any number but 9 stays
-kept : (n : ℕ) → (n ≡ 9 → ⊥) → many_told (Err (refusal_of n)) ≡ Err (refusal_of n)
-kept zero h = refl
-kept (suc zero) h = refl
-kept (suc (suc zero)) h = refl
-kept (suc (suc (suc zero))) h = refl
-kept (suc (suc (suc (suc zero)))) h = refl
-kept (suc (suc (suc (suc (suc zero))))) h = refl
-kept (suc (suc (suc (suc (suc (suc zero)))))) h = refl
-kept (suc (suc (suc (suc (suc (suc (suc zero))))))) h = refl
-kept (suc (suc (suc (suc (suc (suc (suc (suc zero)))))))) h = refl
-kept (suc (suc (suc (suc (suc (suc (suc (suc (suc zero))))))))) h = absurd (h refl)
-kept (suc (suc (suc (suc (suc (suc (suc (suc (suc (suc zero)))))))))) h = refl
-kept (suc (suc (suc (suc (suc (suc (suc (suc (suc (suc (suc zero))))))))))) h = refl
-kept (suc (suc (suc (suc (suc (suc (suc (suc (suc (suc (suc (suc zero)))))))))))) h = refl
-kept (suc (suc (suc (suc (suc (suc (suc (suc (suc (suc (suc (suc (suc zero))))))))))))) h = refl
-kept (suc (suc (suc (suc (suc (suc (suc (suc (suc (suc (suc (suc (suc (suc n)))))))))))))) h = refl
+three_for : (b : Bool) (n : ℕ) → ◌≡◌ {A = Answer} (cond b (Err (refusal_of 3)) (Err (refusal_of n))) (Err (refusal_of (cond b 3 n)))
+three_for true n = refl
+three_for false n = refl
 
 told_late : (l : Limits) (r : Events) → many_told (summarized (under l r)) ≡ summarized (under l (lately r))
-told_late l (faulty n) =
-    by_cases (split (n ≡? 9))
-    (λ e. rw e)
-    (λ e. kept n e ∙ ap (λ m. Err (refusal_of m)) (sym (rw (ne_eqb n 9 e))))
+told_late l (faulty n) = rw (number_told n) (three_for (eqb n 9) n)
 told_late l (events es) = refl
 
 module _ (xs : List ℕ) where

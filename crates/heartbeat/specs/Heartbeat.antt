@@ -2,9 +2,8 @@
 -- at the end.
 -- Assumes nothing.
 use Rattle.std.specs.Prelude.{Ok, Err, Some, None}
-use Rattle.decide.specs.declared.refusal.Refusal.{Refusal}
-use Rattle.decide.specs.Number.{number_in}
-use Rattle.std.specs.Prelude.{ℕ, List, drop}
+use Rattle.decide.specs.Number.{number_in, refusal_of}
+use Rattle.std.specs.Prelude.{ℕ, cond, eqb, List, drop}
 use Rattle.summary.specs.Answer.{Answer}
 use Rattle.summary.specs.Answer.{Outcome}
 use Rattle.summary.specs.Answer.{and_then, settle_of}
@@ -61,5 +60,4 @@ heartbeat_answer xs r = outcome_told (from_low_of (heartbeats_of xs r))
 -- the same answer with 3 for 9
 abbrev pub many_told : Answer → Answer
 many_told (Ok s) = Ok s
-many_told (Err Refusal.TooMany) = Err Refusal.OutOfRange
-many_told (Err r) = Err r
+many_told (Err r) = cond (eqb (number_in r) 9) (Err (refusal_of 3)) (Err r)

@@ -64,7 +64,7 @@ fn many_told(answer: Result<Summary, Refusal>) -> Result<Summary, Refusal>
     ensures { result ≡ many_told answer }
 {
     match answer {
-        Err(Refusal::TooMany) => Err(Refusal::OutOfRange),
+        Err(refusal) if refusal.number() == 9 => Err(Refusal::OutOfRange),
         other => other,
     }
 }

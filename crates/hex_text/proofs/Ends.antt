@@ -3,11 +3,14 @@
 use Prim.Native.Nat.{ℕ}
 use mathlib.Core.Bool.{true}
 use mathlib.Core.List.{List, [], ◌∷◌}
-use mathlib.Core.Path.{◌≡◌, refl, ◌∙◌}
+use mathlib.Core.Logic.{◌⊎◌, inl, inr}
+use mathlib.Core.Path.{◌≡◌, refl, ap}
+use borrow.Author.Tests.{eqb-true}
 use Rattle.decide.proofs.Cases.{by_cases, true_or_false}
 use Rattle.std.specs.Prelude.{Err}
-use Rattle.decide.specs.Number.{refusal_of}
+use Rattle.decide.specs.Number.{number_in, refusal_of}
 use Rattle.decide.specs.declared.refusal.Refusal.{Refusal}
+use Rattle.summary.specs.Answer.{Answer, answer_number}
 use Rattle.feed.specs.declared.Stage.{Stage}
 use Rattle.feed.specs.declared.Stage.TheVariants.{Heading, Summing, Stopped}
 use Rattle.feed.proofs.Rows.{byte_stopped, finish_stopped}
@@ -27,20 +30,19 @@ lost_place Between e = cc
 lost_place (Behind h) e = cc
 lost_place Lost e = refl
 
-stopped_stage : (s : Stage) → is_stopped_at_two s ≡ true → s ≡ Stopped (refusal_of 2)
+stopped_stage : (s : Stage) → is_stopped_at_two s ≡ true → (f : Refusal) × (number_in f ≡ 2) × (s ≡ Stopped f)
 stopped_stage Heading e = cc
 stopped_stage (Summing m) e = cc
-stopped_stage (Stopped Refusal.NotWhole) e = refl
-stopped_stage (Stopped r) e = cc
+stopped_stage (Stopped f) e = (f, eqb-true (number_in f) 2 e, refl)
 
 -- a record past its fault stays so
-module _ (x : Hex) (stopped : x.feed.stage ≡ Stopped (refusal_of 2)) where
+module _ (f : Refusal) (x : Hex) (stopped : x.feed.stage ≡ Stopped f) where
   stopped_digit : (d : ℕ) → (read_digit x d).feed ≡ x.feed
   stopped_digit d = by x.place refl
     where
       by : (p : Place) → x.place ≡ p → (read_digit x d).feed ≡ x.feed
       by Between e = rw (digit_between x d e)
-      by (Behind h) e = rw (digit_behind x d h e) (byte_stopped x.feed (byte_of h d) (refusal_of 2) stopped)
+      by (Behind h) e = rw (digit_behind x d h e) (byte_stopped x.feed (byte_of h d) f stopped)
       by Lost e = rw (digit_lost x d e)
 
   stopped_char : (c : ℕ) → (read_char x c).feed ≡ x.feed
@@ -51,23 +53,30 @@ module _ (x : Hex) (stopped : x.feed.stage ≡ Stopped (refusal_of 2)) where
       by Blank g = rw (char_blank x c g)
       by Other g = rw (char_other x c g)
 
-  stopped_ends : finish_of x ≡ Err (refusal_of 2)
-  stopped_ends =
+-- and the answer is its fault, or what other text or an odd digit is
+module _ (P : Answer → Type 0) (f : Refusal) (own : P (Err f)) (other : P (Err (refusal_of 2))) where
+  stopped_ends : (x : Hex) → x.feed.stage ≡ Stopped f → P (finish_of x)
+  stopped_ends x s =
       by_cases (true_or_false (is_whole x.place))
-      (λ e. finish_whole x e ∙ finish_stopped x.feed (refusal_of 2) stopped)
-      (λ e. finish_cut x e)
+      (λ e. rw (finish_whole x e, finish_stopped x.feed f s) own)
+      (λ e. rw (finish_cut x e) other)
 
-stopped_two : (cs : List ℕ) (x : Hex) → x.feed.stage ≡ Stopped (refusal_of 2) → finish_of (read_text x cs) ≡ Err (refusal_of 2)
-unfolding read_text
-stopped_two [] x s = stopped_ends x s
-stopped_two (c ∷ cs) x s = stopped_two cs (read_char x c) (rw (stopped_char x s c) s)
+  stopped_all : (cs : List ℕ) (x : Hex) → x.feed.stage ≡ Stopped f → P (finish_of (read_text x cs))
+  unfolding read_text
+  stopped_all [] x s = stopped_ends x s
+  stopped_all (c ∷ cs) x s = stopped_all cs (read_char x c) (rw (stopped_char f x s c) s)
 
 lost_two : (cs : List ℕ) (x : Hex) → x.place ≡ Lost → finish_of (read_text x cs) ≡ Err (refusal_of 2)
 lost_two cs x p = rw (lost_stays x p cs) (finish_cut x (rw p))
 
--- What is still to come changes nothing: the answer is 2.
-pub ends_two : (x : Hex) → ends_of x ≡ true → (cs : List ℕ) → finish_of (read_text x cs) ≡ Err (refusal_of 2)
+-- What is still to come changes nothing: the answer's number is 2.
+pub ends_two : (x : Hex) → ends_of x ≡ true → (cs : List ℕ) → answer_number (finish_of (read_text x cs)) ≡ 2
 ends_two x e cs =
     by_cases (true_or_false (is_lost x.place))
-    (λ l. lost_two cs x (lost_place x.place l))
-    (λ l. stopped_two cs x (stopped_stage x.feed.stage (rw l at e)))
+    (λ l. ap answer_number (lost_two cs x (lost_place x.place l)))
+    (λ l. let s = stopped_stage x.feed.stage (rw l at e) in stopped_all (λ a. answer_number a ≡ 2) s.0 s.1 refl cs x s.2)
+
+-- Past other text, and past the refusal of 2, it is that refusal.
+pub ends_named : (x : Hex) → (is_lost x.place ≡ true) ⊎ (x.feed.stage ≡ Stopped (refusal_of 2)) → (cs : List ℕ) → finish_of (read_text x cs) ≡ Err (refusal_of 2)
+ends_named x (inl l) cs = lost_two cs x (lost_place x.place l)
+ends_named x (inr s) cs = stopped_all (λ a. a ≡ Err (refusal_of 2)) (refusal_of 2) refl refl cs x s

@@ -1,8 +1,7 @@
 -- A text fed character by character: what is kept of the characters so far, and what they come to.
 -- Assumes nothing.
-use Rattle.std.specs.Prelude.{ℕ, ◌+◌, ◌*◌, ◌%◌, Bool, true, false, cond, ◌||◌, List, [], ◌∷◌, Err}
-use Rattle.decide.specs.declared.refusal.Refusal.{Refusal}
-use Rattle.decide.specs.Number.{refusal_of}
+use Rattle.std.specs.Prelude.{ℕ, ◌+◌, ◌*◌, ◌%◌, Bool, true, false, cond, ◌||◌, List, [], ◌∷◌, eqb, Err}
+use Rattle.decide.specs.Number.{number_in, refusal_of}
 use Rattle.summary.specs.Answer.{Answer}
 use Rattle.feed.specs.declared.Stage.{Stage}
 use Rattle.feed.specs.declared.Stage.TheVariants.{Heading, Summing, Stopped}
@@ -69,8 +68,7 @@ is_lost Lost = true
 abbrev pub is_stopped_at_two : Stage → Bool
 is_stopped_at_two Heading = false
 is_stopped_at_two (Summing s) = false
-is_stopped_at_two (Stopped Refusal.NotWhole) = true
-is_stopped_at_two (Stopped r) = false
+is_stopped_at_two (Stopped r) = eqb (number_in r) 2
 
 -- past other text, or past a fault 2 of the record: other text is 2 as well
 abbrev pub ends_of : Hex → Bool

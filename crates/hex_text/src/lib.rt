@@ -88,7 +88,7 @@ impl Hex {
         ensures { result ≡ ends_of self }
     {
         matches!(self.place, Place::Lost)
-            || matches!(self.feed.stage, Stage::Stopped(Refusal::NotWhole))
+            || matches!(self.feed.stage, Stage::Stopped(fault) if fault.number() == 2)
     }
 }
 

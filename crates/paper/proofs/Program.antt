@@ -22,7 +22,7 @@ use Rattle.feed.proofs.Promises.{fed_whole, ends_stands}
 use Rattle.hex_text.specs.Hex.{is_within, glyph_of, text_of}
 use Rattle.hex_text.specs.Fed.{read_text, read_chunks}
 use Rattle.hex_text.proofs.Promises.{text_whole}
-use Rattle.hex_text.proofs.Ends.{ends_two}
+use Rattle.hex_text.proofs.Ends.{ends_two, ends_named}
 use Rattle.report.specs.Text.{ascii, signed_numeral, line}
 use Rattle.report.specs.Report.{counts_text, started_text, settled_text, printed_of}
 use Rattle.report.proofs.Numeral.{numeral_one, numeral_more}
@@ -109,6 +109,7 @@ program =
       no_character = λ x. refl;
       a_character = λ x c cs. refl;
       ends = ends_two;
+      ends_named = ends_named;
       text = hex_text;
       other = λ text e. rw e;
       hex = λ text e. rw e;

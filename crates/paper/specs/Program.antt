@@ -3,14 +3,14 @@
 use Rattle.decide.specs.declared.refusal.Refusal.{Refusal}
 use Rattle.std.specs.Prelude.{Ok, Err, Some, None}
 use Rattle.decide.specs.Number.{number_in, refusal_of}
-use Rattle.std.specs.Prelude.{ℕ, ◌+◌, ◌*◌, ◌-◌, ◌/◌, ◌%◌, ◌≤◌, ◌<◌, Bool, true, false, ◌&&◌, ◌≡◌, eqb, pos, negsuc, length}
+use Rattle.std.specs.Prelude.{ℕ, ◌+◌, ◌*◌, ◌-◌, ◌/◌, ◌%◌, ◌≤◌, ◌<◌, Bool, true, false, ◌&&◌, ◌⊎◌, ◌≡◌, eqb, pos, negsuc, length}
 use Prim.Native.Char.{Char, code}
 use Prim.Native.String.{String}
 use Prim.Native.String.{[] as end, ◌∷◌ as ◌before◌}
 use mathlib.Core.List.{List, [], ◌∷◌, ◌++◌, map, flatten}
 use Rattle.shaper.specs.declared.Limits.{Limits}
 use Rattle.summary.specs.declared.Summary.{Summary}
-use Rattle.summary.specs.Answer.{Answer}
+use Rattle.summary.specs.Answer.{Answer, answer_number}
 use Rattle.summary.specs.Answer.{Outcome}
 use Rattle.summary.specs.Answer.{join_of, settle_of}
 use Rattle.summary.specs.Range.{in_range}
@@ -18,12 +18,13 @@ use Rattle.record.specs.Items.{Item, written_items, unrolled, Formed}
 use Rattle.account.specs.Account.{summarize_of}
 use Rattle.wire.specs.Wire.{Bytes}
 use Rattle.feed.specs.declared.Feed.{Feed}
+use Rattle.feed.specs.declared.Stage.TheVariants.{Stopped}
 use Rattle.feed.specs.Feed as feeding
 use Rattle.feed.specs.Feed.{fed_byte, fed_of, fed_chunks}
 use Rattle.hex_text.specs.declared.Glyph.TheVariants.{Digit, Blank, Other}
 use Rattle.hex_text.specs.Hex.{glyph_of, unless_other, all_hex, onto, digits_of, pairs, is_hex, text_of}
 use Rattle.hex_text.specs.declared.Hex.{Hex}
-use Rattle.hex_text.specs.Fed.{start_of, read_char, read_text, read_chunks, finish_of, ends_of}
+use Rattle.hex_text.specs.Fed.{start_of, read_char, read_text, read_chunks, finish_of, is_lost, ends_of}
 use Rattle.sheet.specs.Sheet.{sheet_of, summary_at}
 use Rattle.sheet.specs.Files.{opened_of, joined_from, joined_of, file_of}
 use Rattle.report.specs.Text.{ascii, numeral, signed_numeral, line}
@@ -124,8 +125,10 @@ pub record Program : Type 0 where
   pub a_chunk : (x : Hex) (chunk : List ℕ) (chunks : List (List ℕ)) → read_chunks x (chunk ∷ chunks) ≡ read_chunks (read_text x chunk) chunks
   pub no_character : (x : Hex) → read_text x [] ≡ x
   pub a_character : (x : Hex) (c : ℕ) (cs : List ℕ) → read_text x (c ∷ cs) ≡ read_text (read_char x c) cs
-  -- Where a text can only come to 2 the rest need not be read.
-  pub ends : (x : Hex) → ends_of x ≡ true → (cs : List ℕ) → finish_of (read_text x cs) ≡ Err (refusal_of 2)
+  -- Where a text can only come to 2 the rest need not be read;
+  pub ends : (x : Hex) → ends_of x ≡ true → (cs : List ℕ) → answer_number (finish_of (read_text x cs)) ≡ 2
+  -- past other text, and past the refusal of 2, it comes to that refusal.
+  pub ends_named : (x : Hex) → (is_lost x.place ≡ true) ⊎ (x.feed.stage ≡ Stopped (refusal_of 2)) → (cs : List ℕ) → finish_of (read_text x cs) ≡ Err (refusal_of 2)
   -- other text or an odd digit, anywhere, is 2 before all else, and else its bytes are a record.
   pub text : HexText
   pub other : (text : List ℕ) → is_hex text ≡ false → text_of text ≡ Err (refusal_of 2)

@@ -7,7 +7,7 @@ use mathlib.Core.Path.{◌≡◌, refl, sym, ap, ◌∙◌}
 use native.Mathlib.Omega.{arith}
 use Rattle.decide.specs.Test.{test}
 use Rattle.std.specs.Prelude.{Ok, Err}
-use Rattle.decide.specs.Number.{refusal_of}
+use Rattle.decide.specs.Number.{number_in, refusal_of}
 use Rattle.decide.specs.declared.refusal.Refusal.{Refusal}
 use Rattle.decide.proofs.Number.{number_told}
 use Rattle.decide.specs.Refusal.{Fault, fault, first_of, refused_or, ranked, in_order, chained, Given}
@@ -206,10 +206,10 @@ module _ (stations own target links side protection ring : ℕ) where
   refused_exactly = exactly_by rows refl choice_number no_choice _ number_told refl
 
   -- 8 says that the numbers are in range and that neither side reaches.
-  pub no_way_means : chosen ≡ no_choice 8
+  pub no_way_means : (r : Refusal) → number_in r ≡ 8 → chosen ≡ Err r
       → Placed stations own target links × ((way : Way) → reaches_of way stations own target links ≡ false)
-  no_way_means e =
-      let n : then place₀ own_rows ≡ 8 = sym (numbered (then place₀ own_rows)) ∙ ap choice_number (sym opened ∙ e) in
+  no_way_means r k e =
+      let n : then place₀ own_rows ≡ 8 = sym (numbered (then place₀ own_rows)) ∙ ap choice_number (sym opened ∙ e) ∙ k in
       let z =
       eight (test (bad_size stations)) (test (bad_word stations links)) (test (bad_index stations own target)) (test (bad_code side protection ring))
       (no_way stations own target links protection)

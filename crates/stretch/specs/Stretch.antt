@@ -109,8 +109,7 @@ stretch_of xs ix first last = answered (first_of (stretch_faults xs ix first las
 -- whether a header is one, its settings in range or not
 unfoldable pub is_header : Header → Bool
 is_header (Ok l) = true
-is_header (Err Refusal.NotWhole) = false
-is_header (Err r) = true
+is_header (Err r) = not (eqb (number_in r) 2)
 
 -- the answer where 2, 1 and 9 do not apply
 abbrev pub found_answer : Limits → Found → Answer

@@ -51,12 +51,13 @@ pub fn stretch(s: &[u8], index: &[u8], first: u64, last: u64) -> Result<Summary,
 }
 
 // Whether it is a header, its settings in range or not.
+#[tactic(auto, unfolding(crate::specs::Stretch::is_header))]
 fn is_header(header: Result<Limits, Refusal>) -> bool
     ensures { result ≡ is_header header }
 {
     match header {
         Ok(_) => true,
-        Err(fault) => !matches!(fault, Refusal::NotWhole),
+        Err(fault) => fault.number() != 2,
     }
 }
 

@@ -7,11 +7,14 @@ use Prim.Native.Nat.{ℕ, zero, suc, ◌+◌, ◌*◌, ◌≤◌, ◌<◌, zero-
 use native.Mathlib.Omega.{arith}
 use lib.ListN.{length}
 use borrow.Author.Tests.{leb-true, leb-false}
+use Rattle.std.specs.Prelude.{Err}
+use Rattle.decide.specs.Number.{number_in}
+use Rattle.decide.specs.declared.refusal.Refusal.{Refusal}
 use Rattle.decide.proofs.Cases.{by_cases, le_or}
 use Rattle.ring.specs.declared.Way.{Way}
 use Rattle.ring.specs.declared.Way.TheVariants.{Left, Right}
 use Rattle.ring.specs.Links.{other_of, next_of, ahead_of, reach_of, station_after}
-use Rattle.ring.specs.Choosing.{distance_of, reaches_of, choose_of, no_choice, Between, Placed}
+use Rattle.ring.specs.Choosing.{distance_of, reaches_of, choose_of, Between, Placed}
 use Rattle.ring.proofs.Distances.{whole_ring}
 use Rattle.ring.proofs.Hops.{after_lt, after_suc, back, arrives, not_before_lem, run_on, run_ends}
 use Rattle.decide.proofs.Tests.{failing}
@@ -135,10 +138,10 @@ module _ (stations own target links : ℕ) (p : Placed stations own target links
 
 -- Where the choice is 8, no wrap-marked frame is delivered, whatever its home side.
 pub no_way_no_path : (stations own target links side protection ring home : ℕ) (delivered : Bool) (hops : ℕ)
-    → choose_of stations own target links side protection ring ≡ no_choice 8 → path_of stations own target links home ≡ journey delivered hops
+    → (r : Refusal) → number_in r ≡ 8 → choose_of stations own target links side protection ring ≡ Err r → path_of stations own target links home ≡ journey delivered hops
     → delivered ≡ false
-no_way_no_path stations own target links side protection ring home delivered hops e m =
-    let n = no_way_means stations own target links side protection ring e in
+no_way_no_path stations own target links side protection ring home delivered hops r k e m =
+    let n = no_way_means stations own target links side protection ring r k e in
     (path_length stations own target links home delivered hops m).delivers ∙ undelivered stations own target links n.0 n.1 home
 
 -- Where the home side reaches, the frame is delivered after as many hops as the distance.
