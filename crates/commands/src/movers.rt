@@ -42,10 +42,10 @@ impl Form {
         }
     }
 
-    // Says which file is refused and why.
+    // Says which file is refused and why, by the refusal's number.
     fn refuse(self, rt: &impl Host, name: &[u8], refusal: Refusal) -> Said {
-        match (self, refusal) {
-            (Form::Rolled, Refusal::NotWhole) => tell::refused(
+        match (self, refusal.number()) {
+            (Form::Rolled, 2) => tell::refused(
                 rt,
                 name,
                 refusal,

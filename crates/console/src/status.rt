@@ -1,5 +1,6 @@
 // The exit statuses.
 ghost use Rattle.std.specs.Prelude.{◌≡◌};
+ghost use Rattle.std.specs.Process.{exit_status};
 ghost use Rattle.console.specs.Status.{number_of, status_of, same_status, heartbeat_status};
 
 use decide::Refusal;
@@ -25,6 +26,8 @@ impl Status {
 }
 
 impl From<Status> for ExitCode {
+    ghost from_gives = { λ status code. exit_status code ≡ number_of status };
+
     fn from(status: Status) -> ExitCode {
         ExitCode::from(status.number())
     }

@@ -1,6 +1,8 @@
 // What is said on standard error: one line, and nothing where all is done. A line is put together in a room and written at once, so that the lines of commands that
 // run side by side stay whole; the system's own words stand behind what they are of.
 ghost use Rattle.std.specs.Prelude.{◌≡◌, ◌≤◌, length};
+ghost use Rattle.decide.specs.Number.{number_in};
+ghost use Rattle.console.specs.Meaning.{record_words, pattern_words, summary_words};
 ghost use Rattle.console.specs.declared.status.Status.TheVariants.{Trouble};
 
 use crate::host::Host;
@@ -32,7 +34,7 @@ pub fn is_input(name: &[u8]) -> bool {
 
 // Says how a command is called.
 pub fn usage(rt: &impl Host, words: &[u8]) -> Said {
-    line(rt, [0u8; LINE], &[b"usage: rpr ", words])
+    line(rt, &mut [0u8; LINE], &[b"usage: rpr ", words])
 }
 
 // Says that a file cannot be read, and the system's reason.
@@ -57,16 +59,17 @@ pub fn say(rt: &impl Host, name: &[u8], words: &[u8]) -> Said {
 
 // Says words of a word of the command line that is no file.
 pub fn say_word(rt: &impl Host, word: &[u8], words: &[u8]) -> Said {
-    line(rt, [0u8; LINE], &[b"rpr: ", word, b": ", words])
+    line(rt, &mut [0u8; LINE], &[b"rpr: ", word, b": ", words])
 }
 
 // Says a refusal of a file, with its number and what that means there.
 pub fn refused(rt: &impl Host, name: &[u8], why: Refusal, words: &[u8]) -> Said {
-    let told = text::<28, _>(why);
+    let mut room = [0u8; 28];
+    let told = text(&mut room, why);
     line(
         rt,
-        [0u8; LINE],
-        &[b"rpr: ", shown(name), b": ", written(&told), b": ", words],
+        &mut [0u8; LINE],
+        &[b"rpr: ", shown(name), b": ", told, b": ", words],
     )
 }
 
@@ -77,32 +80,46 @@ pub fn refused_record(rt: &impl Host, name: &[u8], why: Refusal) -> Said {
 
 // Says a refusal of a heartbeat's pattern.
 pub fn refused_pattern(rt: &impl Host, name: &[u8], why: Refusal) -> Said {
-    let words: &[u8] = match why {
-        Refusal::OutOfRange => b"over 256 events, or the size of a send is outside its range",
-        Refusal::TooMany => b"over 1,000,000 events with so many repeats",
-        _ => of_record(why),
-    };
-    refused(rt, name, why, words)
+    refused(rt, name, why, of_pattern(why))
 }
 
 // Says a refusal of a summary that is joined to those before it.
 pub fn refused_summary(rt: &impl Host, name: &[u8], why: Refusal) -> Said {
-    let words: &[u8] = match why {
-        Refusal::NotWhole => b"not the 48 bytes of a summary",
-        Refusal::OutOfRange => b"the summary is outside its range",
-        Refusal::Unlike => b"its settings are not those of the files before it",
-        _ => b"over 1,000,000 events with the files before it",
-    };
-    refused(rt, name, why, words)
+    refused(rt, name, why, of_summary(why))
 }
 
-// What a refusal means of a record.
-fn of_record(why: Refusal) -> &'static [u8] {
-    match why {
-        Refusal::Setting => b"a setting is outside its range",
-        Refusal::NotWhole => b"the bytes are not a whole record",
-        Refusal::OutOfRange => b"the size of a send is outside its range",
+// What a refusal means of a record, by its number.
+fn of_record(why: Refusal) -> &'static [u8]
+    ensures { result.now ≡ record_words (number_in why) }
+{
+    match why.number() {
+        1 => b"a setting is outside its range",
+        2 => b"the bytes are not a whole record",
+        3 => b"the size of a send is outside its range",
         _ => b"over 1,000,000 events",
+    }
+}
+
+// What a refusal means of a heartbeat's pattern, by its number.
+fn of_pattern(why: Refusal) -> &'static [u8]
+    ensures { result.now ≡ pattern_words (number_in why) }
+{
+    match why.number() {
+        3 => b"over 256 events, or the size of a send is outside its range",
+        9 => b"over 1,000,000 events with so many repeats",
+        _ => of_record(why),
+    }
+}
+
+// What a refusal means of a summary that is joined to those before it, by its number.
+fn of_summary(why: Refusal) -> &'static [u8]
+    ensures { result.now ≡ summary_words (number_in why) }
+{
+    match why.number() {
+        2 => b"not the 48 bytes of a summary",
+        3 => b"the summary is outside its range",
+        10 => b"its settings are not those of the files before it",
+        _ => b"over 1,000,000 events with the files before it",
     }
 }
 
@@ -117,9 +134,9 @@ fn shown(name: &[u8]) -> &[u8] {
 
 // Says what there is trouble with, in two parts, and the system's reason.
 fn trouble_with(rt: &impl Host, who: &[u8], what: &[u8], why: io::Error) -> Said {
-    let told = text::<320, _>(why);
-    let reason = reason(written(&told), why.raw_os_error().is_some());
-    line(rt, [0u8; LINE], &[who, what, b": ", reason])
+    let mut room = [0u8; 320];
+    let reason = reason(text(&mut room, why), why.raw_os_error().is_some());
+    line(rt, &mut [0u8; LINE], &[who, what, b": ", reason])
 }
 
 // The reason: where the system's number stands behind it, in brackets, what stands before the last blank that a bracket follows.
@@ -131,27 +148,28 @@ fn reason(text: &[u8], numbered: bool) -> &[u8] {
     }
 }
 
-// A value as text, as far as it fits.
-fn text<const N: usize, D: Display + Drop>(value: D) -> Cursor<[u8; N]> {
-    let mut room = Cursor::new([0u8; N]);
+// A value as text, as far as it fits this room.
+fn text<D: Display + Drop>(room: &mut [u8], value: D) -> &[u8] {
+    let mut room = Cursor::new(room);
     let _ = write!(room, "{value}");
-    room
+    written(room)
 }
 
 // What is written to a room.
-fn written<const N: usize>(room: &Cursor<[u8; N]>) -> &[u8] {
-    let end = room.position().min(N as u64) as usize;
-    &room.get_ref()[..end]
+fn written<'a>(room: Cursor<&'a mut [u8]>) -> &'a [u8] {
+    let end = room.position();
+    let bytes = room.into_inner();
+    &bytes[..end.min(bytes.len() as u64) as usize]
 }
 
 // Writes a line of these parts, as far as they fit this room.
-pub fn line<const N: usize>(rt: &impl Host, room: [u8; N], parts: &[&[u8]]) -> Said {
+pub fn line(rt: &impl Host, room: &mut [u8], parts: &[&[u8]]) -> Said {
     let mut line = Cursor::new(room);
     for part in parts {
         let _ = line.write_all(part);
     }
     let _ = line.write_all(b"\n");
     // Where standard error cannot be written, nothing is left to say it on.
-    let _ = rt.tell(written(&line));
+    let _ = rt.tell(written(line));
     Said
 }

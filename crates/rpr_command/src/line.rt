@@ -7,7 +7,7 @@ use std::io;
 pub fn usage(rt: &impl Host) -> Said {
     line(
         rt,
-        [0u8; 128],
+        &mut [0u8; 128],
         &[
             b"usage: rpr summarize | join | compare | roll | unroll | heartbeat ..; rpr --help tells more",
         ],
@@ -20,7 +20,7 @@ pub fn unknown(rt: &impl Host) -> Said {
     let n = words::word_into(rt, 1, &mut word).unwrap_or(0);
     line(
         rt,
-        [0u8; 131328],
+        &mut [0u8; 131328],
         &[
             b"rpr: there is no command ",
             &word[..n],
@@ -36,5 +36,5 @@ pub fn no_null(rt: &impl Host, why: io::Error) -> Said {
 
 // There is no memory to move a record in.
 pub fn no_memory(rt: &impl Host) -> Said {
-    line(rt, [0u8; 32], &[b"rpr: out of memory"])
+    line(rt, &mut [0u8; 32], &[b"rpr: out of memory"])
 }
