@@ -78,14 +78,15 @@ fn run(rt: &impl Print, line: &[u8]) -> io::Result<()> {
 
 // Does what a word says: a bar ends the piece, and other words are bytes.
 fn apply(rt: &impl Print, case: &mut Case, word: &[u8]) -> io::Result<()> {
-    if word == b"|" {
-        case.part();
-        return Ok(());
+    match word {
+        b"|" => case.part(),
+        _ => {
+            if let Err(fault) = spelt(case, word) {
+                return wrong(rt, word, fault);
+            }
+        }
     }
-    match spelt(case, word) {
-        Ok(()) => Ok(()),
-        Err(fault) => wrong(rt, word, fault),
-    }
+    Ok(())
 }
 
 // Feeds the bytes of a word, as often as they come.
