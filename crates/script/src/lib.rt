@@ -14,5 +14,5 @@ mod words;
 pub use fault::Fault;
 pub use input::each_line;
 pub use numerals::{Numbers, number, numbers};
-pub use pairs::{Bytes, bytes_of};
+pub use pairs::{Bytes, bytes_into, bytes_of};
 pub use words::{Times, Words, times_of, words_of};

@@ -1,19 +1,40 @@
 // What no clause says: which lines are run, and what is a number and what are bytes.
-use crate::{bytes_of, each_line, number};
+use crate::{Fault, bytes_into, bytes_of, each_line, number, print};
 use arrayvec::ArrayVec;
-use std::alloc::{Allocator, Global};
+use std::alloc::Allocator;
+use std::cell::Cell;
 use std::fmt::Display;
 use std::io;
-use std::io::{BufRead, Lines};
+use std::io::{BufRead, ErrorKind, Lines};
 use std::test::Fail;
 
 static LONG: [u8; 4097] = [b'x'; 4097];
 
-// A runtime whose input is this text, and whose output goes nowhere.
+// A runtime whose input is this text, and whose output goes nowhere, or fails where it is full. It counts the prints that are tried.
 #[derive(Drop)]
 struct Page {
     text: &'static [u8],
-    alloc: Global,
+    full: bool,
+    tried: Cell<usize>,
+}
+
+impl Page {
+    fn new(text: &'static [u8], full: bool) -> Page {
+        Page {
+            text,
+            full,
+            tried: Cell::new(0),
+        }
+    }
+
+    // Tries a print.
+    fn take(&self) -> io::Result<()> {
+        self.tried.set(self.tried.get().wrapping_add(1));
+        match self.full {
+            true => Err(ErrorKind::StorageFull.into()),
+            false => Ok(()),
+        }
+    }
 }
 
 impl io::Input for Page {
@@ -34,31 +55,22 @@ impl io::Input for Page {
 
 impl Print for Page {
     fn print<D: Display + Drop>(&self, _value: D) -> io::Result<()> {
-        Ok(())
+        self.take()
     }
 
     fn println<D: Display + Drop>(&self, _value: D) -> io::Result<()> {
-        Ok(())
+        self.take()
     }
 
     fn write_all(&self, _bytes: &[u8]) -> io::Result<()> {
-        Ok(())
-    }
-}
-
-impl Alloc for Page {
-    type A = Global;
-
-    fn alloc(&self) -> Global {
-        self.alloc
+        self.take()
     }
 }
 
 // The lengths of the lines that are run of a text.
-fn run_lengths(alloc: Global, text: &'static [u8]) -> io::Result<ArrayVec<usize, 8>> {
-    let page = Page { text, alloc };
+fn run_lengths(text: &'static [u8]) -> io::Result<ArrayVec<usize, 8>> {
     let mut lengths = ArrayVec::<usize, 8>::new();
-    each_line(&page, |line| {
+    each_line(&Page::new(text, false), |line| {
         let _ = lengths.try_push(line.len());
         Ok(())
     })?;
@@ -67,14 +79,37 @@ fn run_lengths(alloc: Global, text: &'static [u8]) -> io::Result<ArrayVec<usize,
 
 #[test]
 fn lines_are_run(rt: HostRuntime) -> Result<(), Fail> {
-    let lines = run_lengths(rt.alloc(), b"ab\n\nc\r\nlast")?;
+    let lines = run_lengths(b"ab\n\nc\r\nlast")?;
     assert!(rt; lines.as_slice() == [2, 0, 2, 4].as_slice());
-    let ended = run_lengths(rt.alloc(), b"ab\n")?;
+    let ended = run_lengths(b"ab\n")?;
     assert!(rt; ended.as_slice() == [2, 0].as_slice());
-    let longest = run_lengths(rt.alloc(), &LONG[1..])?;
+    let longest = run_lengths(&LONG[1..])?;
     assert!(rt; longest.as_slice() == [4096].as_slice());
-    assert!(rt; run_lengths(rt.alloc(), &LONG)?.is_empty());
+    assert!(rt; run_lengths(&LONG)?.is_empty());
     Ok(())
+}
+
+#[test]
+fn lost_prints_end_nothing(rt: HostRuntime) -> Result<(), Fail> {
+    let page = Page::new(b"first\nsecond", true);
+    let mut runs = 0usize;
+    each_line(&page, |line| {
+        runs = runs.wrapping_add(1);
+        print::hex(&page, line)
+    })?;
+    assert!(rt; runs == 2 && page.tried.get() == 11);
+    assert!(rt; print::wrong(&page, b"word", Fault::NoHex).is_err());
+    assert!(rt; page.tried.get() == 13);
+    Ok(())
+}
+
+#[test]
+fn bytes_are_put(rt: HostRuntime) {
+    let mut room = [7u8; 3];
+    assert!(rt; bytes_into(b" 0aFf ", &mut room) == Ok(2));
+    assert!(rt; room == [10, 255, 7]);
+    assert!(rt; bytes_into(b"01020304", &mut room) == Err(Fault::NoHex));
+    assert!(rt; room == [10, 255, 7]);
 }
 
 #[test]

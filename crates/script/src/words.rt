@@ -1,5 +1,5 @@
 // The words of a line, and how often one of them asks for something.
-ghost use Rattle.std.specs.Prelude.{◌≡◌, ◌≢◌, ◌+◌, ◌<◌, ◌≤◌, [], length, slice_index_or, MatchOption};
+ghost use Rattle.std.specs.Prelude.{◌≡◌, ◌≢◌, ◌+◌, ◌-◌, ◌<◌, ◌≤◌, [], ◌++◌, List, ℕ, length, drop, slice_index_or, MatchOption};
 ghost use Rattle.std.specs.Iterator.{at_most};
 
 use crate::{Fault, number};
@@ -18,8 +18,8 @@ pub struct Times<'a> {
 impl<'a> Iterator for Words<'a> {
     type Item = &'a [u8];
 
-    // A word is not empty, and stands before the words that are left.
-    ghost next_gives = { λ s r t. MatchOption r (t.0.now ≡ s.0.now) (λ word. (0 < length word.now) × (length word.now + length t.0.now ≤ length s.0.now)) };
+    // A word is not empty, and what is left stands right behind it: the text is what was passed over, the word, and what is left.
+    ghost next_gives = { λ s r t. MatchOption r (t.0.now ≡ s.0.now) (λ word. (0 < length word.now) × (length word.now + length t.0.now ≤ length s.0.now) × ((before : List ℕ) × (before ++ word.now ++ t.0.now ≡ s.0.now))) };
 
     ghost remaining = { λ s. at_most (length s.0.now) };
 
@@ -47,7 +47,8 @@ pub fn words_of(line: &[u8]) -> Words<'_>
 
 /// How often a word asks for what.
 pub fn times_of(word: &[u8]) -> Times<'_>
-    ensures { length result.what.now ≤ length word.now }
+    ensures fits { length result.what.now ≤ length word.now }
+    ensures behind { result.what.now ≡ drop (length word.now - length result.what.now) word.now }
 {
     match word.iter().position(|c| *c == b'*') {
         Some(star) => Times {

@@ -6,49 +6,44 @@ mod lent;
 use settings::{Address, Bucket, Fairness, Queues, Settings, Shapers, Site};
 use shaper::{Limits, Refused, Shaper};
 use station::Station;
-use std::io;
 
-// What cannot be printed is lost.
+// What cannot be printed is lost, and the next call is made and printed all the same.
 fn main(rt: HostRuntime) {
-    let _ = calls(&rt);
-}
-
-fn calls(rt: &impl Print) -> io::Result<()> {
-    shapers(rt)?;
+    shapers(&rt);
     let mut station = started();
-    frames(rt, &mut station)?;
-    lacking(rt, &mut station)?;
-    turned_down(rt)
+    frames(&rt, &mut station);
+    lacking(&rt, &mut station);
+    turned_down(&rt);
 }
 
 // mtu 64, loLimit 100, hiLimit 300: a credit of 100 does not permit; a waiting tick of 150 brings 250; a send of 60 leaves 190; an idle tick cuts to 100.
-fn shapers(rt: &impl Print) -> io::Result<()> {
+fn shapers(rt: &impl Print) {
     let mut shaper = Shaper::fresh(Limits {
         mtu: 64,
         lo: 100,
         hi: 300,
     });
-    charged(rt, &mut shaper, 60)?;
-    ticked(rt, &mut shaper, true, 150)?;
-    charged(rt, &mut shaper, 60)?;
-    ticked(rt, &mut shaper, false, 50)
+    charged(rt, &mut shaper, 60);
+    ticked(rt, &mut shaper, true, 150);
+    charged(rt, &mut shaper, 60);
+    ticked(rt, &mut shaper, false, 50);
 }
 
-fn ticked(rt: &impl Print, s: &mut Shaper, waiting: bool, amount: u32) -> io::Result<()> {
+fn ticked(rt: &impl Print, s: &mut Shaper, waiting: bool, amount: u32) {
     *s = lent::shaper_tick(*s, waiting, amount);
-    println!(rt; "shaper tick credit {}", s.credit)
+    let _ = println!(rt; "shaper tick credit {}", s.credit);
 }
 
-fn charged(rt: &impl Print, s: &mut Shaper, size: u32) -> io::Result<()> {
+fn charged(rt: &impl Print, s: &mut Shaper, size: u32) {
     let out = lent::shaper_charge(*s, size);
     *s = out.left;
     let said = out.said;
-    println!(rt;
+    let _ = println!(rt;
         "shaper charge {} short {} credit {}",
         number_in(&said),
         short_in(&said),
         s.credit
-    )
+    );
 }
 
 // A fresh station: every shaper 100 300 50, queues of 256 bytes, low threshold 128, weight 2, unit 4, 10 ticks, unreservedRate 10,000, default
@@ -94,53 +89,53 @@ fn started() -> Station {
 }
 
 // A tick, a frame of each kind, their selection, the end of an interval, and a fairness frame that says 500; refusals among them.
-fn frames(rt: &impl Print, s: &mut Station) -> io::Result<()> {
-    select(rt, s)?;
-    client(rt, s, 0, 64, 5)?;
-    tick(rt, s, 2, 0, 0)?;
-    tick(rt, s, 1, 1, 1)?;
-    client(rt, s, 2, 64, 5)?;
-    client(rt, s, 0, 64, 1)?;
-    transit(rt, s, 1, 60, 3, 1)?;
-    transit(rt, s, 1, 60, 3, 2)?;
-    control(rt, s, 16)?;
-    tick(rt, s, 0, 0, 0)?;
+fn frames(rt: &impl Print, s: &mut Station) {
+    select(rt, s);
+    client(rt, s, 0, 64, 5);
+    tick(rt, s, 2, 0, 0);
+    tick(rt, s, 1, 1, 1);
+    client(rt, s, 2, 64, 5);
+    client(rt, s, 0, 64, 1);
+    transit(rt, s, 1, 60, 3, 1);
+    transit(rt, s, 1, 60, 3, 2);
+    control(rt, s, 16);
+    tick(rt, s, 0, 0, 0);
     for _ in 0..3 {
-        select(rt, s)?;
+        select(rt, s);
     }
-    age(rt, s)?;
-    hear(rt, s, b"\xff\xa0\x02\x00\x5e\x00\x00\x02\x00\x00\x01\xf4")?;
-    hear(rt, s, b"\xff\xa0")?;
-    hear(rt, s, b"\xff\xa0\x02\x00\x5e\x00\x00\x01\x00\x00\x01\xf4")
+    age(rt, s);
+    hear(rt, s, b"\xff\xa0\x02\x00\x5e\x00\x00\x02\x00\x00\x01\xf4");
+    hear(rt, s, b"\xff\xa0");
+    hear(rt, s, b"\xff\xa0\x02\x00\x5e\x00\x00\x01\x00\x00\x01\xf4");
 }
 
 // A frame of each class that shapers turn down: A, B and C lack 1 byte, D lacks 25.
-fn lacking(rt: &impl Print, s: &mut Station) -> io::Result<()> {
-    client(rt, s, 0, 64, 1)?;
-    client(rt, s, 1, 64, 1)?;
-    client(rt, s, 2, 64, 1)
+fn lacking(rt: &impl Print, s: &mut Station) {
+    client(rt, s, 0, 64, 1);
+    client(rt, s, 1, 64, 1);
+    client(rt, s, 2, 64, 1);
 }
 
 // A shaper at its start lacks 1 byte; after a send from just above loLimit it lacks the size.
-fn turned_down(rt: &impl Print) -> io::Result<()> {
+fn turned_down(rt: &impl Print) {
     let mut shaper = Shaper::fresh(Limits {
         mtu: 64,
         lo: 100,
         hi: 300,
     });
-    charged(rt, &mut shaper, 60)?;
-    ticked(rt, &mut shaper, true, 1)?;
-    charged(rt, &mut shaper, 60)?;
-    charged(rt, &mut shaper, 60)
+    charged(rt, &mut shaper, 60);
+    ticked(rt, &mut shaper, true, 1);
+    charged(rt, &mut shaper, 60);
+    charged(rt, &mut shaper, 60);
 }
 
-fn tick(rt: &impl Print, s: &mut Station, a: u64, b: u64, c: u64) -> io::Result<()> {
+fn tick(rt: &impl Print, s: &mut Station, a: u64, b: u64, c: u64) {
     let out = lent::tick(*s, a, b, c);
     *s = out.left;
-    after(rt, "tick", number_in(&out.said), s)
+    after(rt, "tick", number_in(&out.said), s);
 }
 
-fn client(rt: &impl Print, s: &mut Station, class: u64, size: u64, hops: u64) -> io::Result<()> {
+fn client(rt: &impl Print, s: &mut Station, class: u64, size: u64, hops: u64) {
     let out = lent::offer_client(*s, class, size, hops);
     *s = out.left;
     let said = out.said;
@@ -148,30 +143,23 @@ fn client(rt: &impl Print, s: &mut Station, class: u64, size: u64, hops: u64) ->
         Ok(mark) => mark,
         Err(_) => 0,
     };
-    print!(rt; "mark {mark} short {} ", short_in(&said))?;
-    after(rt, "client", number_in(&said), s)
+    let _ = print!(rt; "mark {mark} short {} ", short_in(&said));
+    after(rt, "client", number_in(&said), s);
 }
 
-fn transit(
-    rt: &impl Print,
-    s: &mut Station,
-    class: u64,
-    size: u64,
-    hops: u64,
-    eligible: u64,
-) -> io::Result<()> {
+fn transit(rt: &impl Print, s: &mut Station, class: u64, size: u64, hops: u64, eligible: u64) {
     let out = lent::offer_transit(*s, class, size, hops, eligible);
     *s = out.left;
-    after(rt, "transit", number_in(&out.said), s)
+    after(rt, "transit", number_in(&out.said), s);
 }
 
-fn control(rt: &impl Print, s: &mut Station, size: u64) -> io::Result<()> {
+fn control(rt: &impl Print, s: &mut Station, size: u64) {
     let out = lent::offer_control(*s, size);
     *s = out.left;
-    after(rt, "control", number_in(&out.said), s)
+    after(rt, "control", number_in(&out.said), s);
 }
 
-fn select(rt: &impl Print, s: &mut Station) -> io::Result<()> {
+fn select(rt: &impl Print, s: &mut Station) {
     let out = lent::select(*s);
     *s = out.left;
     let said = out.said;
@@ -179,20 +167,20 @@ fn select(rt: &impl Print, s: &mut Station) -> io::Result<()> {
         Ok(chosen) => (chosen.origin, chosen.frame.size),
         Err(_) => (0, 0),
     };
-    print!(rt; "origin {origin} size {size} ")?;
-    after(rt, "select", number_in(&said), s)
+    let _ = print!(rt; "origin {origin} size {size} ");
+    after(rt, "select", number_in(&said), s);
 }
 
-fn age(rt: &impl Print, s: &mut Station) -> io::Result<()> {
+fn age(rt: &impl Print, s: &mut Station) {
     let out = lent::age(*s);
     *s = out.left;
-    after(rt, "age", number_in(&out.said), s)
+    after(rt, "age", number_in(&out.said), s);
 }
 
-fn hear(rt: &impl Print, s: &mut Station, frame: &[u8]) -> io::Result<()> {
+fn hear(rt: &impl Print, s: &mut Station, frame: &[u8]) {
     let out = lent::hear(*s, frame);
     *s = out.left;
-    after(rt, "hear", number_in(&out.said), s)
+    after(rt, "hear", number_in(&out.said), s);
 }
 
 // The number of a refusal, and 0 of a call that was carried out.
@@ -212,14 +200,14 @@ fn short_in<T>(said: &Result<T, Refused>) -> u64 {
 }
 
 // Prints the number that a call answered and some of what it left: the credits, the frames held, and the rate that was received.
-fn after(rt: &impl Print, call: &str, said: u64, s: &Station) -> io::Result<()> {
+fn after(rt: &impl Print, call: &str, said: u64, s: &Station) {
     let flow = &s.flow;
     let credits = flow.credits;
-    print!(rt;
+    let _ = print!(rt;
         "{call} {said} credits {} {} {}",
         credits.m, credits.a, credits.b
-    )?;
-    print!(rt; " {} {} held {}", credits.c, credits.d, flow.control.held)?;
-    print!(rt; " {} {}", flow.primary.held, flow.secondary.held)?;
-    println!(rt; " received {}", s.fair.received.rate)
+    );
+    let _ = print!(rt; " {} {} held {}", credits.c, credits.d, flow.control.held);
+    let _ = print!(rt; " {} {}", flow.primary.held, flow.secondary.held);
+    let _ = println!(rt; " received {}", s.fair.received.rate);
 }

@@ -4,32 +4,26 @@
 
 use reader::Place;
 use script::print::wrong;
-use script::{Bytes, Fault};
 use std::io;
 
 // Walks the record on a line.
 fn run(rt: &impl Print, line: &[u8]) -> io::Result<()> {
-    let mut record = Bytes::new();
+    let mut room = [0u8; 4096];
+    let mut count = 0;
+    // Each word's bytes stand behind those of the words before it.
     for word in script::words_of(line) {
-        if let Err(fault) = spelt(&mut record, word) {
-            return wrong(rt, word, fault);
+        match script::bytes_into(word, &mut room[count..]) {
+            Ok(n) => count += n,
+            Err(fault) => return wrong(rt, word, fault),
         }
     }
-    match record.is_empty() {
-        true => Ok(()),
-        false => walk(rt, record.as_slice()),
+    match count {
+        0 => Ok(()),
+        _ => walk(rt, &room[..count]),
     }
 }
 
-// Puts the bytes that a word spells behind those of the words before it.
-fn spelt(record: &mut Bytes, word: &[u8]) -> Result<(), Fault> {
-    let bytes = script::bytes_of(word)?;
-    record
-        .try_extend_from_slice(bytes.as_slice())
-        .map_err(|_| Fault::NoHex)
-}
-
-// Prints what a reader finds from the first item on.
+// Prints what a reader finds from the first item on. What cannot be printed is lost, and what comes after it is printed all the same.
 fn walk(rt: &impl Print, bytes: &[u8]) -> io::Result<()> {
     let mut place = Place {
         at: reader::START,
@@ -38,7 +32,7 @@ fn walk(rt: &impl Print, bytes: &[u8]) -> io::Result<()> {
     loop {
         match reader::read_at(bytes, place) {
             Ok(Some(item)) => {
-                events(rt, item.kind, item.number, item.count)?;
+                events(rt, item.kind, item.number, item.count);
                 place = Place {
                     at: item.next,
                     done: place.done + item.count as u64,
@@ -51,11 +45,10 @@ fn walk(rt: &impl Print, bytes: &[u8]) -> io::Result<()> {
 }
 
 // An item's lines, one for each of its events: a run prints what its ticks print one by one.
-fn events(rt: &impl Print, kind: u16, number: u16, count: u32) -> io::Result<()> {
+fn events(rt: &impl Print, kind: u16, number: u16, count: u32) {
     for _ in 0..count {
-        event(rt, kind, number)?;
+        let _ = event(rt, kind, number);
     }
-    Ok(())
 }
 
 // An event's line.

@@ -5,8 +5,8 @@
 
 use decide::Refusal;
 use feed::Feed;
+use script::Fault;
 use script::print::wrong;
-use script::{Bytes, Fault};
 use std::io;
 use summary::Summary;
 
@@ -61,17 +61,16 @@ fn joined(whole: Option<Result<Summary, Refusal>>, s: Summary) -> Result<Summary
     }
 }
 
-// Runs the case on a line, and prints its name and what it comes to.
+// Runs the case on a line, and prints its name and what it comes to, each whatever became of what was printed before it.
 fn run(rt: &impl Print, line: &[u8]) -> io::Result<()> {
     let mut words = script::words_of(line);
     let Some(name) = words.next() else {
         return Ok(());
     };
-    rt.write_all(name)?;
-    rt.println("")?;
+    let _ = rt.write_all(name).and(rt.println(""));
     let mut case = Case::new();
     for word in words {
-        apply(rt, &mut case, word)?;
+        let _ = apply(rt, &mut case, word);
     }
     case.part();
     report::print(rt, case.answer())
@@ -81,18 +80,22 @@ fn run(rt: &impl Print, line: &[u8]) -> io::Result<()> {
 fn apply(rt: &impl Print, case: &mut Case, word: &[u8]) -> io::Result<()> {
     match word {
         b"|" => case.part(),
-        _ => match spelt(word) {
-            Ok((bytes, times)) => case.feed(bytes.as_slice(), times),
-            Err(fault) => return wrong(rt, word, fault),
-        },
+        _ => {
+            if let Err(fault) = spelt(case, word) {
+                return wrong(rt, word, fault);
+            }
+        }
     }
     Ok(())
 }
 
-// The bytes of a word, and how often they come.
-fn spelt(word: &[u8]) -> Result<(Bytes, u64), Fault> {
+// Feeds the bytes of a word, as often as they come.
+fn spelt(case: &mut Case, word: &[u8]) -> Result<(), Fault> {
     let times = script::times_of(word);
-    Ok((script::bytes_of(times.what)?, times.number?))
+    let mut room = [0u8; 4096];
+    let count = script::bytes_into(times.what, &mut room)?;
+    case.feed(&room[..count], times.number?);
+    Ok(())
 }
 
 fn main(rt: HostRuntime) -> io::Result<()> {

@@ -24,10 +24,22 @@ pub fn call(
     name: &[u8],
     words: Words<'_>,
 ) -> io::Result<()> {
+    match name {
+        b"hear" => hear(rt, station, words),
+        _ => numbered(rt, station, name, words),
+    }
+}
+
+// The call of this name that is given numbers.
+fn numbered(
+    rt: &impl Print,
+    station: &mut Station,
+    name: &[u8],
+    words: Words<'_>,
+) -> io::Result<()> {
     let row = script::numbers(words).ok();
     let row = row.as_ref().map(|numbers| numbers.as_slice());
     match name {
-        b"hear" => hear(rt, station, words),
         b"start" => start(rt, station, row),
         b"tick" => tick(rt, station, row),
         b"client" => client(rt, station, row),
@@ -121,8 +133,9 @@ fn age(rt: &impl Print, station: &mut Station, row: Option<&[u64]>) -> io::Resul
 
 // The bytes of a fairness frame, any number of them.
 fn hear(rt: &impl Print, station: &mut Station, words: Words<'_>) -> io::Result<()> {
-    match script::bytes_of(words.0) {
-        Ok(bytes) => after(rt, station, "hear", station.hear(bytes.as_slice())),
+    let mut room = [0u8; 4096];
+    match script::bytes_into(words.0, &mut room) {
+        Ok(count) => after(rt, station, "hear", station.hear(&room[..count])),
         Err(_) => wrong(rt, b"hear", "hex in one word is wanted"),
     }
 }

@@ -24,7 +24,7 @@ pub fn selected(rt: &impl Print, origin: u32, frame: Frame) -> io::Result<()> {
 pub fn told(rt: &impl Print, said: Advert) -> io::Result<()> {
     let mut room = [0u8; advert::LENGTH];
     advert::write(said, &mut room);
-    rt.print("tell ")?;
-    script::print::hex(rt, &room)?;
-    rt.println("")
+    rt.print("tell ")
+        .and(script::print::hex(rt, &room))
+        .and(rt.println(""))
 }

@@ -7,16 +7,16 @@ use std::io;
 
 // `show` and the words of the reading.
 pub fn shown(rt: &impl Print, reading: Reading) -> io::Result<()> {
-    rt.print("show")?;
-    credits(rt, reading.credits)?;
-    held(rt, "control", reading.control)?;
-    held(rt, "primary", reading.primary)?;
-    held(rt, "secondary", reading.secondary)?;
-    held(rt, "stage", reading.stage)?;
-    counted(rt, reading.counters)?;
-    smoothed(rt, reading.smoothed)?;
-    decided(rt, reading.decided)?;
-    received(rt, reading.received)
+    rt.print("show")
+        .and(credits(rt, reading.credits))
+        .and(held(rt, "control", reading.control))
+        .and(held(rt, "primary", reading.primary))
+        .and(held(rt, "secondary", reading.secondary))
+        .and(held(rt, "stage", reading.stage))
+        .and(counted(rt, reading.counters))
+        .and(smoothed(rt, reading.smoothed))
+        .and(decided(rt, reading.decided))
+        .and(received(rt, reading.received))
 }
 
 fn credits(rt: &impl Print, credits: Credits) -> io::Result<()> {
@@ -47,8 +47,9 @@ fn decided(rt: &impl Print, decided: Decided) -> io::Result<()> {
         own,
         congested,
     } = decided;
-    print!(rt; " localFairRate {local} allowedRate {allowed} allowedRateCongested {allowedc}")?;
-    print!(rt; " ownRate {own} locallyCongested {congested}")
+    print!(rt; " localFairRate {local} allowedRate {allowed} allowedRateCongested {allowedc}").and(
+        print!(rt; " ownRate {own} locallyCongested {congested}"),
+    )
 }
 
 fn received(rt: &impl Print, received: Received) -> io::Result<()> {
@@ -59,6 +60,7 @@ fn received(rt: &impl Print, received: Received) -> io::Result<()> {
         low,
         rate,
     } = received;
-    print!(rt; " downstreamCongested {downstream} receivedTtl {ttl}")?;
-    println!(rt; " receivedAddressHigh {high} receivedAddressLow {low} receivedRate {rate}")
+    print!(rt; " downstreamCongested {downstream} receivedTtl {ttl}").and(println!(rt;
+        " receivedAddressHigh {high} receivedAddressLow {low} receivedRate {rate}"
+    ))
 }
