@@ -69,19 +69,20 @@ fn run(rt: &impl Print, line: &[u8]) -> io::Result<()> {
     };
     let _ = rt.write_all(name).and(rt.println(""));
     let mut case = Case::new();
+    let mut room = [0u8; 4096];
     for word in words {
-        let _ = apply(rt, &mut case, word);
+        let _ = apply(rt, &mut case, word, &mut room);
     }
     case.part();
     report::print(rt, case.answer())
 }
 
 // Does what a word says: a bar ends the piece, and other words are bytes.
-fn apply(rt: &impl Print, case: &mut Case, word: &[u8]) -> io::Result<()> {
+fn apply(rt: &impl Print, case: &mut Case, word: &[u8], room: &mut [u8]) -> io::Result<()> {
     match word {
         b"|" => case.part(),
         _ => {
-            if let Err(fault) = spelt(case, word) {
+            if let Err(fault) = spelt(case, word, room) {
                 return wrong(rt, word, fault);
             }
         }
@@ -89,11 +90,10 @@ fn apply(rt: &impl Print, case: &mut Case, word: &[u8]) -> io::Result<()> {
     Ok(())
 }
 
-// Feeds the bytes of a word, as often as they come.
-fn spelt(case: &mut Case, word: &[u8]) -> Result<(), Fault> {
+// Feeds the bytes of a word, as often as they come, by way of the room.
+fn spelt(case: &mut Case, word: &[u8], room: &mut [u8]) -> Result<(), Fault> {
     let times = script::times_of(word);
-    let mut room = [0u8; 4096];
-    let count = script::bytes_into(times.what, &mut room)?;
+    let count = script::bytes_into(times.what, room)?;
     case.feed(&room[..count], times.number?);
     Ok(())
 }
