@@ -33,7 +33,9 @@ pub fn run(rt: &impl Host) -> Result<Status, Said> {
     compare(rt, first, second)
 }
 
-// Opens both files, tests them, and lists where they part. Standard input has one place to read from, and so is one file.
+// Opens both files, tests them, and lists where they part. Standard input has one place to read from, and so is one file. The rooms of a listing are large: the other
+// commands, which run from the same place, do without them.
+#[inline(never)]
 fn compare<R: Host>(rt: &R, first: &[u8], second: &[u8]) -> Result<Status, Said> {
     if tell::is_input(first) && tell::is_input(second) {
         return Err(tell::say(rt, first, b"cannot be two files"));

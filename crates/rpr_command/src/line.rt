@@ -15,6 +15,7 @@ pub fn usage(rt: &impl Host) -> Said {
 }
 
 // The first word is no command's. A word of the system's has at most 131,071 bytes.
+#[inline(never)]
 pub fn unknown(rt: &impl Host) -> Said {
     let mut word = [0u8; 131072];
     let n = words::word_into(rt, 1, &mut word).unwrap_or(0);
