@@ -146,7 +146,7 @@ fn page<F: Read + Seek>(
 // The walk behind the last whole item of equal windows of so many bytes: what is fed is all that was read, and what it holds stands behind that item.
 fn behind(fed: Feed, length: usize) -> Walk {
     let place = Place {
-        at: length.saturating_sub(usize::from(fed.held)),
+        at: decide::less(length as u64, u64::from(fed.held)) as usize,
         gone: 0,
     };
     Walk {

@@ -64,7 +64,7 @@ impl<'a, F: Read + Seek> Reading<'a, F> {
         self.from = self.end;
         match keep {
             Some(at) if !self.last => {
-                let at = at.min(self.end);
+                let at = decide::lesser(at as u64, self.end as u64) as usize;
                 self.window.copy_within(at..self.end, 0);
                 self.fill(self.end - at)
             }

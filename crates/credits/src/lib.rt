@@ -137,7 +137,7 @@ impl Credits {
     fn short_of_two(self, settings: Settings, one: Which, other: Which) -> u64
         ensures { result ≡ short_all settings self (one ∷ other ∷ []) }
     {
-        self.short(settings, one).max(self.short(settings, other))
+        decide::larger(self.short(settings, one), self.short(settings, other))
     }
 
     // The credits after a frame of this size is charged to every shaper that its way needs, and that permits it.

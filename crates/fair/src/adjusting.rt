@@ -90,8 +90,8 @@ impl Adjusted {
         ensures { result ≡ test (near settings self) }
     {
         let fairness = settings.fairness;
-        let distance = fairness.unreserved.saturating_sub(self.local);
-        distance < fairness.ramp
+        let distance = decide::less(fairness.unreserved as u64, self.local as u64);
+        distance < fairness.ramp as u64
     }
 }
 
@@ -109,7 +109,7 @@ fn entry_rate(settings: Settings, smoothed: Stored) -> u32
     let fairness = settings.fairness;
     let shown = rates::shown(fairness.lp, smoothed.add);
     let most = fairness.unreserved as u64;
-    shown.min(most) as u32
+    decide::lesser(shown, most) as u32
 }
 
 // A station that is congested, and whose localFairRate changed to this one now.

@@ -320,7 +320,7 @@ fn allowed(old: u32, fairness: Fairness, adjusted: Adjusted) -> u32
 {
     let most = fairness.unreserved;
     if adjusted.congested == 1 {
-        adjusted.local.min(most)
+        decide::lesser(adjusted.local as u64, most as u64) as u32
     } else {
         rates::ramped(old, most, fairness.ramp)
     }

@@ -65,7 +65,7 @@ pub fn ttl_ok(ttl: u32) -> bool
 pub fn hops_of(ttl: u32) -> u32
     ensures { result ≡ hops_of ttl }
 {
-    256u32.saturating_sub(ttl)
+    decide::less(256, ttl as u64) as u32
 }
 
 // Whether the hops that a ttl tells of stay within a ring of so many stations: else refusal 13.
@@ -122,12 +122,12 @@ pub fn own_frame(settings: Settings, rate: u16) -> Advert
 pub fn other_ringlet(settings: Settings) -> u8
     ensures { result ≡ other_ringlet settings }
 {
-    1u32.saturating_sub(settings.ringlet) as u8
+    decide::less(1, settings.ringlet as u64) as u8
 }
 
 // Whether a received frame of this ttl goes no further: one hop more would lead round the whole ring.
 pub fn last_hop(settings: Settings, ttl: u32) -> bool
     ensures { result ≡ test (last_hop settings ttl) }
 {
-    hops_of(ttl) == settings.site.stations.saturating_sub(1)
+    hops_of(ttl) as u64 == decide::less(settings.site.stations as u64, 1)
 }

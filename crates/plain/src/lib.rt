@@ -88,10 +88,11 @@ impl Plain {
         requires { Small self × (start ≤ self.limits.hi) }
         ensures { result ≡ plain_end_of self start }
     {
-        let ceiling = (self.limits.hi as u64).saturating_sub(self.depth);
-        (start + self.accrued)
-            .saturating_sub(self.sent)
-            .min(ceiling)
+        let hi = self.limits.hi as u64;
+        decide::lesser(
+            decide::less(start + self.accrued, self.sent),
+            decide::less(hi, self.depth),
+        )
     }
 }
 
@@ -103,7 +104,7 @@ pub fn depth_of(hi: u32, ceiling: i64) -> u64
     if ceiling < 0 {
         hi + ceiling.unsigned_abs()
     } else {
-        hi.saturating_sub(ceiling as u64)
+        decide::less(hi, ceiling as u64)
     }
 }
 
@@ -125,8 +126,8 @@ fn joined_need(a: Plain, b: Plain) -> u64
     if hi < b.need + a.depth {
         return hi + 1;
     }
-    let before = (b.need + a.sent).saturating_sub(a.accrued);
-    a.need.max(before).min(hi + 1)
+    let before = decide::less(b.need + a.sent, a.accrued);
+    decide::lesser(decide::larger(a.need, before), hi + 1)
 }
 
 // How far the ceiling of a's events and then b's lies below hi.
@@ -135,5 +136,5 @@ fn joined_depth(a: Plain, b: Plain) -> u64
     requires { Small a × Small b }
     ensures { result ≡ plain_depth a b }
 {
-    (a.depth + b.sent).saturating_sub(b.accrued).max(b.depth)
+    decide::larger(decide::less(a.depth + b.sent, b.accrued), b.depth)
 }

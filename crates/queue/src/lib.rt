@@ -113,7 +113,7 @@ impl Front {
         if 128 <= self.count {
             return 0;
         }
-        capacity.saturating_sub(self.held)
+        decide::less(capacity as u64, self.held as u64) as u32
     }
 
     // Whether a queue with this front holds a frame.
@@ -175,8 +175,8 @@ impl Queue {
         let mut next = self;
         next.slots[at] = EMPTY;
         next.head = ((self.head as u32 + 1) % 128) as u8;
-        next.count = self.count.saturating_sub(1);
-        next.held = self.held.saturating_sub(f.size);
+        next.count = decide::less(self.count as u64, 1) as u8;
+        next.held = decide::less(self.held as u64, f.size as u64) as u32;
         Taken {
             frame: f,
             queue: next,
@@ -256,7 +256,7 @@ pub fn word_ok(bounds: Bounds, w: u32) -> bool
     let mtu = bounds.mtu;
     let size = w % 16384;
     let low = w % 1048576;
-    let end = bounds.stations.min(64) * 16384;
+    let end = decide::lesser(bounds.stations as u64, 64) as u32 * 16384;
     let kind = w / 1048576;
     (16 <= size)
         & (size <= mtu)

@@ -7,7 +7,7 @@ ghost use Rattle.decide.specs.Test.{test};
 ghost use Rattle.rates.specs.Rates.{part_of, smoothed_of, shown_of, shown_ok_of, aged_of, ramped_of, reduced_of, allowance_of, own_rate_of, counted_of, share_of};
 
 // The largest number that a counter holds.
-const MOST_COUNTED: u32 = 2147483647;
+const MOST_COUNTED: u64 = 2147483647;
 
 // The first number above every rate.
 const ABOVE_RATES: u64 = 2147483648;
@@ -56,7 +56,7 @@ pub fn shown_ok(coef: u32, stored: u64) -> bool
 pub fn aged(counter: u32, coef: u32) -> u32
     ensures { result ≡ aged_of counter coef }
 {
-    let kept = counter as u64 * coef.saturating_sub(1) as u64;
+    let kept = counter as u64 * decide::less(coef as u64, 1);
     part(kept, coef) as u32
 }
 
@@ -65,8 +65,8 @@ pub fn aged(counter: u32, coef: u32) -> u32
 pub fn ramped(value: u32, unreserved: u32, coef: u32) -> u32
     ensures { result ≡ ramped_of value unreserved coef }
 {
-    let distance = unreserved.saturating_sub(value);
-    value + part(distance as u64, coef) as u32
+    let distance = decide::less(unreserved as u64, value as u64);
+    value + part(distance, coef) as u32
 }
 
 // localFairRate after a step down: less its part by rampDn.
@@ -82,8 +82,8 @@ pub fn allowance(received: u32, weight: u32, unit: u32, unreserved: u32) -> u32
     ensures { result ≡ allowance_of received weight unit unreserved }
 {
     // More than 32 bits of a factor make no difference: no rate is above 32 bits.
-    let factor = (weight as u64 * unit as u64).min(u32::MAX as u64);
-    (unreserved as u64).min(received as u64 * factor) as u32
+    let factor = decide::lesser(weight as u64 * unit as u64, u32::MAX as u64);
+    decide::lesser(unreserved as u64, received as u64 * factor) as u32
 }
 
 // The rate that a station advertises for itself, from localFairRate, its weight and its rate unit.
@@ -92,7 +92,7 @@ pub fn own_rate(local: u32, weight: u32, unit: u32) -> u16
     ensures { result ≡ own_rate_of local weight unit }
 {
     let rate = quotient(local as u64, weight as u64 * unit as u64);
-    rate.min(MOST_OWN) as u16
+    decide::lesser(rate, MOST_OWN) as u16
 }
 
 // A counter after a frame of this size.
@@ -100,7 +100,7 @@ pub fn own_rate(local: u32, weight: u32, unit: u32) -> u16
 pub fn counted(counter: u32, size: u32) -> u32
     ensures { result ≡ counted_of counter size }
 {
-    counter.saturating_add(size).min(MOST_COUNTED)
+    decide::lesser(counter as u64 + size as u64, MOST_COUNTED) as u32
 }
 
 // What a tick may give to shaper C of allowedRate, by ageCoef and the ticks of an interval.

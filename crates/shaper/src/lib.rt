@@ -107,7 +107,7 @@ impl Limits {
 pub fn ask(credit: u32, lo: u32) -> u64
     ensures { result ≡ shortfall credit lo }
 {
-    (lo as u64 + 1).saturating_sub(credit as u64)
+    decide::less(lo as u64 + 1, credit as u64)
 }
 
 impl Shaper {

@@ -81,9 +81,9 @@ pub fn take(s: &mut [u8], at: usize)
     let q = read(s, at);
     let i = q.head as usize % 128;
     let first = Frame::of(wire::get32(s, at + 4 * i));
-    let held = q.held.saturating_sub(first.size);
+    let held = decide::less(q.held as u64, first.size as u64) as u32;
     let head = ((q.head as u32 + 1) % 128) as u8;
-    let count = q.count.saturating_sub(1);
+    let count = decide::less(q.count as u64, 1) as u8;
     write_slot(i, queue::EMPTY, held, head, count, s, at);
 }
 
@@ -145,7 +145,7 @@ fn frames(s: &[u8], at: usize, bounds: Bounds, head: usize, count: usize) -> Fou
     ensures { result ≡ found_of bounds (frames_from (words_at 128 s.now at) head count) }
 {
     let end = head + count;
-    let near = end.min(128);
+    let near = decide::lesser(end as u64, 128) as usize;
     let first = run(s, at, bounds, head, near);
     let rest = run(s, at, bounds, 0, end - near);
     Found {

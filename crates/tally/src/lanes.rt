@@ -62,13 +62,13 @@ impl Tally {
         let mut late: u64 = 0;
         for i in 0..8 {
             let there = base + parts.lows[i] as u64;
-            low = there.min(low);
+            low = decide::lesser(there, low);
             late += (there <= peak) as u64;
-            peak = peak.max(base + parts.tops[i] as u64);
+            peak = decide::larger(peak, base + parts.tops[i] as u64);
             base = base + parts.levels[i] as u64 - begin;
         }
         let level = base + begin;
-        let gained = (parts.total as u64 + level).saturating_sub(self.level) / 2;
+        let gained = decide::less(parts.total as u64 + level, self.level) / 2;
         Self {
             accrued: self.accrued + gained,
             level,

@@ -75,8 +75,12 @@ pub fn step(t: Tally, rise: u64, k: u64, v: u64) -> Tally
 {
     let accrued = pick(k, t.accrued, t.accrued + v);
     let level = pick(k, t.level - v, t.level + v);
-    let peak = t.peak.max(level + fall(k, rise));
-    let low = pick(k, bar(rise, t.peak - t.level, t.level).min(t.low), t.low);
+    let peak = decide::larger(t.peak, level + fall(k, rise));
+    let low = pick(
+        k,
+        decide::lesser(bar(rise, t.peak - t.level, t.level), t.low),
+        t.low,
+    );
     Tally {
         accrued,
         level,
@@ -95,7 +99,7 @@ pub fn finish(limits: Limits, n: u64, t: Tally) -> Plain
     let accrued = t.accrued;
     let sent = t.accrued + BASE - t.level;
     let depth = t.peak - t.level;
-    let need = (BASE + lo + 1).saturating_sub(t.low).min(hi + 1);
+    let need = decide::lesser(decide::less(BASE + lo + 1, t.low), hi + 1);
     Plain {
         limits,
         events: n,

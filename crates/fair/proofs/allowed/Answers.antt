@@ -6,7 +6,7 @@ use Rattle.fair.proofs.allowed.Goals as goal
 
 pub returns-then-adjusted-eq1 : goal.returns-then-adjusted-eq1
 returns-then-adjusted-eq1 c = let a = c.args in
-    c.min.ensures ∙ sym (allowed_congested a.old a.fairness a.adjusted c.if-adjusted-eq1.true)
+    c.lesser.ensures ∙ sym (allowed_congested a.old a.fairness a.adjusted c.if-adjusted-eq1.true)
 
 pub returns-else-adjusted-eq1 : goal.returns-else-adjusted-eq1
 returns-else-adjusted-eq1 c = let a = c.args in

@@ -6,4 +6,4 @@ use Rattle.heard.proofs.last_hop.Goals as goal
 
 pub returns : goal.returns
 unfolding test
-returns c = rw (c.saturating_sub.ensures, c.hops_of.ensures) refl
+returns c = rw (c.less.ensures, c.hops_of.ensures) refl

@@ -27,4 +27,4 @@ returns-then-ceiling-lt0 c =
 
 pub returns-else-ceiling-lt0 : goal.returns-else-ceiling-lt0
 returns-else-ceiling-lt0 c =
-    c.saturating_sub.ensures ∙ from_zero c.args.hi _ c.args.ceiling (to_z-of_z c.ranges.ceiling) c.if-ceiling-lt0.false
+    c.less.ensures ∙ from_zero c.args.hi _ c.args.ceiling (to_z-of_z c.ranges.ceiling) c.if-ceiling-lt0.false

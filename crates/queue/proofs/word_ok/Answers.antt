@@ -7,4 +7,4 @@ use Rattle.queue.proofs.word_ok.Goals as goal
 
 pub returns : goal.returns
 unfolding test
-returns c = rw (c.min-end.ensures, kinds, some_hops, ring_hops) (simp and_assoc)
+returns c = rw (c.lesser.ensures, kinds, some_hops, ring_hops) (simp and_assoc)

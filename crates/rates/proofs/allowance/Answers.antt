@@ -23,7 +23,7 @@ unfolding allowance_of
 returns c =
     let a : _ = c.args in
     let u : ℕ = a.unreserved in
-    c.min.ensures
-    ∙ ap (λ (k : ℕ). min u (a.received * k)) c.min-factor.ensures
+    c.lesser.ensures
+    ∙ ap (λ (k : ℕ). min u (a.received * k)) c.lesser-factor.ensures
     ∙ cut u a.received (a.weight * a.unit) (omega arith)
     ∙ ap (λ (p : ℕ). min u p) (sym (mul_assoc a.received a.weight a.unit))

@@ -9,4 +9,4 @@ pub returns : goal.returns
 unfolding ramped_of
 returns c =
     let a : _ = c.args in
-    ap (λ (p : ℕ). a.value + p) (c.part.ensures ∙ ap (λ (d : ℕ). part_of d a.coef) c.saturating_sub-distance.ensures)
+    ap (λ (p : ℕ). a.value + p) (c.part.ensures ∙ ap (λ (d : ℕ). part_of d a.coef) c.less-distance.ensures)

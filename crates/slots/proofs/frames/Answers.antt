@@ -17,10 +17,10 @@ overflow_add-result c =
     let s = words_at 128 a.s.now a.at in
     let x = ap (λ (r : Found). r.bytes) c.run-first.ensures in
     let y = ap (λ (r : Found). r.bytes) c.run-rest.ensures in
-    record { fits = omega (arith, sizes_most s a.head (c.min-near.result - a.head), sizes_most s 0 (a.head + a.count - c.min-near.result - 0), c.min-near.ensures) }
+    record { fits = omega (arith, sizes_most s a.head (c.lesser-near.result - a.head), sizes_most s 0 (a.head + a.count - c.lesser-near.result - 0), c.lesser-near.ensures) }
 
 pub returns : goal.returns
 returns c =
     let a : _ = c.args in
     rw (c.run-rest.ensures, c.run-first.ensures, sub-zero)
-    (both_found (words_at 128 a.s.now a.at) a.head a.count c.min-near.result (search rules) (omega (arith, c.min-near.ensures)) a.bounds)
+    (both_found (words_at 128 a.s.now a.at) a.head a.count c.lesser-near.result (search rules) (omega (arith, c.lesser-near.ensures)) a.bounds)

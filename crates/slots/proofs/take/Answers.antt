@@ -12,4 +12,4 @@ unfolding taken first_frame
 returns c =
     let a : _ = c.args in
     let at_slot = slot_get a.s.now a.at ((queue_at a.s.now a.at).head % 128) (omega arith) in
-    rw (c.saturating_sub-count.ensures, c.saturating_sub-held.ensures, c.of-first.ensures, c.get32.ensures, c.read-q.ensures, ← at_slot) at c.write_slot.ensures
+    rw (c.less-count.ensures, c.less-held.ensures, c.of-first.ensures, c.get32.ensures, c.read-q.ensures, ← at_slot) at c.write_slot.ensures

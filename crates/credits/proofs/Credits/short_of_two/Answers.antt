@@ -7,4 +7,4 @@ use Rattle.credits.proofs.Credits.short_of_two.Goals as goal
 pub returns : goal.returns
 returns c =
     let x = c.args in
-    rw (c.max.ensures, c.short-2.ensures, c.short.ensures) (sym (short_two x.settings x.self x.one x.other))
+    rw (c.larger.ensures, c.short-2.ensures, c.short.ensures) (sym (short_two x.settings x.self x.one x.other))

@@ -6,4 +6,4 @@ use Rattle.fair.proofs.Adjusted.is_near.Goals as goal
 
 pub returns : goal.returns
 unfolding test
-returns c = rw c.saturating_sub-distance.ensures refl
+returns c = rw c.less-distance.ensures refl

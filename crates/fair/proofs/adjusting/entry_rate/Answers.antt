@@ -8,5 +8,5 @@ use Rattle.fair.proofs.adjusting.entry_rate.Goals as goal
 pub returns : goal.returns
 returns c =
     let unreserved : ℕ = c.args.settings.fairness.unreserved in
-    let said : c.min.result ≡ min c.shown-shown.result unreserved = c.min.ensures in
+    let said : c.lesser.result ≡ min c.shown-shown.result unreserved = c.lesser.ensures in
     said ∙ ap (λ (n : ℕ). min n unreserved) c.shown-shown.ensures

@@ -18,4 +18,4 @@ unfolding space_of
 returns c =
     let q = c.args.self in
     let p : q.count < 128 = search rules in
-    rw (lt-ltb q.count 128 p) c.saturating_sub.ensures
+    rw (lt-ltb q.count 128 p) c.less.ensures

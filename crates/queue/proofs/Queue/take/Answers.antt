@@ -6,4 +6,4 @@ use Rattle.queue.proofs.Queue.take.Goals as goal
 
 pub returns : goal.returns
 unfolding first_frame taken
-returns c = rw (c.saturating_sub-2.ensures, c.saturating_sub.ensures, c.of-f.ensures) refl
+returns c = rw (c.less-2.ensures, c.less.ensures, c.of-f.ensures) refl

@@ -53,8 +53,8 @@ loop-i-preserved c =
     let level = fits.levels L.i h in
     let top = fits.tops L.i h in
     let count = count_max (leb (L.base + get_or a.parts.lows L.i 0) L.peak) in
-    let peak = c.max-peak.ensures in
-    let low = c.min-low.ensures in (
+    let peak = c.larger-peak.ensures in
+    let low = c.lesser-low.ensures in (
       omega arith,
       omega arith,
       omega arith,
@@ -69,4 +69,4 @@ returns c =
     let a = c.args in
     let all : L.i ≡ 8 = omega arith in
     let g : Gone a.rise a.self (lane_of a.parts) 8 L.base L.peak L.low L.late = rw all at L.invariant.5 in
-    rw (c.saturating_sub-gained.ensures, c.bar.ensures, g.level_is, g.peak_is, g.low_is) refl
+    rw (c.less-gained.ensures, c.bar.ensures, g.level_is, g.peak_is, g.low_is) refl
