@@ -12,13 +12,12 @@ const PATTERN: usize = 1554;
 
 // Reads the number of repeats first, and then the pattern.
 pub fn run(rt: &impl Host) -> Result<Status, Said> {
-    let Some(
-        Asked {
-            bytes: false,
-            sheet: false,
-            files: Files::Two(pattern, repeats),
-        },
-    ) = words::all(rt)
+    let Asked {
+        bytes: false,
+        sheet: false,
+        unknown: false,
+        files: Files::Two(pattern, repeats),
+    } = words::all(rt)
     else {
         return Err(tell::usage(rt, b"heartbeat PATTERN REPEATS"));
     };

@@ -16,13 +16,12 @@ use summary::Summary;
 const WINDOWS: u32 = 201;
 
 pub fn run(rt: &impl Host) -> Result<Status, Said> {
-    let Some(
-        Asked {
-            bytes: false,
-            sheet: false,
-            files: Files::Two(first, second),
-        },
-    ) = words::all(rt)
+    let Asked {
+        bytes: false,
+        sheet: false,
+        unknown: false,
+        files: Files::Two(first, second),
+    } = words::all(rt)
     else {
         return Err(tell::usage(rt, b"compare FIRST SECOND"));
     };

@@ -15,10 +15,11 @@ struct Joined {
 
 // Reads the files in turn, to the last or to the first that cannot be read or is refused, and prints what they come to.
 pub fn run(rt: &impl Host) -> Result<Status, Status> {
-    match words::all(rt) {
-        Some(asked) if !asked.bytes && asked.files != Files::None => all_joined(rt, asked.sheet),
-        _ => Err(tell::usage(rt, b"join [--sheet] SUMMARY..").into()),
+    let asked = words::all(rt);
+    if asked.unknown || asked.bytes || asked.files == Files::None {
+        return Err(tell::usage(rt, b"join [--sheet] SUMMARY..").into());
     }
+    all_joined(rt, asked.sheet)
 }
 
 fn all_joined(rt: &impl Host, sheet: bool) -> Result<Status, Status> {

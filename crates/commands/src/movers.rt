@@ -60,20 +60,18 @@ impl Form {
 pub fn run(rt: &impl Host, form: Form, record: &mut [u8], room: &mut [u8]) -> Result<Status, Said> {
     let mut named = [0u8; NAME];
     match words::all(rt) {
-        Some(
-            Asked {
-                bytes: false,
-                sheet: false,
-                files: Files::None,
-            },
-        ) => of_file(rt, b"-", form, record, room),
-        Some(
-            Asked {
-                bytes: false,
-                sheet: false,
-                files: Files::One(at),
-            },
-        ) => of_file(rt, name(rt, at, &mut named)?, form, record, room),
+        Asked {
+            bytes: false,
+            sheet: false,
+            unknown: false,
+            files: Files::None,
+        } => of_file(rt, b"-", form, record, room),
+        Asked {
+            bytes: false,
+            sheet: false,
+            unknown: false,
+            files: Files::One(at),
+        } => of_file(rt, name(rt, at, &mut named)?, form, record, room),
         _ => Err(tell::usage(rt, form.usage())),
     }
 }

@@ -15,5 +15,6 @@ pub fn name<'a>(rt: &impl Host, at: usize, room: &'a mut [u8; NAME]) -> Result<&
 pub fn bytes<'a, R: Host>(rt: &R, name: &[u8], room: &'a mut [u8]) -> Result<&'a [u8], Said> {
     let mut file = files::opened(rt, name)?;
     let end = files::fill(&mut file, room, 0).map_err(|read| tell::trouble(rt, name, read.why))?;
+    files::close(file);
     Ok(&room[..end])
 }

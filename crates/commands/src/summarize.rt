@@ -57,18 +57,12 @@ impl Record {
 
 pub fn run(rt: &impl Host) -> Result<Status, Said> {
     let mut room = [0u8; NAME];
-    match words::all(rt) {
-        Some(asked) => match asked.files {
-            Files::None => of_file(rt, b"-", asked),
-            Files::One(at) => of_file(rt, name(rt, at, &mut room)?, asked),
-            _ => Err(usage(rt)),
-        },
-        None => Err(usage(rt)),
+    let asked = words::all(rt);
+    match asked.files {
+        Files::None if !asked.unknown => of_file(rt, b"-", asked),
+        Files::One(at) if !asked.unknown => of_file(rt, name(rt, at, &mut room)?, asked),
+        _ => Err(tell::usage(rt, b"summarize [--bytes] [--sheet] [FILE]")),
     }
-}
-
-fn usage(rt: &impl Host) -> Said {
-    tell::usage(rt, b"summarize [--bytes] [--sheet] [FILE]")
 }
 
 // Reads a file to its end, or to where the rest can change nothing, and tells what it comes to. A read that fails is no end of the input: then nothing is summarized. A proved

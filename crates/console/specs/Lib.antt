@@ -1,3 +1,4 @@
 pub mod Meaning
 pub mod Place
 pub mod Status
+pub mod Words

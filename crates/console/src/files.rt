@@ -49,6 +49,11 @@ pub fn fill<F: Read>(file: &mut F, room: &mut [u8], from: usize) -> Result<usize
     Ok(end)
 }
 
+// Closes a file that was opened; standard input stays.
+pub fn close<F: Drop>(file: F) {
+    drop(file);
+}
+
 // Prints an answer as lines, or a summary as its 48 bytes and a refusal not at all; answers whether all of it was written, or why not.
 pub fn print(rt: &impl Print, answer: Result<Summary, Refusal>, bytes: bool) -> io::Result<()> {
     match answer {

@@ -16,6 +16,6 @@ pub fn place_of(text: &[u8]) -> u64
 fn with_digit(number: u64, digit: u8) -> u64
     ensures { result ≡ with_digit number digit }
 {
-    let worth = digit.saturating_sub(b'0');
-    number.saturating_mul(10).saturating_add(u64::from(worth))
+    let worth = decide::less(u64::from(digit), u64::from(b'0'));
+    number.saturating_mul(10).saturating_add(worth)
 }

@@ -16,6 +16,9 @@ pub enum Status {
     Trouble,
 }
 
+// The status where there is trouble.
+pub const TROUBLE: Status = Status::Trouble;
+
 impl Status {
     // The number that the system is told.
     pub fn number(self) -> u8
@@ -38,7 +41,7 @@ pub fn status_of(written: bool, answer: Result<Summary, Refusal>) -> Status
     ensures { number_of result ≡ status_of written answer }
 {
     match answer {
-        _ if !written => Status::Trouble,
+        _ if !written => TROUBLE,
         Ok(_) => Status::Yes,
         Err(_) => Status::No,
     }
@@ -56,9 +59,9 @@ pub fn heartbeat_status(written: bool, outcome: Result<Option<u64>, Refusal>) ->
     ensures { number_of result ≡ heartbeat_status written outcome }
 {
     match outcome {
-        _ if !written => Status::Trouble,
+        _ if !written => TROUBLE,
         Ok(Some(_)) => Status::Yes,
         Ok(None) => Status::No,
-        Err(_) => Status::Trouble,
+        Err(_) => TROUBLE,
     }
 }

@@ -1,6 +1,7 @@
 // What is said on standard error: one line, and nothing where all is done. A line is put together in a room and written at once, so that the lines of commands that
 // run side by side stay whole; the system's own words stand behind what they are of.
-ghost use Rattle.std.specs.Prelude.{◌≡◌, ◌≤◌, length};
+ghost use Rattle.std.specs.Prelude.{◌≡◌, ◌+◌, ◌-◌, ◌≤◌, length, min, take};
+ghost use Rattle.wire.specs.Wire.{put};
 ghost use Rattle.decide.specs.Number.{number_in};
 ghost use Rattle.console.specs.Meaning.{record_words, pattern_words, summary_words};
 ghost use Rattle.console.specs.declared.status.Status.TheVariants.{Trouble};
@@ -164,12 +165,25 @@ fn written<'a>(room: Cursor<&'a mut [u8]>) -> &'a [u8] {
 
 // Writes a line of these parts, as far as they fit this room.
 pub fn line(rt: &impl Host, room: &mut [u8], parts: &[&[u8]]) -> Said {
-    let mut line = Cursor::new(room);
+    let mut at = 0;
     for part in parts {
-        let _ = line.write_all(part);
+        at = put(room, at, part);
     }
-    let _ = line.write_all(b"\n");
+    let end = put(room, at, b"\n");
     // Where standard error cannot be written, nothing is left to say it on.
-    let _ = rt.tell(written(line));
+    let _ = rt.tell(&room[..end]);
     Said
+}
+
+// Puts words into a room from a place on, as far as they fit, and answers the place behind them.
+pub fn put(room: &mut [u8], at: usize, words: &[u8]) -> usize
+    requires { at ≤ length room.old }
+    ensures within { result ≤ length room.new }
+    ensures value { result ≡ min (at + length words.now) (length room.old) }
+    ensures room_after { room.new ≡ put room.old at (take (length room.old - at) words.now) }
+{
+    let n = (room.len() - at).min(words.len());
+    let end = at + n;
+    room[at..end].copy_from_slice(&words[..n]);
+    end
 }

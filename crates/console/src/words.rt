@@ -1,6 +1,7 @@
 // The words behind a command's name: its options, wherever they stand, and the files.
-ghost use Rattle.std.specs.Prelude.{◌≡◌, ◌-◌, ◌≤◌, length, IfOk, false};
+ghost use Rattle.std.specs.Prelude.{◌≡◌, ◌-◌, ◌≤◌, length, IfOk, IfSome, IsTrue, false};
 ghost use Rattle.std.specs.Iterator.{at_most};
+ghost use Rattle.console.specs.Words.{ends, is_file};
 
 use std::env::FillError;
 use std::io;
@@ -48,20 +49,59 @@ impl<R: Env> Iterator for Words<'_, R> {
         if at == usize::MAX {
             return None;
         }
-        let mut text = [0u8; 4096];
-        let word = match self.rt.arg(at, &mut text) {
-            Ok(n) if !self.ended => word_of(&text[..n], at),
-            Ok(_) | Err(FillError::TooLong) => Word::File(at),
-            Err(FillError::NotPresent) => return None,
-        };
+        let word = there(self.rt, at, self.ended)?;
         self.at = at + 1;
-        self.ended |= matches!(word, Word::End);
+        self.ended |= ends(word);
         Some(word)
     }
 }
 
+// What the word at a place is, where one is there; behind `--` every word is a file, and one that is too long is a file too.
+fn there(rt: &impl Env, at: usize, ended: bool) -> Option<Word>
+    ensures behind_end { IsTrue ended → IfSome result (λ word. word ≡ Word.File at) }
+    ensures its_place { IfSome result (λ word. IsTrue (is_file word) → word ≡ Word.File at) }
+{
+    let mut text = [0u8; 4096];
+    match rt.arg(at, &mut text) {
+        Ok(n) if !ended => Some(word_of(&text[..n], at)),
+        Ok(_) | Err(FillError::TooLong) => Some(Word::File(at)),
+        Err(FillError::NotPresent) => None,
+    }
+}
+
+// What the word at a place is; behind `--` every word is a file, and so is one that is too long or not there.
+pub fn word_at(rt: &impl Env, i: usize, ended: bool) -> Word
+    ensures behind_end { IsTrue ended → result ≡ Word.File i }
+    ensures its_place { IsTrue (is_file result) → result ≡ Word.File i }
+{
+    there(rt, i, ended).unwrap_or(Word::File(i))
+}
+
+// How many words there are, the command's own name among them: the first place at which none stands.
+pub fn count(rt: &impl Env) -> usize {
+    (0..usize::MAX)
+        .position(|at| matches!(rt.arg(at, &mut [0]), Err(FillError::NotPresent)))
+        .unwrap_or(usize::MAX)
+}
+
+// Whether the words behind this one are files.
+pub fn ends(word: Word) -> bool
+    ensures { result ≡ ends word }
+{
+    matches!(word, Word::End)
+}
+
+// Whether a word is a file.
+pub fn is_file(word: Word) -> bool
+    ensures { result ≡ is_file word }
+{
+    matches!(word, Word::File(_))
+}
+
 // What a word is, by its text. `-` alone is a file: standard input.
-fn word_of(text: &[u8], at: usize) -> Word {
+fn word_of(text: &[u8], at: usize) -> Word
+    ensures { IsTrue (is_file result) → result ≡ Word.File at }
+{
     match text {
         b"--" => Word::End,
         b"--bytes" => Word::Bytes,
@@ -92,19 +132,21 @@ impl Files {
     }
 }
 
-// What the words ask for.
+// What the words ask for: options, whether one is an option that no command has, and files.
 #[derive(Clone, Copy, Debug, PartialEq, Eq)]
 pub struct Asked {
     pub bytes: bool,
     pub sheet: bool,
+    pub unknown: bool,
     pub files: Files,
 }
 
-// What all words of the command ask for, or none where one of them is an option that no command has.
-pub fn all(rt: &impl Env) -> Option<Asked> {
+// What all words of the command ask for.
+pub fn all(rt: &impl Env) -> Asked {
     let mut asked = Asked {
         bytes: false,
         sheet: false,
+        unknown: false,
         files: Files::None,
     };
     for word in Words::new(rt) {
@@ -113,10 +155,10 @@ pub fn all(rt: &impl Env) -> Option<Asked> {
             Word::Sheet => asked.sheet = true,
             Word::End => {}
             Word::File(at) => asked.files = asked.files.and(at),
-            Word::Help | Word::Unknown => return None,
+            Word::Help | Word::Unknown => asked.unknown = true,
         }
     }
-    Some(asked)
+    asked
 }
 
 // What the system says of a name that is too long, and of a word that is not there.
