@@ -12,7 +12,7 @@ mod tests;
 mod words;
 
 pub use fault::Fault;
-pub use input::{each_line, each_line_in};
-pub use numerals::{Numbers, number, numbers};
+pub use input::{Got, Input, each_line, each_line_in, line};
+pub use numerals::{Row, number, numbers};
 pub use pairs::{Bytes, bytes_into, bytes_of};
 pub use words::{Times, Words, times_of, words_of};

@@ -1,5 +1,5 @@
 // What no clause says: which lines are run, and what is a number and what are bytes.
-use crate::{Fault, bytes_into, bytes_of, each_line, number, print};
+use crate::{Fault, Input, Words, bytes_into, bytes_of, each_line, line, number, numbers, print};
 use arrayvec::ArrayVec;
 use std::alloc::Allocator;
 use std::cell::Cell;
@@ -9,6 +9,10 @@ use std::io::{BufRead, ErrorKind, Lines};
 use std::test::Fail;
 
 static LONG: [u8; 4097] = [b'x'; 4097];
+
+// 41 words, the last of which is not kept.
+static MANY: &[u8] =
+    b"1 1 1 1 1 1 1 1 1 1 1 1 1 1 1 1 1 1 1 1 1 1 1 1 1 1 1 1 1 1 1 1 1 1 1 1 1 1 1 1 9";
 
 // A runtime whose input is this text, and whose output goes nowhere, or fails where it is full. It counts the prints that are tried.
 #[derive(Drop)]
@@ -98,9 +102,45 @@ fn lost_prints_end_nothing(rt: HostRuntime) -> Result<(), Fail> {
         print::hex(&page, line)
     })?;
     assert!(rt; runs == 2 && page.tried.get() == 11);
-    assert!(rt; print::wrong(&page, b"word", Fault::NoHex).is_err());
-    assert!(rt; page.tried.get() == 13);
+    // A word, what stands behind it, what is wrong, and the line's end: each is tried.
+    assert!(rt; print::wrong(&page, b"word", b"\xff").is_err());
+    assert!(rt; page.tried.get() == 15);
+    assert!(rt; print::wrong_by(&page, b"word", Fault::NoHex).is_err());
+    assert!(rt; page.tried.get() == 19);
+    assert!(rt; print::number(&page, b"label ", 7).is_err());
+    assert!(rt; page.tried.get() == 21);
     Ok(())
+}
+
+#[test]
+fn lines_are_taken(rt: HostRuntime) {
+    let page = Page::new(b"ab\n\ncde", false);
+    let mut buffer = [0u8; 64];
+    let mut room = [0u8; 2];
+    let first = line(&page, Input::whole(), &mut buffer, &mut room);
+    assert!(rt; first.length == Some(2) && !first.last);
+    assert!(rt; room == *b"ab");
+    let second = line(&page, first.input, &mut buffer, &mut room);
+    assert!(rt; second.length == Some(0) && !second.last);
+    // A reader of this page begins it anew, so that a fourth line stands behind the third.
+    let third = line(&page, second.input, &mut buffer, &mut room);
+    assert!(rt; third.length.is_none() && !third.last);
+}
+
+#[test]
+fn rows_are_read(rt: HostRuntime) {
+    let row = numbers(Words(b"3 0x10 2"));
+    assert!(rt; row.all().is_ok_and(|n| n == [3, 16, 2].as_slice()));
+    assert!(rt; row.are(3) && !row.are(2) && row.largest == 16);
+    assert!(rt; row.only_or(5).is_err());
+    let spoilt = numbers(Words(b"3 x 2"));
+    assert!(rt; spoilt.wrong && spoilt.count == 2 && spoilt.largest == 3);
+    assert!(rt; !spoilt.are(2) && spoilt.all().is_err());
+    let none = numbers(Words(b" "));
+    assert!(rt; none.are(0) && none.only_or(5) == Ok(5));
+    assert!(rt; numbers(Words(b"7")).only_or(5) == Ok(7));
+    let many = numbers(Words(MANY));
+    assert!(rt; many.are(40) && many.largest == 1);
 }
 
 #[test]

@@ -3,6 +3,7 @@
 
 mod lent;
 
+use script::print::{number, text};
 use settings::{Address, Bucket, Fairness, Queues, Settings, Shapers, Site};
 use shaper::{Limits, Refused, Shaper};
 use station::Station;
@@ -31,19 +32,17 @@ fn shapers(rt: &impl Print) {
 
 fn ticked(rt: &impl Print, s: &mut Shaper, waiting: bool, amount: u32) {
     *s = lent::shaper_tick(*s, waiting, amount);
-    let _ = println!(rt; "shaper tick credit {}", s.credit);
+    let _ = number(rt, b"shaper tick credit ", u64::from(s.credit)).and(text(rt, b"\n"));
 }
 
 fn charged(rt: &impl Print, s: &mut Shaper, size: u32) {
     let out = lent::shaper_charge(*s, size);
     *s = out.left;
     let said = out.said;
-    let _ = println!(rt;
-        "shaper charge {} short {} credit {}",
-        number_in(&said),
-        short_in(&said),
-        s.credit
-    );
+    let _ = number(rt, b"shaper charge ", number_in(&said))
+        .and(number(rt, b" short ", short_in(&said)))
+        .and(number(rt, b" credit ", u64::from(s.credit)))
+        .and(text(rt, b"\n"));
 }
 
 // A fresh station: every shaper 100 300 50, queues of 256 bytes, low threshold 128, weight 2, unit 4, 10 ticks, unreservedRate 10,000, default
@@ -132,7 +131,7 @@ fn turned_down(rt: &impl Print) {
 fn tick(rt: &impl Print, s: &mut Station, a: u64, b: u64, c: u64) {
     let out = lent::tick(*s, a, b, c);
     *s = out.left;
-    after(rt, "tick", number_in(&out.said), s);
+    after(rt, b"tick ", number_in(&out.said), s);
 }
 
 fn client(rt: &impl Print, s: &mut Station, class: u64, size: u64, hops: u64) {
@@ -143,20 +142,20 @@ fn client(rt: &impl Print, s: &mut Station, class: u64, size: u64, hops: u64) {
         Ok(mark) => mark,
         Err(_) => 0,
     };
-    let _ = print!(rt; "mark {mark} short {} ", short_in(&said));
-    after(rt, "client", number_in(&said), s);
+    let _ = number(rt, b"mark ", u64::from(mark)).and(number(rt, b" short ", short_in(&said)));
+    after(rt, b" client ", number_in(&said), s);
 }
 
 fn transit(rt: &impl Print, s: &mut Station, class: u64, size: u64, hops: u64, eligible: u64) {
     let out = lent::offer_transit(*s, class, size, hops, eligible);
     *s = out.left;
-    after(rt, "transit", number_in(&out.said), s);
+    after(rt, b"transit ", number_in(&out.said), s);
 }
 
 fn control(rt: &impl Print, s: &mut Station, size: u64) {
     let out = lent::offer_control(*s, size);
     *s = out.left;
-    after(rt, "control", number_in(&out.said), s);
+    after(rt, b"control ", number_in(&out.said), s);
 }
 
 fn select(rt: &impl Print, s: &mut Station) {
@@ -167,20 +166,20 @@ fn select(rt: &impl Print, s: &mut Station) {
         Ok(chosen) => (chosen.origin, chosen.frame.size),
         Err(_) => (0, 0),
     };
-    let _ = print!(rt; "origin {origin} size {size} ");
-    after(rt, "select", number_in(&said), s);
+    let _ = number(rt, b"origin ", u64::from(origin)).and(number(rt, b" size ", u64::from(size)));
+    after(rt, b" select ", number_in(&said), s);
 }
 
 fn age(rt: &impl Print, s: &mut Station) {
     let out = lent::age(*s);
     *s = out.left;
-    after(rt, "age", number_in(&out.said), s);
+    after(rt, b"age ", number_in(&out.said), s);
 }
 
 fn hear(rt: &impl Print, s: &mut Station, frame: &[u8]) {
     let out = lent::hear(*s, frame);
     *s = out.left;
-    after(rt, "hear", number_in(&out.said), s);
+    after(rt, b"hear ", number_in(&out.said), s);
 }
 
 // The number of a refusal, and 0 of a call that was carried out.
@@ -200,14 +199,18 @@ fn short_in<T>(said: &Result<T, Refused>) -> u64 {
 }
 
 // Prints the number that a call answered and some of what it left: the credits, the frames held, and the rate that was received.
-fn after(rt: &impl Print, call: &str, said: u64, s: &Station) {
+fn after(rt: &impl Print, call: &[u8], said: u64, s: &Station) {
     let flow = &s.flow;
     let credits = flow.credits;
-    let _ = print!(rt;
-        "{call} {said} credits {} {} {}",
-        credits.m, credits.a, credits.b
-    );
-    let _ = print!(rt; " {} {} held {}", credits.c, credits.d, flow.control.held);
-    let _ = print!(rt; " {} {}", flow.primary.held, flow.secondary.held);
-    let _ = println!(rt; " received {}", s.fair.received.rate);
+    let _ = number(rt, call, said)
+        .and(number(rt, b" credits ", u64::from(credits.m)))
+        .and(number(rt, b" ", u64::from(credits.a)))
+        .and(number(rt, b" ", u64::from(credits.b)))
+        .and(number(rt, b" ", u64::from(credits.c)))
+        .and(number(rt, b" ", u64::from(credits.d)))
+        .and(number(rt, b" held ", u64::from(flow.control.held)))
+        .and(number(rt, b" ", u64::from(flow.primary.held)))
+        .and(number(rt, b" ", u64::from(flow.secondary.held)))
+        .and(number(rt, b" received ", u64::from(s.fair.received.rate)))
+        .and(text(rt, b"\n"));
 }

@@ -3,7 +3,7 @@
 #![tactic(auto)]
 
 use reader::Place;
-use script::print::wrong;
+use script::print::{number, text, wrong_by};
 use std::io;
 
 // Walks the record on a line.
@@ -14,7 +14,7 @@ fn run(rt: &impl Print, line: &[u8]) -> io::Result<()> {
     for word in script::words_of(line) {
         match script::bytes_into(word, &mut room[count..]) {
             Ok(n) => count += n,
-            Err(fault) => return wrong(rt, word, fault),
+            Err(fault) => return wrong_by(rt, word, fault),
         }
     }
     match count {
@@ -38,8 +38,8 @@ fn walk(rt: &impl Print, bytes: &[u8]) -> io::Result<()> {
                     done: place.done + item.count as u64,
                 };
             }
-            Ok(None) => return rt.println("end"),
-            Err(refusal) => return println!(rt; "{refusal}"),
+            Ok(None) => return text(rt, b"end\n"),
+            Err(refusal) => return numbered(rt, b"refused ", refusal.number()),
         }
     }
 }
@@ -53,11 +53,17 @@ fn events(rt: &impl Print, kind: u16, number: u16, count: u32) {
 
 // An event's line.
 fn event(rt: &impl Print, kind: u16, number: u16) -> io::Result<()> {
-    match kind {
-        1 => println!(rt; "waiting tick {number}"),
-        2 => println!(rt; "idle tick {number}"),
-        _ => println!(rt; "send {number}"),
-    }
+    let label: &[u8] = match kind {
+        1 => b"waiting tick ",
+        2 => b"idle tick ",
+        _ => b"send ",
+    };
+    numbered(rt, label, u64::from(number))
+}
+
+// A line of a text and a number.
+fn numbered(rt: &impl Print, label: &[u8], n: u64) -> io::Result<()> {
+    number(rt, label, n).and(text(rt, b"\n"))
 }
 
 fn main(rt: HostRuntime) -> io::Result<()> {

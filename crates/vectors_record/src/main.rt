@@ -6,7 +6,7 @@
 use decide::Refusal;
 use feed::Feed;
 use script::Fault;
-use script::print::wrong;
+use script::print::{text, wrong_by};
 use std::io;
 use summary::Summary;
 
@@ -67,7 +67,7 @@ fn run(rt: &impl Print, line: &[u8]) -> io::Result<()> {
     let Some(name) = words.next() else {
         return Ok(());
     };
-    let _ = rt.write_all(name).and(rt.println(""));
+    let _ = text(rt, name).and(text(rt, b"\n"));
     let mut case = Case::new();
     let mut room = [0u8; 4096];
     for word in words {
@@ -83,7 +83,7 @@ fn apply(rt: &impl Print, case: &mut Case, word: &[u8], room: &mut [u8]) -> io::
         b"|" => case.part(),
         _ => {
             if let Err(fault) = spelt(case, word, room) {
-                return wrong(rt, word, fault);
+                return wrong_by(rt, word, fault);
             }
         }
     }

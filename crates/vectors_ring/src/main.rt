@@ -5,7 +5,7 @@
 use decide::Refusal;
 use ring::Choice;
 use script::Words;
-use script::print::wrong;
+use script::print::{number, text, wrong};
 use std::io;
 use wrap::Journey;
 
@@ -20,8 +20,8 @@ fn run(rt: &impl Print, line: &[u8]) -> io::Result<()> {
 
 // The call of this name with the numbers that the words are.
 fn called(rt: &impl Print, name: &[u8], words: Words<'_>) -> io::Result<()> {
-    let numbers = script::numbers(words);
-    match (name, numbers.as_ref().map(|n| n.as_slice())) {
+    let row = script::numbers(words);
+    match (name, row.all()) {
         (b"choose", Ok([stations, own, target, links, side, protection, ring])) => chosen(
             rt,
             ring::choose(*stations, *own, *target, *links, *side, *protection, *ring),
@@ -29,33 +29,37 @@ fn called(rt: &impl Print, name: &[u8], words: Words<'_>) -> io::Result<()> {
         (b"path", Ok([stations, own, target, links, home])) => {
             moved(rt, wrap::path(*stations, *own, *target, *links, *home))
         }
-        _ => wrong(rt, name, "choose with 7 numbers, or path with 5, is wanted"),
+        _ => wrong(
+            rt,
+            name,
+            b"choose with 7 numbers, or path with 5, is wanted",
+        ),
     }
 }
 
 // Prints a choice.
 fn chosen(rt: &impl Print, answer: Result<Choice, Refusal>) -> io::Result<()> {
     match answer {
-        Ok(choice) => {
-            let mark = u64::from(choice.mark);
-            println!(rt;
-                "choose side {} distance {} ttl {} mark {mark}",
-                choice.side, choice.distance, choice.ttl,
-            )
-        }
-        Err(refusal) => println!(rt; "choose {refusal}"),
+        Ok(choice) => number(rt, b"choose side ", choice.side)
+            .and(number(rt, b" distance ", choice.distance))
+            .and(number(rt, b" ttl ", choice.ttl))
+            .and(number(rt, b" mark ", u64::from(choice.mark))),
+        Err(refusal) => number(rt, b"choose refused ", refusal.number()),
     }
+    .and(text(rt, b"\n"))
 }
 
 // Prints what became of a frame.
 fn moved(rt: &impl Print, answer: Result<Journey, Refusal>) -> io::Result<()> {
     match answer {
-        Ok(journey) => {
-            let delivered = u64::from(journey.delivered);
-            println!(rt; "path delivered {delivered} hops {}", journey.hops)
-        }
-        Err(refusal) => println!(rt; "path {refusal}"),
+        Ok(journey) => number(rt, b"path delivered ", u64::from(journey.delivered)).and(number(
+            rt,
+            b" hops ",
+            journey.hops,
+        )),
+        Err(refusal) => number(rt, b"path refused ", refusal.number()),
     }
+    .and(text(rt, b"\n"))
 }
 
 fn main(rt: HostRuntime) -> io::Result<()> {

@@ -2,8 +2,8 @@
 // Settings or a room of another length are refused here, by the length that the script gives, as the exported calls refuse them.
 use crate::{print, reading};
 use decide::Refusal;
-use script::Words;
 use script::print::wrong;
+use script::{Row, Words};
 use settings::Settings;
 use shaper::Refused;
 use station::{Reading, Station};
@@ -17,7 +17,7 @@ const READING: u64 = 4 * Reading::WORDS as u64;
 // The largest number of 32 bits.
 const MOST: u64 = u32::MAX as u64;
 
-// The call of this name. Behind `hear` stands hex; the others are given the numbers that stand behind them, or none where a word is no number.
+// The call of this name. Behind `hear` stands hex; behind the others stand numbers.
 pub fn call(
     rt: &impl Print,
     station: &mut Station,
@@ -37,8 +37,7 @@ fn numbered(
     name: &[u8],
     words: Words<'_>,
 ) -> io::Result<()> {
-    let row = script::numbers(words).ok();
-    let row = row.as_ref().map(|numbers| numbers.as_slice());
+    let row = &script::numbers(words);
     match name {
         b"start" => start(rt, station, row),
         b"tick" => tick(rt, station, row),
@@ -49,118 +48,116 @@ fn numbered(
         b"age" => age(rt, station, row),
         b"tell" => tell(rt, station, row),
         b"show" => show(rt, station, row),
-        _ => wrong(rt, name, "it is no call"),
+        _ => wrong(rt, name, b"it is no call"),
     }
 }
 
 // The words of the settings, each of 4 bytes; another number of words is another length.
-fn start(rt: &impl Print, station: &mut Station, row: Option<&[u64]>) -> io::Result<()> {
-    match row {
-        Some(words) if words.iter().all(|word| *word <= MOST) => {
-            match <&[u64; Settings::WORDS]>::try_from(words) {
-                Ok(words) => after(rt, station, "start", station.start(settings_of(words))),
-                Err(_) => print::refused(rt, "start", Refusal::NotWhole.into()),
-            }
-        }
-        _ => wrong(rt, b"start", "numbers of 32 bits are wanted"),
+fn start(rt: &impl Print, station: &mut Station, row: &Row) -> io::Result<()> {
+    match row.all() {
+        Ok(words) if row.largest <= MOST => match <&[u64; Settings::WORDS]>::try_from(words) {
+            Ok(words) => after(rt, station, b"start", station.start(settings_of(words))),
+            Err(_) => print::refused(rt, b"start", Refusal::NotWhole.into()),
+        },
+        _ => wrong(rt, b"start", b"numbers of 32 bits are wanted"),
     }
 }
 
 // Whether A, B and C traffic waits.
-fn tick(rt: &impl Print, station: &mut Station, row: Option<&[u64]>) -> io::Result<()> {
-    let Some([a, b, c]) = row else {
-        return wrong(rt, b"tick", "3 numbers are wanted");
+fn tick(rt: &impl Print, station: &mut Station, row: &Row) -> io::Result<()> {
+    let Ok([a, b, c]) = row.all() else {
+        return wrong(rt, b"tick", b"3 numbers are wanted");
     };
-    after(rt, station, "tick", station.tick(*a, *b, *c))
+    after(rt, station, b"tick", station.tick(*a, *b, *c))
 }
 
 // Class, size and hops.
-fn client(rt: &impl Print, station: &mut Station, row: Option<&[u64]>) -> io::Result<()> {
-    let Some([class, size, hops]) = row else {
-        return wrong(rt, b"client", "3 numbers are wanted");
+fn client(rt: &impl Print, station: &mut Station, row: &Row) -> io::Result<()> {
+    let Ok([class, size, hops]) = row.all() else {
+        return wrong(rt, b"client", b"3 numbers are wanted");
     };
     match station.offer_client(*class, *size, *hops) {
         Ok(taken) => {
             *station = taken.station;
-            println!(rt; "client eligible {}", taken.mark)
+            print::marked(rt, taken.mark)
         }
-        Err(refused) => print::refused(rt, "client", refused),
+        Err(refused) => print::refused(rt, b"client", refused),
     }
 }
 
 // Class, size, hops, and whether the frame is eligible.
-fn transit(rt: &impl Print, station: &mut Station, row: Option<&[u64]>) -> io::Result<()> {
-    let Some([class, size, hops, eligible]) = row else {
-        return wrong(rt, b"transit", "4 numbers are wanted");
+fn transit(rt: &impl Print, station: &mut Station, row: &Row) -> io::Result<()> {
+    let Ok([class, size, hops, eligible]) = row.all() else {
+        return wrong(rt, b"transit", b"4 numbers are wanted");
     };
     after(
         rt,
         station,
-        "transit",
+        b"transit",
         station.offer_transit(*class, *size, *hops, *eligible),
     )
 }
 
 // The size.
-fn control(rt: &impl Print, station: &mut Station, row: Option<&[u64]>) -> io::Result<()> {
-    let Some([size]) = row else {
-        return wrong(rt, b"control", "1 number is wanted");
+fn control(rt: &impl Print, station: &mut Station, row: &Row) -> io::Result<()> {
+    let Ok([size]) = row.all() else {
+        return wrong(rt, b"control", b"1 number is wanted");
     };
-    after(rt, station, "control", station.offer_control(*size))
+    after(rt, station, b"control", station.offer_control(*size))
 }
 
 // Nothing stands behind it.
-fn select(rt: &impl Print, station: &mut Station, row: Option<&[u64]>) -> io::Result<()> {
-    let Some([]) = row else {
-        return wrong(rt, b"select", "nothing more is wanted");
-    };
+fn select(rt: &impl Print, station: &mut Station, row: &Row) -> io::Result<()> {
+    if !row.are(0) {
+        return wrong(rt, b"select", b"nothing more is wanted");
+    }
     match station.select() {
         Ok(next) => {
             *station = next.station;
             print::selected(rt, next.origin, next.frame)
         }
-        Err(refused) => print::refused(rt, "select", refused),
+        Err(refused) => print::refused(rt, b"select", refused),
     }
 }
 
 // Nothing stands behind it.
-fn age(rt: &impl Print, station: &mut Station, row: Option<&[u64]>) -> io::Result<()> {
-    let Some([]) = row else {
-        return wrong(rt, b"age", "nothing more is wanted");
-    };
-    after(rt, station, "age", station.age())
+fn age(rt: &impl Print, station: &mut Station, row: &Row) -> io::Result<()> {
+    if !row.are(0) {
+        return wrong(rt, b"age", b"nothing more is wanted");
+    }
+    after(rt, station, b"age", station.age())
 }
 
 // The bytes of a fairness frame, any number of them.
 fn hear(rt: &impl Print, station: &mut Station, words: Words<'_>) -> io::Result<()> {
     let mut room = [0u8; 4096];
     match script::bytes_into(words.0, &mut room) {
-        Ok(count) => after(rt, station, "hear", station.hear(&room[..count])),
-        Err(_) => wrong(rt, b"hear", "hex in one word is wanted"),
+        Ok(count) => after(rt, station, b"hear", station.hear(&room[..count])),
+        Err(_) => wrong(rt, b"hear", b"hex in one word is wanted"),
     }
 }
 
 // Nothing, or the length of the room to write a frame in.
-fn tell(rt: &impl Print, station: &Station, row: Option<&[u64]>) -> io::Result<()> {
-    match row {
-        Some([] | [FRAME]) => match station.tell() {
+fn tell(rt: &impl Print, station: &Station, row: &Row) -> io::Result<()> {
+    match row.only_or(FRAME) {
+        Ok(FRAME) => match station.tell() {
             Ok(said) => print::told(rt, said),
-            Err(refused) => print::refused(rt, "tell", refused),
+            Err(refused) => print::refused(rt, b"tell", refused),
         },
-        Some([_]) => print::refused(rt, "tell", Refusal::NotWhole.into()),
-        _ => wrong(rt, b"tell", "a length or nothing is wanted"),
+        Ok(_) => print::refused(rt, b"tell", Refusal::NotWhole.into()),
+        Err(_) => wrong(rt, b"tell", b"a length or nothing is wanted"),
     }
 }
 
 // Nothing, or the length of the room to write a reading in.
-fn show(rt: &impl Print, station: &Station, row: Option<&[u64]>) -> io::Result<()> {
-    match row {
-        Some([] | [READING]) => match station.show() {
+fn show(rt: &impl Print, station: &Station, row: &Row) -> io::Result<()> {
+    match row.only_or(READING) {
+        Ok(READING) => match station.show() {
             Ok(reading) => reading::shown(rt, reading),
-            Err(refused) => print::refused(rt, "show", refused),
+            Err(refused) => print::refused(rt, b"show", refused),
         },
-        Some([_]) => print::refused(rt, "show", Refusal::NotWhole.into()),
-        _ => wrong(rt, b"show", "a length or nothing is wanted"),
+        Ok(_) => print::refused(rt, b"show", Refusal::NotWhole.into()),
+        Err(_) => wrong(rt, b"show", b"a length or nothing is wanted"),
     }
 }
 
@@ -168,13 +165,13 @@ fn show(rt: &impl Print, station: &Station, row: Option<&[u64]>) -> io::Result<(
 fn after(
     rt: &impl Print,
     station: &mut Station,
-    name: &str,
+    name: &[u8],
     done: Result<Station, Refused>,
 ) -> io::Result<()> {
     match done {
         Ok(next) => {
             *station = next;
-            println!(rt; "{name} done")
+            print::done(rt, name)
         }
         Err(refused) => print::refused(rt, name, refused),
     }
@@ -184,11 +181,7 @@ fn after(
 pub fn settings_of(words: &[u64; Settings::WORDS]) -> Settings {
     let mut bytes = [0u8; Settings::LENGTH];
     for i in 0..Settings::WORDS {
-        wire::put32(
-            &mut bytes,
-            4 * i,
-            u32::try_from(words[i]).unwrap_or(u32::MAX),
-        );
+        wire::put32(&mut bytes, 4 * i, decide::lesser(words[i], MOST) as u32);
     }
     Settings::read(&bytes, 0)
 }

@@ -6,7 +6,7 @@ mod calls;
 mod print;
 mod reading;
 
-use script::print::wrong;
+use script::print::wrong_by;
 use settings::Settings;
 use station::Station;
 use std::io;
@@ -26,7 +26,7 @@ fn run(rt: &impl Print, station: &mut Station, line: &[u8]) -> io::Result<()> {
             }
             Ok(())
         }
-        Err(fault) => wrong(rt, word, fault),
+        Err(fault) => wrong_by(rt, word, fault),
     }
 }
 

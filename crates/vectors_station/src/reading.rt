@@ -1,66 +1,69 @@
 // What is printed of a reading: its 31 words, each behind its name.
+use crate::print::number;
 use credits::Credits;
 use fair::{Decided, Four};
 use heard::Received;
-use station::{Held, Reading};
+use script::print::text;
+use station::Reading;
 use std::io;
 
 // `show` and the words of the reading.
 pub fn shown(rt: &impl Print, reading: Reading) -> io::Result<()> {
-    rt.print("show")
+    text(rt, b"show")
         .and(credits(rt, reading.credits))
-        .and(held(rt, "control", reading.control))
-        .and(held(rt, "primary", reading.primary))
-        .and(held(rt, "secondary", reading.secondary))
-        .and(held(rt, "stage", reading.stage))
+        .and(held(rt, reading))
         .and(counted(rt, reading.counters))
         .and(smoothed(rt, reading.smoothed))
         .and(decided(rt, reading.decided))
         .and(received(rt, reading.received))
+        .and(text(rt, b"\n"))
 }
 
-fn credits(rt: &impl Print, credits: Credits) -> io::Result<()> {
-    let Credits { m, a, b, c, d } = credits;
-    print!(rt; " creditM {m} creditA {a} creditB {b} creditC {c} creditD {d}")
+fn credits(rt: &impl Print, c: Credits) -> io::Result<()> {
+    number(rt, b" creditM ", c.m)
+        .and(number(rt, b" creditA ", c.a))
+        .and(number(rt, b" creditB ", c.b))
+        .and(number(rt, b" creditC ", c.c))
+        .and(number(rt, b" creditD ", c.d))
 }
 
-fn held(rt: &impl Print, name: &str, held: Held) -> io::Result<()> {
-    let Held { frames, bytes } = held;
-    print!(rt; " {name}Frames {frames} {name}Bytes {bytes}")
+fn held(rt: &impl Print, r: Reading) -> io::Result<()> {
+    number(rt, b" controlFrames ", r.control.frames)
+        .and(number(rt, b" controlBytes ", r.control.bytes))
+        .and(number(rt, b" primaryFrames ", r.primary.frames))
+        .and(number(rt, b" primaryBytes ", r.primary.bytes))
+        .and(number(rt, b" secondaryFrames ", r.secondary.frames))
+        .and(number(rt, b" secondaryBytes ", r.secondary.bytes))
+        .and(number(rt, b" stageFrames ", r.stage.frames))
+        .and(number(rt, b" stageBytes ", r.stage.bytes))
 }
 
-fn counted(rt: &impl Print, four: Four) -> io::Result<()> {
-    let Four { add, fw, addc, fwc } = four;
-    print!(rt; " addRate {add} fwRate {fw} addRateCongested {addc} fwRateCongested {fwc}")
+fn counted(rt: &impl Print, f: Four) -> io::Result<()> {
+    number(rt, b" addRate ", f.add)
+        .and(number(rt, b" fwRate ", f.fw))
+        .and(number(rt, b" addRateCongested ", f.addc))
+        .and(number(rt, b" fwRateCongested ", f.fwc))
 }
 
-fn smoothed(rt: &impl Print, four: Four) -> io::Result<()> {
-    let Four { add, fw, addc, fwc } = four;
-    print!(rt; " lpAddRate {add} lpFwRate {fw} lpAddRateCongested {addc} lpFwRateCongested {fwc}")
+fn smoothed(rt: &impl Print, f: Four) -> io::Result<()> {
+    number(rt, b" lpAddRate ", f.add)
+        .and(number(rt, b" lpFwRate ", f.fw))
+        .and(number(rt, b" lpAddRateCongested ", f.addc))
+        .and(number(rt, b" lpFwRateCongested ", f.fwc))
 }
 
-fn decided(rt: &impl Print, decided: Decided) -> io::Result<()> {
-    let Decided {
-        local,
-        allowed,
-        allowedc,
-        own,
-        congested,
-    } = decided;
-    print!(rt; " localFairRate {local} allowedRate {allowed} allowedRateCongested {allowedc}").and(
-        print!(rt; " ownRate {own} locallyCongested {congested}"),
-    )
+fn decided(rt: &impl Print, d: Decided) -> io::Result<()> {
+    number(rt, b" localFairRate ", d.local)
+        .and(number(rt, b" allowedRate ", d.allowed))
+        .and(number(rt, b" allowedRateCongested ", d.allowedc))
+        .and(number(rt, b" ownRate ", d.own))
+        .and(number(rt, b" locallyCongested ", d.congested))
 }
 
-fn received(rt: &impl Print, received: Received) -> io::Result<()> {
-    let Received {
-        downstream,
-        ttl,
-        high,
-        low,
-        rate,
-    } = received;
-    print!(rt; " downstreamCongested {downstream} receivedTtl {ttl}").and(println!(rt;
-        " receivedAddressHigh {high} receivedAddressLow {low} receivedRate {rate}"
-    ))
+fn received(rt: &impl Print, r: Received) -> io::Result<()> {
+    number(rt, b" downstreamCongested ", r.downstream)
+        .and(number(rt, b" receivedTtl ", r.ttl))
+        .and(number(rt, b" receivedAddressHigh ", r.high))
+        .and(number(rt, b" receivedAddressLow ", r.low))
+        .and(number(rt, b" receivedRate ", r.rate))
 }
