@@ -55,9 +55,12 @@ fn of_file(rt: &impl Host, name: &[u8], repeats: u64) -> Result<Status, Said> {
 fn number(word: &[u8]) -> Option<u64> {
     let mut number = None;
     for c in word {
-        let digit = char::from(*c).to_digit(10)?;
+        if !c.is_ascii_digit() {
+            return None;
+        }
+        let digit = decide::less(u64::from(*c), u64::from(b'0'));
         let before = number.unwrap_or(0u64);
-        number = Some(before.saturating_mul(10).saturating_add(u64::from(digit)));
+        number = Some(before.saturating_mul(10).saturating_add(digit));
     }
     number
 }

@@ -1,7 +1,8 @@
 // The words behind a command's name: its options, wherever they stand, and the files.
-ghost use Rattle.std.specs.Prelude.{◌≡◌, ◌-◌, ◌≤◌, length, IfOk, IfSome, IsTrue, false};
+ghost use Rattle.std.specs.Prelude.{◌≡◌, ◌*◌, ◌+◌, ◌-◌, ◌||◌, ◌≤◌, length, IfOk, IfSome, IsTrue, MatchOption, false};
 ghost use Rattle.std.specs.Iterator.{at_most};
 ghost use Rattle.console.specs.Words.{ends, is_file};
+ghost use Rattle.console.specs.declared.words.Word.{Word};
 
 use std::env::FillError;
 use std::io;
@@ -41,6 +42,9 @@ impl<'a, R: Env> Words<'a, R> {
 
 impl<R: Env> Iterator for Words<'_, R> {
     type Item = Word;
+
+    // The place is the next one. Behind `--` a word is a file, and a file has its place.
+    ghost next_gives = { λ s r t. MatchOption r (t ≡ s) (λ word. (t.at ≡ s.at + 1) × (t.ended ≡ (s.ended || ends word)) × (IsTrue s.ended → word ≡ Word.File s.at) × (IsTrue (is_file word) → word ≡ Word.File s.at)) };
 
     ghost remaining = { λ words. at_most (18446744073709551615 - words.at) };
 
